@@ -1,0 +1,37 @@
+-- What the endpoint answers to a step, and what it is afterwards: one line for each kind of step.
+use Rattle.std.specs.Prelude.{Option, Some, None, Result, Err}
+use Rattle.amqp_endpoint.specs.declared.op.Op.{Op}
+use Rattle.amqp_endpoint.specs.declared.op.Op.TheVariants.{Start}
+use Rattle.amqp_endpoint.specs.declared.frames.Frame.{Frame}
+use Rattle.amqp_endpoint.specs.declared.frames.Performative.{Performative}
+use Rattle.amqp_endpoint.specs.declared.frames.Performative.TheVariants.{Flow, Transfer}
+use Rattle.amqp_endpoint.specs.declared.reply.Reply.{Reply}
+use Rattle.amqp_endpoint.specs.declared.refusal.Refusal.{Refusal}
+use Rattle.amqp_endpoint.specs.declared.violation.Violation.{Violation}
+use Rattle.amqp_endpoint.specs.declared.violation.ViolationKind.TheVariants.{OutOfSession}
+use Rattle.amqp_endpoint.specs.View.{View}
+use Rattle.amqp_endpoint.specs.Start.{start_answer, next_start}
+use Rattle.amqp_endpoint.specs.Flow.{flow_answer, next_flow}
+use Rattle.amqp_endpoint.specs.Refusing.{unlinked}
+
+abbrev pub own_answer : View → Op → Result Reply Refusal
+own_answer v (Start link tag format payload) = start_answer v link tag format payload
+
+abbrev pub next_own : View → Op → View
+next_own v (Start link tag format payload) = next_start v link
+
+abbrev pub body_answer : View → Option Performative → Result Reply Violation
+body_answer v None = Err (unlinked OutOfSession)
+body_answer v (Some (Flow b)) = flow_answer v b
+body_answer v (Some (Transfer b)) = Err (unlinked OutOfSession)
+
+abbrev pub heard_answer : View → Frame → Result Reply Violation
+heard_answer v f = body_answer v f.body
+
+abbrev pub next_body : View → Option Performative → View
+next_body v None = v
+next_body v (Some (Flow b)) = next_flow v b
+next_body v (Some (Transfer b)) = v
+
+abbrev pub next_heard : View → Frame → View
+next_heard v f = next_body v f.body

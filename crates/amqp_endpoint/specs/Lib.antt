@@ -1,0 +1,14 @@
+pub mod RefusalNumbers
+pub mod ViolationNumbers
+pub mod Limits
+pub mod Serial
+pub mod View
+pub mod FlowFrame
+pub mod FlowReading
+pub mod TransferFrame
+pub mod Refusing
+pub mod Start
+pub mod Ready
+pub mod Flow
+pub mod Status
+pub mod Answer

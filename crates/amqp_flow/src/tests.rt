@@ -1,0 +1,218 @@
+use crate::flow::{LinkFlow, SessionFlow};
+use crate::receiver::ReceiverCredit;
+use crate::refusal::{CountAhead, GrantRefusal, NoCredit};
+use crate::sender::SenderCredit;
+use crate::serial::Serial;
+use crate::windows::Windows;
+
+// RFC 1982, 5.2, whose numbers have 8 bits: here the upper ones of 32.
+#[test]
+fn examples_of_the_rfc(rt: HostRuntime) {
+    for (from, n, to) in [(255, 1, 0), (100, 100, 200), (200, 100, 44)] {
+        assert_eq!(rt;
+            Serial(from << 24).plus(n << 24),
+            Serial(to << 24),
+            "{from} and {n}"
+        );
+    }
+    for (later, earlier) in [
+        (1, 0),
+        (44, 0),
+        (100, 0),
+        (100, 44),
+        (200, 100),
+        (255, 200),
+        (0, 255),
+        (100, 255),
+        (0, 200),
+        (44, 200),
+    ] {
+        assert!(rt;
+            Serial(earlier << 24).is_before(Serial(later << 24)),
+            "{earlier} before {later}"
+        );
+        assert!(rt;
+            !Serial(later << 24).is_before(Serial(earlier << 24)),
+            "{later} before {earlier}"
+        );
+    }
+}
+
+// RFC 1982, 3.1: sums wrap to zero.
+#[test]
+fn sums(rt: HostRuntime) {
+    for (from, n, to) in [
+        (0, 1, 1),
+        (4294967295, 1, 0),
+        (4294967295, 3, 2),
+        (2147483648, 2147483648, 0),
+    ] {
+        assert_eq!(rt; Serial(from).plus(n), Serial(to), "{from} and {n} more");
+    }
+}
+
+// RFC 1982, 3.2 and 5: each number is before the next half of the circle, and two opposite ones are not ordered.
+#[test]
+fn order(rt: HostRuntime) {
+    for (a, b, before) in [
+        (0, 0, false),
+        (0, 1, true),
+        (1, 0, false),
+        (4294967295, 0, true),
+        (0, 4294967295, false),
+        (4294967290, 5, true),
+        (0, 2147483647, true),
+        (0, 2147483648, false),
+        (2147483648, 0, false),
+        (2147483649, 0, true),
+    ] {
+        assert_eq!(rt; Serial(a).is_before(Serial(b)), before, "{a} before {b}");
+    }
+}
+
+#[test]
+fn ranges(rt: HostRuntime) {
+    for (x, first, last, inside) in [
+        (5, 5, 5, true),
+        (4294967295, 4294967295, 1, true),
+        (0, 4294967295, 1, true),
+        (1, 4294967295, 1, true),
+        (2, 4294967295, 1, false),
+        (4294967294, 4294967295, 1, false),
+        (4, 3, 5, true),
+        (6, 3, 5, false),
+        (4, 5, 3, false),
+        (7, 0, 2147483647, true),
+        (7, 0, 2147483648, false),
+    ] {
+        assert_eq!(rt;
+            Serial(x).in_range(Serial(first), Serial(last)),
+            inside,
+            "{x} in {first} to {last}"
+        );
+    }
+    assert_eq!(rt; Serial(4294967295).distance(Serial(2)), 3);
+    assert_eq!(rt; Serial(2).distance(Serial(4294967295)), 4294967293);
+}
+
+fn told(next_incoming_id: Option<u32>, incoming_window: u32) -> SessionFlow {
+    SessionFlow {
+        next_incoming_id,
+        incoming_window,
+        next_outgoing_id: 4294967295,
+        outgoing_window: 1,
+    }
+}
+
+#[test]
+fn session_windows(rt: HostRuntime) {
+    let mut windows = Windows::new(4294967295, 2);
+    assert_eq!(rt; windows.next_incoming(), None);
+    windows.on_begin(7, 2, 100);
+    assert_eq!(rt; windows.next_incoming(), Some(7));
+    assert_eq!(rt; windows.remote_outgoing(), 100);
+    for _ in 0..2 {
+        assert!(rt; windows.remote_incoming() > 0);
+        assert!(rt; windows.transfers_sent() < 2147483648);
+        windows.sent();
+    }
+    assert_eq!(rt; windows.next_outgoing(), 1);
+    assert_eq!(rt; windows.remote_incoming(), 0);
+
+    assert_eq!(rt; windows.on_flow(&told(Some(2), 9)), Err(CountAhead));
+    assert_eq!(rt; windows.remote_incoming(), 0);
+    // one transfer is on its way
+    assert_eq!(rt; windows.on_flow(&told(Some(0), 9)), Ok(()));
+    assert_eq!(rt; windows.remote_incoming(), 8);
+    // the peer has not heard our begin: both are
+    assert_eq!(rt; windows.on_flow(&told(None, 9)), Ok(()));
+    assert_eq!(rt; windows.remote_incoming(), 7);
+    assert_eq!(rt; windows.on_flow(&told(Some(0), 0)), Ok(()));
+    assert_eq!(rt; windows.remote_incoming(), 0);
+
+    for _ in 0..2 {
+        assert!(rt; windows.incoming() > 0);
+        windows.received();
+    }
+    assert_eq!(rt; windows.next_incoming(), Some(1));
+    assert_eq!(rt; windows.incoming(), 0);
+    assert_eq!(rt; windows.remote_outgoing(), 0);
+    windows.renew();
+    assert_eq!(rt; windows.incoming(), 2);
+
+    let mut early = Windows::new(5, 1);
+    early.on_early_flow(&told(Some(77), 3));
+    assert_eq!(rt; early.remote_incoming(), 3);
+}
+
+fn credited(delivery_count: Option<u32>, link_credit: Option<u32>, drain: bool) -> LinkFlow {
+    LinkFlow {
+        delivery_count,
+        link_credit,
+        drain,
+    }
+}
+
+#[test]
+fn sender_credit(rt: HostRuntime) {
+    let mut credit = SenderCredit::new(4294967294);
+    assert_eq!(rt; credit.begin(), Err(NoCredit));
+    assert_eq!(rt; credit.on_flow(&credited(None, Some(4), false)), Ok(()));
+    for count in [4294967295, 0, 1] {
+        assert_eq!(rt; credit.begin(), Ok(()));
+        assert_eq!(rt; credit.count(), count);
+    }
+    assert_eq!(rt; credit.credit(), 1);
+    // two deliveries are on their way
+    assert_eq!(rt;
+        credit.on_flow(&credited(Some(4294967295), Some(5), true)),
+        Ok(())
+    );
+    assert_eq!(rt; credit.credit(), 3);
+    assert!(rt; credit.is_draining());
+    assert_eq!(rt;
+        credit.on_flow(&credited(Some(2), None, false)),
+        Err(CountAhead)
+    );
+    assert!(rt; credit.is_draining());
+    credit.drain();
+    assert_eq!(rt; (credit.count(), credit.credit()), (4, 0));
+    assert!(rt; !credit.is_draining());
+
+    let mut offered = SenderCredit::new(0);
+    offered.on_early_flow(&credited(Some(77), Some(5), false));
+    offered.on_attach(4294967295);
+    assert_eq!(rt; (offered.count(), offered.credit()), (4294967295, 5));
+}
+
+#[test]
+fn receiver_credit(rt: HostRuntime) {
+    let mut credit = ReceiverCredit::new(4294967295);
+    assert_eq!(rt; credit.begin(), Err(NoCredit));
+    assert_eq!(rt;
+        credit.grant(2147483648, false),
+        Err(GrantRefusal::BadCredit)
+    );
+    assert_eq!(rt; credit.grant(5, true), Ok(()));
+    assert_eq!(rt; credit.grant(4, true), Err(GrantRefusal::CreditRecedes));
+    assert_eq!(rt; credit.grant(6, false), Err(GrantRefusal::Draining));
+    assert_eq!(rt; credit.begin(), Ok(()));
+    assert_eq!(rt; (credit.count(), credit.credit()), (0, 4));
+    // older, absent, past the credit, and within it
+    assert_eq!(rt;
+        credit.on_flow(&credited(Some(4294967295), None, false)),
+        Ok(())
+    );
+    assert_eq!(rt; credit.on_flow(&credited(None, None, false)), Ok(()));
+    assert_eq!(rt;
+        credit.on_flow(&credited(Some(5), None, false)),
+        Err(CountAhead)
+    );
+    assert_eq!(rt; (credit.count(), credit.credit()), (0, 4));
+    assert_eq!(rt; credit.on_flow(&credited(Some(4), None, false)), Ok(()));
+    assert_eq!(rt; (credit.count(), credit.credit()), (4, 0));
+    assert!(rt; !credit.is_draining());
+    assert_eq!(rt; credit.grant(1, false), Ok(()));
+    credit.on_attach(9);
+    assert_eq!(rt; credit.first_count(), 9);
+}

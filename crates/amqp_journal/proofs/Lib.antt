@@ -1,0 +1,5 @@
+pub mod Numbers
+pub mod StartLaw
+pub mod FlowLaw
+pub mod Law
+pub mod Journal

@@ -1,0 +1,46 @@
+use crate::entry::Step;
+use crate::logged::{Logged, laws};
+use amqp_endpoint::config::Config;
+use amqp_endpoint::flow_frame::read_flow;
+use amqp_endpoint::op::Op;
+use amqp_endpoint::refusal::Refusal;
+use amqp_endpoint::reply::Given;
+use amqp_endpoint::tag::Tag;
+use amqp_endpoint::violation::ViolationKind;
+use bytes::Bytes;
+use std::test::Fail;
+
+/// A flow that gives link 0 five credits.
+const CREDIT: [u8; 30] = [
+    0, 0, 0, 0x1e, 2, 0, 0, 0, 0, 0x53, 0x13, 0xc0, 0x11, 0x07, 0x43, 0x70, 0, 0, 8, 0, 0x43, 0x70,
+    0x7f, 0xff, 0xff, 0xff, 0x43, 0x43, 0x52, 5,
+];
+
+#[test]
+fn steps_are_kept(rt: HostRuntime) -> Result<(), Fail> {
+    laws();
+    let mut logged = Logged::new(rt.alloc(), &Config { journal_limit: 2 })?;
+    let tag = Tag::new(&[1]).ok_or("a tag")?;
+    let start = Op::Start {
+        link: 0,
+        tag,
+        format: 0,
+        payload: Bytes::new(),
+    };
+    assert_eq!(rt; logged.apply(&start).err(), Some(Refusal::NoCredit));
+    assert!(rt; logged.journal().is_empty());
+    let flow = read_flow(&CREDIT).ok_or("a flow")?;
+    assert_eq!(rt; logged.receive(&flow)?, Given::Nothing);
+    assert_eq!(rt; logged.apply(&start)?, Given::Delivery(0));
+    assert_eq!(rt; logged.apply(&start).err(), Some(Refusal::JournalFull));
+    let full = logged.receive(&flow).err().ok_or("a violation")?;
+    assert_eq!(rt; full.kind, ViolationKind::JournalFull);
+    assert_eq!(rt; logged.journal().len(), 2);
+    let first = logged.journal().first().ok_or("an entry")?;
+    assert!(rt; matches!(&first.step, Step::Heard(_)));
+    let last = logged.journal().last().ok_or("an entry")?;
+    assert!(rt; matches!(&last.step, Step::Own(_)));
+    assert_eq!(rt; last.reply.given, Given::Delivery(0));
+    assert!(rt; logged.endpoint().steps() == 2);
+    Ok(())
+}
