@@ -1,0 +1,3 @@
+pub mod Left
+pub mod Requests
+pub mod Words

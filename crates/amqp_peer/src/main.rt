@@ -1,0 +1,68 @@
+//! `amqp_peer`: one end of an AMQP 1.0 connection, as a program.
+//!
+//! | module | what it holds |
+//! |---|---|
+//! | `command_line` | the commands and their options |
+//! | `script` | the command `script`: lines of text on one journal, one answer each |
+//! | `script::line`, `script::words` | what a line says |
+//! | `script::answer` | the text of an answer |
+//!
+//! | exit status | where |
+//! |---|---|
+//! | 0 | all is done, or help was asked for |
+//! | 1 | a read, a write or an allocation failed; standard error has one line on it |
+//! | 2 | the command line is at fault, or the script had a bad line |
+#![tactic(auto)]
+
+pub mod command_line;
+pub mod script;
+#[cfg(test)]
+mod tests;
+
+use command_line::{Request, read_request};
+use script::{Outcome, run_script};
+use std::env::Env;
+use std::io::{BufReader, BufWriter};
+use std::process::ExitCode;
+use std::{env, io};
+
+const FAULT: u8 = 1;
+
+const BAD_LINE: u8 = 2;
+
+fn main(rt: HostRuntime) -> ExitCode {
+    match run(&rt) {
+        Ok(status) => status,
+        Err(fault) => {
+            // A fault that cannot be told still has its status.
+            let _ = eprintln!(rt; "amqp_peer: {fault}");
+            ExitCode::from(FAULT)
+        }
+    }
+}
+
+fn run<R>(rt: &R) -> anyhow::Result<ExitCode>
+where
+    R: AllocGlobal + Env + Input + Print + Eprint,
+{
+    let words: Vec<String> = env::args(rt)?.collect(rt.alloc())?;
+    match read_request(rt.alloc(), words.as_slice()) {
+        Ok(Request::Script(config)) => {
+            let mut reader = BufReader::new(rt.alloc(), rt.reader())?;
+            let mut writer = BufWriter::new(rt.alloc(), io::writer(rt))?;
+            let outcome = run_script(rt.alloc(), &config, &mut reader, &mut writer)?;
+            Ok(status_of(outcome))
+        }
+        Err(error) => {
+            error.print(rt)?;
+            Ok(ExitCode::from(error.exit_code() as u8))
+        }
+    }
+}
+
+fn status_of(outcome: Outcome) -> ExitCode {
+    match outcome {
+        Outcome::EachLineGood => ExitCode::SUCCESS,
+        Outcome::SomeLineBad => ExitCode::from(BAD_LINE),
+    }
+}

@@ -1,0 +1,283 @@
+//! What no clause says: texts and statuses, faults in mid-run, and the command line.
+
+use crate::command_line::{Request, read_request};
+use crate::script::{Outcome, ScriptFault, run_script};
+use amqp_endpoint::config::Config;
+use std::alloc::Global;
+use std::io;
+use std::io::{BufReader, Read, Write};
+use std::test::Fail;
+
+const LONGEST: u32 = 1048576;
+
+/// A start that finds no credit at first.
+const START: &[u8] = b"start 0 01 0 1 0 78\n";
+
+const START_REFUSED: &[u8] = b"refused 14\n";
+
+const HEAR: &[u8] = b"hear 0000001e02000000005313c0110743700000080043707fffffff43435205\n";
+
+const HEARD: &[u8] = b"ok given=none ended=- frames=-\n";
+
+/// The script's answers are these, and whether each of its lines was one.
+fn answers(alloc: Global, limit: u32, script: &[u8], wanted: &[u8]) -> Result<bool, Fail> {
+    let config = Config {
+        journal_limit: limit,
+    };
+    if !config.is_within_limits() {
+        return Err(Fail::new("the limit"));
+    }
+    let mut reader: &[u8] = script;
+    let mut answers: Vec<u8> = Vec::new(alloc);
+    let outcome = run_script(alloc, &config, &mut reader, &mut answers)?;
+    if answers.as_slice() != wanted {
+        return Err(Fail::new("other answers"));
+    }
+    Ok(outcome == Outcome::EachLineGood)
+}
+
+#[test]
+fn first_path(rt: HostRuntime) -> Result<(), Fail> {
+    let script = b"start 0 01 0 1 0 78
+hear 0000001e02000000005313c0110743700000080043707fffffff43435205
+start 0 01 0 1 0 78
+start 0 01 0 1 0 78
+windows
+link 0
+";
+    let wanted = b"refused 14
+ok given=none ended=- frames=-
+ok given=delivery:0 ended=- frames=0000001602000000005314c008054343a00101434178
+ok given=delivery:1 ended=- frames=0000001702000000005314c00905435201a00101434178
+windows next-in=0 in=2048 next-out=2 remote-in=2046 remote-out=2147483647 delivery=2
+link 0 role=sender phase=attached count=2 credit=3 drain=0 mid=0 ready=0
+";
+    assert!(rt; answers(rt.alloc(), LONGEST, script.as_slice(), wanted.as_slice())?);
+    Ok(())
+}
+
+#[test]
+fn refusals(rt: HostRuntime) -> Result<(), Fail> {
+    let alloc = rt.alloc();
+    assert!(rt; answers(alloc, LONGEST, b"start 1 01 0 1 0 78\n", b"refused 5\n")?);
+    let script = b"hear 0000001e02000000005313c0110743700000080043707fffffff43435205
+start 0 01 0 1 0 78
+";
+    let wanted = b"ok given=none ended=- frames=-\nrefused 2\n";
+    assert!(rt; answers(alloc, 1, script.as_slice(), wanted.as_slice())?);
+    Ok(())
+}
+
+#[test]
+fn bad_lines_among_good_ones(rt: HostRuntime) -> Result<(), Fail> {
+    let bad: [&[u8]; 26] = [
+        b"",
+        b" ",
+        b"link",
+        b"link 0 ",
+        b" link 0",
+        b"link  0",
+        b"link +0",
+        b"link -",
+        b"link 4294967296",
+        b"link 0\r",
+        b"Link 0",
+        b"windows 0",
+        b"\xff",
+        b"link \xc3\xa9",
+        b"begin",
+        b"hear",
+        b"hear -",
+        b"hear 0000001e02000000005313c0110743700000080043707fffffff434352",
+        b"hear 0000001e02000000005313c0110743700000080043707fffffff43435205 ",
+        b"hear 0000001e02000000005313c0110743700000080043707fffffff434352050",
+        b"start 0 01 0 0 0 78",
+        b"start 0 01 0 1 1 78",
+        b"start 0 01 0 01 0 78",
+        b"start 0 01 0 1 0 7",
+        b"start 0  0 1 0 78",
+        b"start 0 010203040506070809101112131415161718192021222324252627282930313233 0 1 0 78",
+    ];
+    for line in bad {
+        let mut script = Vec::from_slice(rt.alloc(), b"link 00001\n")?;
+        script.extend_from_slice(line)?;
+        script.extend_from_slice(b"\nlink 1\n")?;
+        let wanted = b"link 1 none\nbad line\nlink 1 none\n";
+        let all_good = answers(rt.alloc(), LONGEST, script.as_slice(), wanted.as_slice())?;
+        assert!(rt; !all_good);
+    }
+    Ok(())
+}
+
+#[test]
+fn forms_of_good_lines(rt: HostRuntime) -> Result<(), Fail> {
+    let alloc = rt.alloc();
+    assert!(rt; answers(alloc, LONGEST, b"", b"")?);
+    assert!(rt;
+        answers(
+            alloc,
+            LONGEST,
+            b"link 4294967295",
+            b"link 4294967295 none\n"
+        )?
+    );
+    let good: [&[u8]; 3] = [
+        b"hear 0000001E02000000 005313C01107 43 7000000800 43 707fffffff 43 43 5205",
+        b"hear 0 0 00001e02000000005313c0110743700000080043707fffffff43435205\n",
+        b"hear 0000001e02000000005313c0110743700000080043707fffffff43435205",
+    ];
+    for script in good {
+        assert!(rt; answers(alloc, LONGEST, script, HEARD)?);
+    }
+    let longest_tag =
+        b"start 0 0102030405060708091011121314151617181920212223242526272829303132 0 1 0 -";
+    assert!(rt; answers(alloc, LONGEST, longest_tag.as_slice(), START_REFUSED)?);
+    Ok(())
+}
+
+/// Lines that come in pieces, one of which is longer than a frame may be.
+#[test]
+fn long_line(rt: HostRuntime) -> Result<(), Fail> {
+    let config = Config {
+        journal_limit: LONGEST,
+    };
+    let mut script = Vec::from_slice(rt.alloc(), HEAR)?;
+    script.extend_from_slice(b"start 0 01 0 1 0 ")?;
+    for _ in 0..70000 {
+        script.extend_from_slice(b"78")?;
+    }
+    script.extend_from_slice(b"\nlink 1")?;
+    let rest: &[u8] = script.as_slice();
+    let mut reader = BufReader::with_capacity(rt.alloc(), 100, rest)?;
+    let mut answers: Vec<u8> = Vec::new(rt.alloc());
+    assert!(rt; config.is_within_limits());
+    let outcome = run_script(rt.alloc(), &config, &mut reader, &mut answers)?;
+    assert_eq!(rt; outcome, Outcome::EachLineGood);
+    let wanted = b"ok given=none ended=- frames=-\nrefused 27\nlink 1 none\n";
+    assert_eq!(rt; answers.as_slice(), wanted.as_slice());
+    Ok(())
+}
+
+/// Is interrupted once, gives its octets in one read, and then fails.
+#[derive(Drop)]
+struct FailsAfter<'a> {
+    octets: &'a [u8],
+    was_interrupted: bool,
+}
+
+impl Read for FailsAfter<'_> {
+    fn read(&mut self, buf: &mut [u8]) -> io::Result<usize> {
+        if !self.was_interrupted {
+            self.was_interrupted = true;
+            return Err(io::Error::from(io::ErrorKind::Interrupted));
+        }
+        if self.octets.is_empty() {
+            return Err(io::Error::other("the line is cut"));
+        }
+        self.octets.read(buf)
+    }
+}
+
+#[test]
+fn failing_reader(rt: HostRuntime) -> Result<(), Fail> {
+    let config = Config {
+        journal_limit: LONGEST,
+    };
+    let failing = FailsAfter {
+        octets: b"link 1\nbad\nlink 2",
+        was_interrupted: false,
+    };
+    let mut reader = BufReader::new(rt.alloc(), failing)?;
+    let mut answers: Vec<u8> = Vec::new(rt.alloc());
+    assert!(rt; config.is_within_limits());
+    let outcome = run_script(rt.alloc(), &config, &mut reader, &mut answers);
+    assert!(rt; matches!(&outcome, Err(ScriptFault::Read(_))));
+    assert_eq!(rt; answers.as_slice(), b"link 1 none\nbad line\n".as_slice());
+    let Err(fault) = outcome else {
+        return Err(Fail::new("no fault"));
+    };
+    let text = format!(in rt.alloc(); "{fault}")?;
+    assert_eq!(rt; text.as_str(), "reading the script: the line is cut");
+    Ok(())
+}
+
+/// Takes this many octets, and fails at the first write past them.
+#[derive(Drop)]
+struct HasRoom {
+    room: usize,
+    taken: Vec<u8>,
+}
+
+impl Write for HasRoom {
+    fn write(&mut self, buf: &[u8]) -> io::Result<usize> {
+        if self.room < buf.len() {
+            return Err(io::Error::other("no room"));
+        }
+        self.room -= buf.len();
+        self.taken.extend_from_slice(buf)?;
+        Ok(buf.len())
+    }
+
+    fn flush(&mut self) -> io::Result<()> {
+        Ok(())
+    }
+}
+
+#[test]
+fn failing_writer(rt: HostRuntime) -> Result<(), Fail> {
+    let config = Config {
+        journal_limit: LONGEST,
+    };
+    let mut script = Vec::from_slice(rt.alloc(), START)?;
+    script.extend_from_slice(START)?;
+    let mut reader: &[u8] = script.as_slice();
+    let mut writer = HasRoom {
+        room: START_REFUSED.len(),
+        taken: Vec::new(rt.alloc()),
+    };
+    assert!(rt; config.is_within_limits());
+    let outcome = run_script(rt.alloc(), &config, &mut reader, &mut writer);
+    assert!(rt; matches!(&outcome, Err(ScriptFault::Write(_))));
+    assert_eq!(rt; writer.taken.as_slice(), START_REFUSED);
+    Ok(())
+}
+
+#[test]
+fn command_lines(rt: HostRuntime) -> Result<(), Fail> {
+    let alloc = rt.alloc();
+    let faults: [&[&str]; 8] = [
+        &["amqp_peer"],
+        &["amqp_peer", "listen"],
+        &["amqp_peer", "script", "--limit", "0"],
+        &["amqp_peer", "script", "--limit", "1048577"],
+        &["amqp_peer", "script", "--limit", "many"],
+        &["amqp_peer", "script", "--first-id", "0"],
+        &["amqp_peer", "script", "--window", "2048"],
+        &["amqp_peer", "script", "first-path.script"],
+    ];
+    for words in faults {
+        let Err(error) = read_request(alloc, words) else {
+            return Err(Fail::new("a fault was read"));
+        };
+        assert_eq!(rt; error.exit_code(), 2);
+        assert!(rt; error.use_stderr());
+    }
+    let helps: [&[&str]; 2] = [&["amqp_peer", "--help"], &["amqp_peer", "script", "-h"]];
+    for words in helps {
+        let Err(error) = read_request(alloc, words) else {
+            return Err(Fail::new("help was read"));
+        };
+        assert_eq!(rt; error.exit_code(), 0);
+        assert!(rt; !error.use_stderr());
+    }
+    let goods: [(&[&str], u32); 3] = [
+        (&["amqp_peer", "script"], 1048576),
+        (&["amqp_peer", "script", "--limit", "1"], 1),
+        (&["amqp_peer", "script", "--limit=1048576"], 1048576),
+    ];
+    for (words, journal_limit) in goods {
+        let request = read_request(alloc, words)?;
+        assert_eq!(rt; request, Request::Script(Config { journal_limit }));
+    }
+    Ok(())
+}
