@@ -1,7 +1,6 @@
 -- What an answer tells of the view that gave it.
 use Rattle.std.proofs.Common.{◌≡◌, ◌≢◌, ◌<◌, ◌≤◌, ℕ, Bool, true, false, cond, Option, Some, None, Ok, List, [], ◌∷◌, arith, refl, find}
 use Rattle.std.proofs.lemmas.Bool.{ltb-false, eqb-false}
-use Rattle.amqp_endpoint.specs.declared.tag.Tag.{Tag}
 use Rattle.amqp_endpoint.specs.declared.frames.FlowBody.{FlowBody}
 use Rattle.amqp_endpoint.specs.declared.reply.Reply.{Reply}
 use Rattle.amqp_endpoint.specs.declared.refusal.Refusal.TheVariants.{NoLink}
@@ -28,14 +27,14 @@ no_refusal [] h = tt
 no_refusal (row ∷ rows) h = no_row row.0 row.1 rows (no_refusal rows) h
 
 -- a start was accepted: on this link, with credit and window
-pub record AcceptsStart (v : View) (link : ℕ) (tag : Tag) (format : ℕ) (payload : List ℕ) (reply : Reply) : Type 0 where
+pub record AcceptsStart (v : View) (link : ℕ) (tag : List ℕ) (format : ℕ) (payload : List ℕ) (reply : Reply) : Type 0 where
   pub on : LinkView
   pub found : find (has_number link) v.links ≡ Some on
   pub credit : 0 < on.credit
   pub window : 0 < v.remote_in
   pub replies : start_reply on.handle v.next_delivery tag format payload ≡ reply
 
-accepts_on : (v : View) (link : ℕ) (tag : Tag) (format : ℕ) (payload : List ℕ) (reply : Reply) (o : Option LinkView) → find (has_number link) v.links ≡ o
+accepts_on : (v : View) (link : ℕ) (tag : List ℕ) (format : ℕ) (payload : List ℕ) (reply : Reply) (o : Option LinkView) → find (has_number link) v.links ≡ o
     → if_there o NoLink (λ l. answered (first_refusal (start_refusals v l tag format payload)) (start_reply l.handle v.next_delivery tag format payload)) ≡ Ok reply
     → AcceptsStart v link tag format payload reply
 accepts_on v link tag format payload reply None found h = absurd (cc)
@@ -46,7 +45,7 @@ accepts_on v link tag format payload reply (Some l) found h =
     let window : v.remote_in ≢ 0 = eqb-false v.remote_in 0 p.1.0 in
     record { on = l; found = found; credit = omega arith; window = omega arith; replies = a.1 }
 
-pub start_accepts : (v : View) (link : ℕ) (tag : Tag) (format : ℕ) (payload : List ℕ) (reply : Reply) → start_answer v link tag format payload ≡ Ok reply → AcceptsStart v link tag format payload reply
+pub start_accepts : (v : View) (link : ℕ) (tag : List ℕ) (format : ℕ) (payload : List ℕ) (reply : Reply) → start_answer v link tag format payload ≡ Ok reply → AcceptsStart v link tag format payload reply
 start_accepts v link tag format payload reply h = accepts_on v link tag format payload reply (find (has_number link) v.links) refl h
 
 -- a flow was accepted

@@ -1,13 +1,12 @@
 -- A start that meets no refusal.
 use Rattle.std.specs.Prelude.{ℕ, ◌≡◌, ◌<◌, ◌≤◌, ◌^◌, Ok, List, length}
 use Rattle.std.specs.List.{slice_index_or}
-use Rattle.amqp_endpoint.specs.declared.tag.Tag.{Tag}
 use Rattle.amqp_endpoint.specs.declared.endpoint.start.Ready.{Ready}
 use Rattle.amqp_endpoint.specs.View.{View, LinkView, IsPlace, has_number}
 use Rattle.amqp_endpoint.specs.TransferFrame.{transfer_octets}
 use Rattle.amqp_endpoint.specs.Start.{start_answer, start_reply}
 
-pub record IsReady (v : View) (link : ℕ) (tag : Tag) (format : ℕ) (payload : List ℕ) (ready : Ready) : Type 0 where
+pub record IsReady (v : View) (link : ℕ) (tag : List ℕ) (format : ℕ) (payload : List ℕ) (ready : Ready) : Type 0 where
   pub place : IsPlace (has_number link) v.links ready.place
   pub credit : (d : LinkView) → 0 < (slice_index_or v.links ready.place d).credit
   pub window : 0 < v.remote_in

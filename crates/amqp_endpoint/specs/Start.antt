@@ -1,6 +1,5 @@
 -- Start: a settled delivery in one transfer (part 2, 2.6.12 and 2.7.5).
 use Rattle.std.specs.Prelude.{ℕ, ◌+◌, ◌-◌, ◌^◌, ◌==◌, nat_lt, nat_le, true, Bool, Some, Result, List, [], ◌∷◌, length, find}
-use Rattle.amqp_endpoint.specs.declared.tag.Tag.{Tag}
 use Rattle.amqp_endpoint.specs.declared.frames.TransferBody.{TransferBody}
 use Rattle.amqp_endpoint.specs.declared.frames.Performative.TheVariants.{Transfer}
 use Rattle.amqp_endpoint.specs.declared.reply.Reply.{Reply}
@@ -13,12 +12,12 @@ use Rattle.amqp_endpoint.specs.TransferFrame.{transfer_octets}
 use Rattle.amqp_endpoint.specs.Refusing.{first_refusal, answered, if_there}
 
 -- the transfer on the link with this handle, for the delivery with this id
-abbrev pub start_body : ℕ → ℕ → Tag → ℕ → TransferBody
+abbrev pub start_body : ℕ → ℕ → List ℕ → ℕ → TransferBody
 start_body handle id tag format =
     record { handle = handle; delivery_id = Some id; delivery_tag = Some tag; message_format = Some format; settled = Some true }
 
 -- the reply that sends it
-abbrev pub start_reply : ℕ → ℕ → Tag → ℕ → List ℕ → Reply
+abbrev pub start_reply : ℕ → ℕ → List ℕ → ℕ → List ℕ → Reply
 start_reply handle id tag format payload =
     record {
       sent = record { frame = record { channel = 0; body = Some (Transfer (start_body handle id tag format)); payload = payload }; bytes = transfer_octets handle id tag format payload } ∷ [];
@@ -27,7 +26,7 @@ start_reply handle id tag format payload =
     }
 
 -- the refusals, in the order of their numbers; a frame's size is a number of 32 bits
-abbrev pub start_refusals : View → LinkView → Tag → ℕ → List ℕ → List (Bool × Refusal)
+abbrev pub start_refusals : View → LinkView → List ℕ → ℕ → List ℕ → List (Bool × Refusal)
 start_refusals v l tag format payload =
     (l.credit == 0, NoCredit)
     ∷ (v.remote_in == 0, NoWindow)
@@ -35,7 +34,7 @@ start_refusals v l tag format payload =
     ∷ (nat_lt v.max_frame (length (transfer_octets l.handle v.next_delivery tag format payload)), FrameTooBig)
     ∷ []
 
-abbrev pub start_answer : View → ℕ → Tag → ℕ → List ℕ → Result Reply Refusal
+abbrev pub start_answer : View → ℕ → List ℕ → ℕ → List ℕ → Result Reply Refusal
 start_answer v link tag format payload =
     if_there (find (has_number link) v.links) NoLink (λ l.
     answered (first_refusal (start_refusals v l tag format payload)) (start_reply l.handle v.next_delivery tag format payload))

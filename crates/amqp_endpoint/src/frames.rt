@@ -1,4 +1,4 @@
-use crate::tag::Tag;
+use amqp_types::Tag;
 use bytes::Bytes;
 
 /// The fields of a flow up to the link's credit (part 2, 2.7.4). A field that may be absent is an option.

@@ -11,19 +11,16 @@
 //! | `refusal`, `violation` | why an operation is refused, and what is wrong with a frame |
 //! | `status` | the windows and a link, as they stand |
 //! | `endpoint` | the endpoint itself |
-//! | `tag`, `items` | the tag of a delivery; a vector that contracts see as a list |
 #![tactic(auto)]
 
 pub mod config;
 pub mod endpoint;
 pub mod flow_frame;
 pub mod frames;
-pub mod items;
 pub mod op;
 pub mod refusal;
 pub mod reply;
 pub mod status;
-pub mod tag;
 #[cfg(test)]
 mod tests;
 mod transfer_frame;

@@ -1,4 +1,4 @@
-use crate::tag::Tag;
+use amqp_types::Tag;
 use bytes::Bytes;
 
 /// An operation of the application.

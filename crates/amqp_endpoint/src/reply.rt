@@ -1,5 +1,5 @@
 use crate::frames::Frame;
-use crate::items::Items;
+use amqp_types::Items;
 use bytes::Bytes;
 
 /// A frame that is sent, with its octets.

@@ -4,8 +4,8 @@ use crate::flow_frame::read_flow;
 use crate::op::Op;
 use crate::refusal::Refusal;
 use crate::reply::Given;
-use crate::tag::Tag;
 use crate::violation::{Violation, ViolationKind};
+use amqp_types::Tag;
 use bytes::Bytes;
 use std::alloc::Global;
 use std::test::Fail;
@@ -111,14 +111,4 @@ fn limits_and_numbers(rt: HostRuntime) {
     );
     assert_eq!(rt; Refusal::NoLink.number(), 5);
     assert_eq!(rt; ViolationKind::BadHandle.number(), 3);
-}
-
-#[test]
-fn tags(rt: HostRuntime) -> Result<(), Fail> {
-    assert!(rt; Tag::new(&[7; 33]).is_none());
-    let longest = Tag::new(&[7; 32]).ok_or("a tag")?;
-    assert_eq!(rt; longest.octets(), [7; 32].as_slice());
-    let none = Tag::new(&[]).ok_or("a tag")?;
-    assert!(rt; none.octets().is_empty());
-    Ok(())
 }

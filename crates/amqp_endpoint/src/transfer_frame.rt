@@ -1,7 +1,7 @@
 ghost use Rattle.std.specs.Prelude.{◌≡◌, ◌<◌, ◌≤◌, ◌^◌, ◌++◌, ◌∷◌, [], length, IfOk, OnOk};
 ghost use Rattle.amqp_endpoint.specs.TransferFrame.{uint_octets, tag_octets, transfer_fields, transfer_octets};
 
-use crate::tag::Tag;
+use amqp_types::Tag;
 use bytes::Bytes;
 use std::alloc::{AllocError, Global};
 

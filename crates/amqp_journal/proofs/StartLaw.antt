@@ -1,7 +1,6 @@
 -- A start, as formulas over the whole past and as single changes.
 use Rattle.std.proofs.Common.{◌≡◌, ℕ, ◌+◌, ◌-◌, Bool, true, false, cond, eqb, Option, Some, None, List, ◌∷◌, length, arith, refl, sym, add-one}
 use Rattle.std.proofs.lemmas.Bool.{eq-eqb, eqb-true}
-use Rattle.amqp_endpoint.specs.declared.tag.Tag.{Tag}
 use Rattle.amqp_endpoint.specs.declared.op.Op.TheVariants.{Start}
 use Rattle.amqp_endpoint.specs.declared.reply.Reply.{Reply}
 use Rattle.amqp_endpoint.specs.declared.frames.FlowBody.{FlowBody}
@@ -19,7 +18,7 @@ use Rattle.amqp_journal.specs.At.{at, started}
 use Rattle.amqp_journal.proofs.Numbers.{wire-more}
 
 -- a start on the link, with this reply
-abbrev pub start_entry : ℕ → Tag → ℕ → List ℕ → Reply → Entry
+abbrev pub start_entry : ℕ → List ℕ → ℕ → List ℕ → Reply → Entry
 start_entry link tag format payload reply = record { step = Own (Start link tag format payload); reply = reply }
 
 remote-more : (sent : ℕ) (said : Option (FlowBody × List Entry)) → remote_incoming (sent + 1) said ≡ remote_incoming sent said - 1
@@ -30,7 +29,7 @@ credit-more : (k : ℕ) (said : Option ((FlowBody × ℕ) × List Entry)) (now :
 credit-more k None now = omega arith
 credit-more k (Some said) now = omega arith
 
-link-at-start : (k link : ℕ) (tag : Tag) (format : ℕ) (payload : List ℕ) (reply : Reply) (past : List Entry)
+link-at-start : (k link : ℕ) (tag : List ℕ) (format : ℕ) (payload : List ℕ) (reply : Reply) (past : List Entry)
     → link_at k (start_entry link tag format payload reply ∷ past) ≡ cond (eqb link k) (begin_delivery (link_at k past)) (link_at k past)
 link-at-start k link tag format payload reply past = by_test (eqb link k)
   where
@@ -54,7 +53,7 @@ found-one false l on h = absurd (cc)
 pub eqb-sym : (m n : ℕ) → eqb m n ≡ true → eqb n m ≡ true
 eqb-sym m n h = eq-eqb n m (sym (eqb-true m n h))
 
-pub start-law : (past : List Entry) (link : ℕ) (tag : Tag) (format : ℕ) (payload : List ℕ) (reply : Reply)
+pub start-law : (past : List Entry) (link : ℕ) (tag : List ℕ) (format : ℕ) (payload : List ℕ) (reply : Reply)
     → AcceptsStart (at past) link tag format payload reply
     → at (start_entry link tag format payload reply ∷ past) ≡ next_start (at past) link
 start-law past link tag format payload reply h =

@@ -5,8 +5,8 @@ use amqp_endpoint::flow_frame::read_flow;
 use amqp_endpoint::op::Op;
 use amqp_endpoint::refusal::Refusal;
 use amqp_endpoint::reply::Given;
-use amqp_endpoint::tag::Tag;
 use amqp_endpoint::violation::ViolationKind;
+use amqp_types::Tag;
 use bytes::Bytes;
 use std::test::Fail;
 

@@ -5,9 +5,9 @@ ghost use Rattle.amqp_endpoint.specs.Refusing.{Gives, no_memory};
 use crate::endpoint::Endpoint;
 use crate::endpoint::link::{link_is_ahead, names_no_link, take_flow};
 use crate::frames::FlowBody;
-use crate::items::Items;
 use crate::reply::{Given, Reply};
 use crate::violation::{Violation, ViolationKind};
+use amqp_types::Items;
 use std::alloc::Global;
 
 /// Nothing is sent, ended or given.

@@ -7,11 +7,10 @@ ghost use Rattle.amqp_endpoint.specs.Refusing.{Gives};
 use crate::endpoint::Endpoint;
 use crate::endpoint::link::{begin_delivery, place_of_number};
 use crate::frames::{Frame, Performative, TransferBody};
-use crate::items::Items;
 use crate::refusal::Refusal;
 use crate::reply::{Given, Reply, Sent};
-use crate::tag::Tag;
 use crate::transfer_frame::{transfer_size, write_transfer};
+use amqp_types::{Items, Tag};
 use bytes::Bytes;
 use std::alloc::{AllocError, Global};
 

@@ -1,11 +1,13 @@
 //! What a line of a script says.
+ghost use Rattle.std.specs.Prelude.{◌≡◌};
+ghost use Rattle.amqp_peer.specs.declared.script.line.LineFault.TheVariants.{NoMemory};
 
 use crate::script::words::Words;
 use amqp_endpoint::flow_frame::read_flow;
 use amqp_endpoint::frames::Frame;
 use amqp_endpoint::op::Op;
 use bytes::Bytes;
-use std::alloc::{AllocError, Global};
+use std::alloc::{AllocError, AllocFailed, Global};
 use thiserror::Error;
 
 /// A line of a script.
@@ -30,13 +32,17 @@ pub enum LineFault {
     NoMemory,
 }
 
-impl<T: Drop> From<std::alloc::AllocFailed<T>> for LineFault {
-    fn from(_error: std::alloc::AllocFailed<T>) -> LineFault {
+impl<T: Drop> From<AllocFailed<T>> for LineFault {
+    ghost from_gives = { λ _ fault. fault ≡ NoMemory };
+
+    fn from(_error: AllocFailed<T>) -> LineFault {
         LineFault::NoMemory
     }
 }
 
 impl From<AllocError> for LineFault {
+    ghost from_gives = { λ _ fault. fault ≡ NoMemory };
+
     fn from(_error: AllocError) -> LineFault {
         LineFault::NoMemory
     }

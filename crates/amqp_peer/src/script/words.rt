@@ -4,7 +4,7 @@ ghost use Rattle.std.specs.Str.Parse.{IsNumeral, digits_value};
 ghost use Rattle.amqp_peer.specs.Words.{words, octets_of, truth_of};
 
 use crate::script::line::LineFault;
-use amqp_endpoint::tag::Tag;
+use amqp_types::Tag;
 use std::alloc::Global;
 
 /// The words of a line that were not taken yet. One space stands between two words, so two spaces have an empty word

@@ -1,0 +1,16 @@
+use Rattle.std.proofs.Common.{◌∷◌, [], refl, sym, ap, ◌∙◌}
+use Rattle.std.specs.Int.{to_be_bytes, w8, w16, w32, w64}
+use Rattle.amqp_types.specs.declared.class.Kind.{Kind}
+use Rattle.amqp_types.specs.Datum.{number}
+use Rattle.amqp_types.specs.Canon.{canon}
+use Rattle.amqp_types.proofs.Typed.{appended, length_is, null_canon, true_canon, false_canon, ubyte_canon, ushort_canon, uint_zero, uint_small, uint_large, ulong_zero, ulong_small, ulong_large}
+use Rattle.amqp_types.proofs.append.ulong_size.Goals as goal
+
+pub returns-then-n-eq0 : goal.returns-then-n-eq0
+returns-then-n-eq0 c = length_is (canon (number Kind.Ulong c.args.n)) (68 ∷ []) (ulong_zero c.args.n c.if-n-eq0.true)
+
+pub returns-then-n-lt256 : goal.returns-then-n-lt256
+returns-then-n-lt256 c = length_is (canon (number Kind.Ulong c.args.n)) (83 ∷ to_be_bytes w8 c.args.n) (ulong_small c.args.n c.if-n-eq0.false c.if-n-lt256.true)
+
+pub returns-else-n-lt256 : goal.returns-else-n-lt256
+returns-else-n-lt256 c = length_is (canon (number Kind.Ulong c.args.n)) (128 ∷ to_be_bytes w64 c.args.n) (ulong_large c.args.n c.if-n-lt256.false c.ranges.n.fits)

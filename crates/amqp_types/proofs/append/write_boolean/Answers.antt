@@ -1,0 +1,13 @@
+use Rattle.std.proofs.Common.{◌∷◌, [], refl, sym, ap, ◌∙◌}
+use Rattle.std.specs.Int.{to_be_bytes, w8, w16, w32, w64}
+use Rattle.amqp_types.specs.declared.class.Kind.{Kind}
+use Rattle.amqp_types.specs.Datum.{number}
+use Rattle.amqp_types.specs.Canon.{canon}
+use Rattle.amqp_types.proofs.Typed.{appended, length_is, null_canon, true_canon, false_canon, ubyte_canon, ushort_canon, uint_zero, uint_small, uint_large, ulong_zero, ulong_small, ulong_large}
+use Rattle.amqp_types.proofs.append.write_boolean.Goals as goal
+
+pub returns-then-b-clause-ok : goal.returns-then-b-clause-ok
+returns-then-b-clause-ok c = rw c.if-b.true (appended (number Kind.Bool 1) (65 ∷ []) _ c.extend_from_slice.result c.args.out.now.items c.extend_from_slice.new.self.items true_canon c.extend_from_slice.ensures.items refl)
+
+pub returns-else-b-clause-ok : goal.returns-else-b-clause-ok
+returns-else-b-clause-ok c = rw c.if-b.false (appended (number Kind.Bool 0) (66 ∷ []) _ c.extend_from_slice-else-b.result c.args.out.now.items c.extend_from_slice-else-b.new.self.items false_canon c.extend_from_slice-else-b.ensures.items refl)

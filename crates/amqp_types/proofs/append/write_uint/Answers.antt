@@ -1,0 +1,16 @@
+use Rattle.std.proofs.Common.{◌∷◌, [], refl, sym, ap, ◌∙◌}
+use Rattle.std.specs.Int.{to_be_bytes, w8, w16, w32, w64}
+use Rattle.amqp_types.specs.declared.class.Kind.{Kind}
+use Rattle.amqp_types.specs.Datum.{number}
+use Rattle.amqp_types.specs.Canon.{canon}
+use Rattle.amqp_types.proofs.Typed.{appended, one_octet, length_is, null_canon, true_canon, false_canon, ubyte_canon, ushort_canon, uint_zero, uint_small, uint_large, ulong_zero, ulong_small, ulong_large}
+use Rattle.amqp_types.proofs.append.write_uint.Goals as goal
+
+pub returns-then-n-eq0-clause-ok : goal.returns-then-n-eq0-clause-ok
+returns-then-n-eq0-clause-ok c = appended (number Kind.Uint c.args.n) (67 ∷ []) _ c.extend_from_slice.result c.args.out.now.items c.extend_from_slice.new.self.items (uint_zero c.args.n c.if-n-eq0.true) c.extend_from_slice.ensures.items (refl)
+
+pub returns-then-n-lt256-clause-ok : goal.returns-then-n-lt256-clause-ok
+returns-then-n-lt256-clause-ok c = appended (number Kind.Uint c.args.n) (82 ∷ to_be_bytes w8 c.args.n) _ c.extend_from_slice-then-n-lt256.result c.args.out.now.items c.extend_from_slice-then-n-lt256.new.self.items (uint_small c.args.n c.if-n-eq0.false c.if-n-lt256.true) c.extend_from_slice-then-n-lt256.ensures.items (one_octet 82 c.args.n c.if-n-lt256.true)
+
+pub returns-else-n-lt256-clause-ok : goal.returns-else-n-lt256-clause-ok
+returns-else-n-lt256-clause-ok c = appended (number Kind.Uint c.args.n) (112 ∷ to_be_bytes w32 c.args.n) _ c.extend_from_slice-else-n-lt256.result c.args.out.now.items c.extend_from_slice-else-n-lt256.new.self.items (uint_large c.args.n c.if-n-lt256.false c.ranges.n.fits) c.extend_from_slice-else-n-lt256.ensures.items (rw c.to_be_bytes.ensures refl)

@@ -1,0 +1,46 @@
+-- What the writer's functions give, told in the words of the canonical spelling.
+use Rattle.std.specs.Prelude.{◌≡◌, ◌+◌, ◌-◌, ◌^◌, ℕ, List, [], ◌∷◌, ◌++◌, length, min, Option, Some, None, Result, Ok, Err, if◌then◌else◌, ◌==◌}
+use Rattle.amqp_types.specs.declared.class.Class.{Class}
+use Rattle.amqp_types.specs.declared.fault.WriteFault.{WriteFault}
+use Rattle.amqp_types.specs.declared.fault.WriteFault.TheVariants as fault
+use Rattle.amqp_types.specs.declared.forms.Head.{Head}
+use Rattle.amqp_types.specs.declared.forms.Head.TheVariants as head
+use Rattle.amqp_types.specs.Codes.{class_of}
+use Rattle.amqp_types.specs.Reading.{◌>>=◌}
+use Rattle.amqp_types.specs.Canon.{number_form, octets_head, list_head, map_head, array_head, described_head, Appends}
+use Rattle.amqp_types.specs.Writing.{number_code, octets_code, frame_code}
+
+-- What a function that appends octets has done: they are there behind the old ones, or there are none such, or memory ran out.
+abbrev pub Writes : {X : Type 0} → Option (List ℕ) → Result X WriteFault → List ℕ → List ℕ → Type 0
+Writes form (Ok x) old new = Appends form old new
+Writes form (Err fault.NoMemory) old new = Unit {0}
+Writes form (Err fault.NotWritable) old new = form ≡ None
+
+abbrev pub head_form : Head → Class → Option (List ℕ)
+head_form (head.Number k n) class = number_form class k n
+head_form (head.Octets r text) class = octets_head class r text.now
+head_form (head.List count size) class = list_head class count size
+head_form (head.Map count size) class = map_head class count size
+head_form (head.Array code count size) class = array_head class code count size
+head_form head.Described class = described_head class
+
+abbrev pub head_code : Head → ℕ
+head_code (head.Number k n) = number_code k n
+head_code (head.Octets r text) = octets_code r (length text.now)
+head_code (head.List count size) = if count == 0 then 0x45 else frame_code 0xc0 0xd0 count size
+head_code (head.Map count size) = frame_code 0xc1 0xd1 count size
+head_code (head.Array code count size) = frame_code 0xe0 0xf0 count (1 + size)
+head_code head.Described = 0
+
+-- with its code, or under that of an array
+abbrev pub spelled_head : Option ℕ → Head → Option (List ℕ)
+spelled_head None h = head_form h (class_of (head_code h)) >>= λ os. Some (head_code h ∷ os)
+spelled_head (Some c) h = head_form h (class_of c)
+
+-- how many octets they are with so many behind them, or 2 ^ 64 - 1 for more
+abbrev pub capped_with : ℕ → Option (List ℕ) → Option ℕ
+capped_with size form = form >>= λ os. Some (min (length os + size) (2 ^ 64 - 1))
+
+-- what stands in front of the items of a list, with its shortest code
+abbrev pub list_front : ℕ → ℕ → Option (List ℕ)
+list_front count size = spelled_head None (head.List count size)

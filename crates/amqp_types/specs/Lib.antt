@@ -1,0 +1,12 @@
+pub mod formers
+pub mod Codes
+pub mod Datum
+pub mod View
+pub mod Grammar
+pub mod Reading
+pub mod Tag
+pub mod Heads
+pub mod Canon
+pub mod Writing
+pub mod Forms
+pub mod Shape

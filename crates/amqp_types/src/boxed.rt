@@ -1,0 +1,52 @@
+//! One value behind a pointer.
+ghost use Rattle.std.specs.Prelude.{◌≡◌, IfOk};
+
+use std::alloc::{AllocError, Global};
+use std::marker::Model;
+
+/// A `Box` that contracts see as the value in it, so that equal values are equal in contracts wherever they lie.
+#[derive(Debug, Drop)]
+pub struct Boxed<T> {
+    pub boxed: Box<T>,
+}
+
+impl<T> Model for Boxed<T> {
+    ghost Value = { T };
+
+    ghost coded = { T.code };
+
+    ghost view = { λ b. b.boxed.value };
+}
+
+impl<T> Boxed<T> {
+    /// The value.
+    pub fn get(&self) -> &T
+        ensures { result.now ≡ self.now }
+    {
+        &self.boxed
+    }
+
+    /// The value, out of its box.
+    pub fn into_inner(self) -> T
+        ensures { result ≡ self }
+    {
+        let Boxed { boxed } = self;
+        Box::into_inner(boxed)
+    }
+
+    /// The allocator that the box was made with.
+    pub fn allocator(&self) -> Global {
+        *Box::allocator(&self.boxed)
+    }
+}
+
+impl<T: Drop> Boxed<T> {
+    /// Moves the value behind a pointer.
+    pub fn new(alloc: Global, value: T) -> Result<Boxed<T>, AllocError>
+        ensures { IfOk result (λ b. b ≡ value) }
+    {
+        Ok(Boxed {
+            boxed: Box::new(alloc, value)?,
+        })
+    }
+}

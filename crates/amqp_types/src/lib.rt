@@ -1,0 +1,73 @@
+//! The values of AMQP 1.0, read and written (OASIS AMQP 1.0, part 1, sections 1.2 and 1.6).
+//!
+//! A value is spelled by a format code and a body. The high half of the code says the shape of the body: 4 none, 5 to 9 one, two, four, eight or
+//! sixteen octets, a and b a size of one or four octets and as many octets, c and d size and count and the items, e and f size and count, one
+//! format code and the bodies under it. Code 00 stands before a descriptor and the value that it describes.
+//!
+//! | type | codes | body |
+//! |---|---|---|
+//! | null | 40 | none |
+//! | boolean | 56; 41 true, 42 false | 56: 00 or 01 |
+//! | ubyte, ushort | 50, 60 | unsigned, big endian as all numbers |
+//! | uint | 70; 52 one octet; 43 zero | unsigned |
+//! | ulong | 80; 53 one octet; 44 zero | unsigned |
+//! | byte, short | 51, 61 | two's complement |
+//! | int, long | 71, 81; 54, 55 one octet | two's complement |
+//! | float, double, decimal32, decimal64, decimal128 | 72, 82, 74, 84, 94 | kept as bits |
+//! | char | 73 | a Unicode scalar value |
+//! | timestamp | 83 | milliseconds, two's complement |
+//! | uuid | 98 | sixteen octets |
+//! | binary, string, symbol | a0 b0, a1 b1, a3 b3 | octets; UTF-8; octets below 128 |
+//! | list | c0, d0; 45 empty | items |
+//! | map | c1, d1 | keys and values in turn |
+//! | array | e0, f0 | one code of the table but 00, and bodies |
+//!
+//! Values are nested at most 32 deep. What is written is canonical: each part under its shortest code.
+//!
+//! - [`Value`], [`Text`], [`Items`], [`Boxed`], [`Tag`]: values, which contracts see as plain data
+//! - [`read_value`], [`read_within`], [`skip_value`], [`skip_within`]: whole values in front of octets
+//! - [`read_uint`] and its like, [`read_list_head`], [`read_descriptor`]: fields of one type, read in place
+//! - [`write_value`], [`value_size`]: whole values, written behind octets
+//! - [`write_uint`] and its like, [`write_list_head`], [`uint_size`], [`ulong_size`]: fields of one type, written
+//! - [`one_spelling`], [`canon_spells`]: the laws of spellings
+#![tactic(auto)]
+
+mod append;
+mod boxed;
+mod class;
+mod fault;
+mod fields;
+mod forms;
+mod heads;
+mod items;
+mod leaves;
+mod parts;
+mod read;
+mod skip;
+mod tag;
+mod text;
+mod value;
+mod write;
+
+pub use append::{
+    uint_size, ulong_size, write_binary, write_boolean, write_list_head, write_null, write_string,
+    write_symbol, write_ubyte, write_uint, write_ulong, write_ushort,
+};
+pub use boxed::Boxed;
+pub use class::{Class, Kind, Reading, Run, Width, class_of};
+pub use fault::{ReadFault, WriteFault};
+pub use fields::{
+    read_binary, read_boolean, read_null, read_string, read_symbol, read_ubyte, read_uint,
+    read_ulong, read_ushort,
+};
+pub use heads::{Descriptor, ListHead, read_descriptor, read_list_head};
+pub use items::Items;
+pub use read::{one_spelling, read_value, read_within};
+pub use skip::{skip_value, skip_within};
+pub use tag::Tag;
+pub use text::Text;
+pub use value::Value;
+pub use write::{canon_spells, value_size, write_value};
+
+#[cfg(test)]
+mod tests;

@@ -1,0 +1,215 @@
+//! Reading a value that has parts.
+ghost use Rattle.std.specs.Prelude.{◌≡◌, ◌≤◌, ◌<◌, IsTrue, Some, None, option_map};
+ghost use Rattle.amqp_types.specs.Codes.{class_of};
+ghost use Rattle.amqp_types.specs.Datum.{array, map};
+ghost use Rattle.amqp_types.specs.Grammar.{is_element, is_even};
+ghost use Rattle.amqp_types.specs.Reading.{Gives, octets_at, frame_at, all_parts_at, list_at, map_at, array_content_at, array_at, described_at, part_at, body_at};
+ghost use Rattle.amqp_types.specs.View.{view, views, views_of_pairs};
+
+use crate::boxed::Boxed;
+use crate::class::{Class, Width, class_of};
+use crate::fault::ReadFault;
+use crate::items::Items;
+use crate::leaves::{field, number, run, sized_run, split};
+use crate::value::Value;
+use std::alloc::Global;
+
+/// The count and the content, and what follows.
+#[tactic(auto, unfolding(crate::specs::Reading::frame_at))]
+pub(crate) fn frame(bytes: &[u8], width: Width) -> Option<(u64, &[u8], &[u8])>
+    ensures { option_map (λ x. ((x.0, x.1.now), x.2.now)) result ≡ frame_at width bytes.now }
+{
+    let (size, rest) = field(bytes, width)?;
+    let (inside, after) = split(rest, size as usize)?;
+    let (count, content) = field(inside, width)?;
+    Some((count, content, after))
+}
+
+/// Whether the code may stand in front of this many bodies.
+pub(crate) fn is_element(class: Class, count: u64) -> bool
+    ensures { result ≡ is_element class count }
+{
+    match class {
+        Class::Unknown | Class::Described => false,
+        Class::EmptyList | Class::Number(_, Width::Zero, _) => count <= 255,
+        _ => true,
+    }
+}
+
+#[tactic(auto, using(crate::proofs::Even::even_is))]
+pub(crate) fn is_even(n: u64) -> bool
+    ensures { result ≡ is_even n }
+{
+    n % 2 == 0
+}
+
+/// A part with its own format code, or a body under that of an array.
+#[cycle(reading)]
+pub fn part(
+    alloc: Global,
+    depth: u8,
+    how: Option<u8>,
+    bytes: &[u8],
+) -> Result<(Value, &[u8]), ReadFault>
+    ensures { Gives (λ x. (view x.0, x.1.now)) result (part_at depth how bytes.now) }
+{
+    match how {
+        Some(code) => body(alloc, depth, code, bytes),
+        None => match bytes.split_first() {
+            None => Err(ReadFault::NoValue),
+            Some((code, rest)) => body(alloc, depth, *code, rest),
+        },
+    }
+}
+
+/// The parts that are all of the octets.
+#[cycle(reading)]
+fn parts(
+    alloc: Global,
+    depth: u8,
+    how: Option<u8>,
+    count: u64,
+    bytes: &[u8],
+) -> Result<Vec<Value>, ReadFault>
+    ensures { Gives (λ v. views v.items) result (all_parts_at (part_at depth how) count bytes.now) }
+{
+    let mut values = Vec::new(alloc);
+    let mut rest = bytes;
+    for _ in 0..count {
+        let (value, after) = part(alloc, depth, how, rest)?;
+        values.push(value)?;
+        rest = after;
+    }
+    if rest.is_empty() {
+        Ok(values)
+    } else {
+        Err(ReadFault::NoValue)
+    }
+}
+
+#[cycle(reading)]
+#[tactic(auto, unfolding(crate::specs::Reading::list_at))]
+fn list(alloc: Global, depth: u8, width: Width, bytes: &[u8]) -> Result<(Value, &[u8]), ReadFault>
+    ensures { Gives (λ x. (view x.0, x.1.now)) result (list_at (part_at depth) width bytes.now) }
+{
+    let (count, content, rest) = frame(bytes, width).ok_or(ReadFault::NoValue)?;
+    let items = parts(alloc, depth, None, count, content)?;
+    Ok((Value::List(Items { items }), rest))
+}
+
+/// The same, where each two parts are a pair.
+#[cycle(reading)]
+fn pairs(
+    alloc: Global,
+    depth: u8,
+    count: u64,
+    bytes: &[u8],
+) -> Result<Vec<(Value, Value)>, ReadFault>
+    requires { IsTrue (is_even count) }
+    ensures { Gives (λ v. views_of_pairs v.items) result (all_parts_at (part_at depth None) count bytes.now) }
+{
+    let mut values = Vec::new(alloc);
+    let mut rest = bytes;
+    for _ in 0..count / 2 {
+        let (key, after) = part(alloc, depth, None, rest)?;
+        let (value, after) = part(alloc, depth, None, after)?;
+        values.push((key, value))?;
+        rest = after;
+    }
+    if rest.is_empty() {
+        Ok(values)
+    } else {
+        Err(ReadFault::NoValue)
+    }
+}
+
+#[cycle(reading)]
+#[tactic(auto, unfolding(crate::specs::Reading::map_at))]
+fn map(alloc: Global, depth: u8, width: Width, bytes: &[u8]) -> Result<(Value, &[u8]), ReadFault>
+    ensures { Gives (λ x. (view x.0, x.1.now)) result (map_at (part_at depth) width bytes.now) }
+{
+    let (count, content, rest) = frame(bytes, width).ok_or(ReadFault::NoValue)?;
+    if !is_even(count) {
+        return Err(ReadFault::NoValue);
+    }
+    let items = pairs(alloc, depth, count, content)?;
+    Ok((Value::Map(Items { items }), rest))
+}
+
+#[cycle(reading)]
+#[tactic(auto, unfolding(crate::specs::Reading::array_content_at))]
+fn array_content(alloc: Global, depth: u8, count: u64, content: &[u8]) -> Result<Value, ReadFault>
+    ensures { Gives view result (array_content_at (part_at depth) count content.now) }
+{
+    match content.split_first() {
+        None => {
+            if count == 0 {
+                Ok(Value::Array(
+                    0x40,
+                    Items {
+                        items: Vec::new(alloc),
+                    },
+                ))
+            } else {
+                Err(ReadFault::NoValue)
+            }
+        }
+        Some((code, bodies)) => {
+            let code = *code;
+            if !is_element(class_of(code), count) {
+                return Err(ReadFault::NoValue);
+            }
+            let items = parts(alloc, depth, Some(code), count, bodies)?;
+            Ok(Value::Array(code, Items { items }))
+        }
+    }
+}
+
+#[cycle(reading)]
+#[tactic(auto, unfolding(crate::specs::Reading::array_at))]
+fn array(alloc: Global, depth: u8, width: Width, bytes: &[u8]) -> Result<(Value, &[u8]), ReadFault>
+    ensures { Gives (λ x. (view x.0, x.1.now)) result (array_at (part_at depth) width bytes.now) }
+{
+    let (count, content, rest) = frame(bytes, width).ok_or(ReadFault::NoValue)?;
+    let value = array_content(alloc, depth, count, content)?;
+    Ok((value, rest))
+}
+
+#[cycle(reading)]
+#[tactic(auto, unfolding(crate::specs::Reading::described_at))]
+fn described(alloc: Global, depth: u8, bytes: &[u8]) -> Result<(Value, &[u8]), ReadFault>
+    ensures { Gives (λ x. (view x.0, x.1.now)) result (described_at (part_at depth) bytes.now) }
+{
+    let (descriptor, rest) = part(alloc, depth, None, bytes)?;
+    let (value, rest) = part(alloc, depth, None, rest)?;
+    let descriptor = Boxed::new(alloc, descriptor)?;
+    let value = Boxed::new(alloc, value)?;
+    Ok((Value::Described(descriptor, value), rest))
+}
+
+/// A body of the format code.
+#[cycle(reading)]
+fn body(alloc: Global, depth: u8, code: u8, bytes: &[u8]) -> Result<(Value, &[u8]), ReadFault>
+    ensures { Gives (λ x. (view x.0, x.1.now)) result (body_at depth code bytes.now) }
+{
+    if depth == 0 {
+        return Err(ReadFault::NoValue);
+    }
+    let inner = depth - 1;
+    match class_of(code) {
+        Class::Number(kind, width, reading) => number(kind, width, reading, bytes),
+        Class::Octets(kind, width) => sized_run(alloc, kind, width, bytes),
+        Class::Sixteen(kind) => run(alloc, kind, 16, bytes),
+        Class::EmptyList => Ok((
+            Value::List(Items {
+                items: Vec::new(alloc),
+            }),
+            bytes,
+        )),
+        Class::List(width) => list(alloc, inner, width, bytes),
+        Class::Map(width) => map(alloc, inner, width, bytes),
+        Class::Array(width) => array(alloc, inner, width, bytes),
+        Class::Described => described(alloc, inner, bytes),
+        Class::Unknown => Err(ReadFault::NoValue),
+    }
+}

@@ -1,0 +1,112 @@
+//! A value of AMQP's type system.
+ghost use Rattle.std.specs.Prelude.{◌≡◌, IfOk};
+
+use crate::boxed::Boxed;
+use crate::items::Items;
+use crate::text::Text;
+use bytes::Bytes;
+use std::alloc::AllocError;
+
+/// Any AMQP value (OASIS AMQP 1.0, part 1, section 1.6).
+///
+/// Floating-point and decimal numbers are kept as bits, a timestamp in milliseconds since the Unix epoch, and a map's pairs as they lie, also
+/// where two have one key. An array has the format code of its elements, and is a value that can be written only where each is of that code.
+#[derive(Debug, Drop)]
+pub enum Value {
+    Null,
+    Bool(bool),
+    Ubyte(u8),
+    Ushort(u16),
+    Uint(u32),
+    Ulong(u64),
+    Sbyte(i8),
+    Short(i16),
+    Int(i32),
+    Long(i64),
+    FloatBits(u32),
+    DoubleBits(u64),
+    Dec32(u32),
+    Dec64(u64),
+    Dec128([u8; 16]),
+    Char(char),
+    Timestamp(i64),
+    Uuid([u8; 16]),
+    Binary(Bytes),
+    Str(Text),
+    Symbol(Text),
+    List(Items<Value>),
+    Map(Items<(Value, Value)>),
+    Array(u8, Items<Value>),
+    Described(Boxed<Value>, Boxed<Value>),
+}
+
+impl Clone for Value {
+    ghost is_clone = { λ a b. b ≡ a };
+
+    #[cycle(value)]
+    fn clone(&self) -> Result<Value, AllocError> {
+        Ok(match self {
+            Value::Null => Value::Null,
+            Value::Bool(b) => Value::Bool(*b),
+            Value::Ubyte(n) => Value::Ubyte(*n),
+            Value::Ushort(n) => Value::Ushort(*n),
+            Value::Uint(n) => Value::Uint(*n),
+            Value::Ulong(n) => Value::Ulong(*n),
+            Value::Sbyte(n) => Value::Sbyte(*n),
+            Value::Short(n) => Value::Short(*n),
+            Value::Int(n) => Value::Int(*n),
+            Value::Long(n) => Value::Long(*n),
+            Value::FloatBits(n) => Value::FloatBits(*n),
+            Value::DoubleBits(n) => Value::DoubleBits(*n),
+            Value::Dec32(n) => Value::Dec32(*n),
+            Value::Dec64(n) => Value::Dec64(*n),
+            Value::Dec128(octets) => Value::Dec128(*octets),
+            Value::Char(c) => Value::Char(*c),
+            Value::Timestamp(n) => Value::Timestamp(*n),
+            Value::Uuid(octets) => Value::Uuid(*octets),
+            Value::Binary(octets) => Value::Binary(octets.clone()?),
+            Value::Str(text) => Value::Str(text.clone()?),
+            Value::Symbol(text) => Value::Symbol(text.clone()?),
+            Value::List(values) => Value::List(clone_items(values)?),
+            Value::Map(pairs) => Value::Map(clone_pairs(pairs)?),
+            Value::Array(code, values) => Value::Array(*code, clone_items(values)?),
+            Value::Described(descriptor, value) => {
+                let descriptor = clone_boxed(descriptor)?;
+                let value = clone_boxed(value)?;
+                Value::Described(descriptor, value)
+            }
+        })
+    }
+}
+
+#[cycle(value)]
+fn clone_boxed(value: &Boxed<Value>) -> Result<Boxed<Value>, AllocError>
+    ensures { IfOk result (λ copy. copy ≡ value.now) }
+{
+    let copy = value.get().clone()?;
+    Boxed::new(value.allocator(), copy)
+}
+
+#[cycle(value)]
+fn clone_items(values: &Items<Value>) -> Result<Items<Value>, AllocError>
+    ensures { IfOk result (λ copies. copies ≡ values.now) }
+{
+    let mut items = Vec::new(values.allocator());
+    for value in values.as_slice() {
+        items.push(value.clone()?)?;
+    }
+    Ok(Items { items })
+}
+
+#[cycle(value)]
+fn clone_pairs(pairs: &Items<(Value, Value)>) -> Result<Items<(Value, Value)>, AllocError>
+    ensures { IfOk result (λ copies. copies ≡ pairs.now) }
+{
+    let mut items = Vec::new(pairs.allocator());
+    for pair in pairs.as_slice() {
+        let key = pair.0.clone()?;
+        let value = pair.1.clone()?;
+        items.push((key, value))?;
+    }
+    Ok(Items { items })
+}
