@@ -57,6 +57,7 @@ fn a_delivery_starts(rt: HostRuntime) -> Result<(), Fail> {
 #[test]
 fn its_frame_is_written(rt: HostRuntime) -> Result<(), Fail> {
     let mut endpoint = credited(rt.alloc())?;
+    assert!(rt; endpoint.steps() == 1);
     let (reply, _) = endpoint.apply(&start(rt.alloc(), 0, &[0x78])?)?;
     let sent = reply.sent.items.get(0).ok_or("a frame")?;
     let written = [
@@ -70,6 +71,7 @@ fn its_frame_is_written(rt: HostRuntime) -> Result<(), Fail> {
 #[test]
 fn it_uses_window_and_credit(rt: HostRuntime) -> Result<(), Fail> {
     let mut endpoint = credited(rt.alloc())?;
+    assert!(rt; endpoint.steps() == 1);
     endpoint.apply(&start(rt.alloc(), 0, &[])?)?;
     let windows = endpoint.windows();
     assert_eq!(rt; windows.next_out, 1);

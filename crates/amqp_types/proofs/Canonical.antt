@@ -219,7 +219,7 @@ spelled_is v d is (Some c) x e = is c x e
 same_draft : (v : Datum) (d f : Draft) → Some d ≡ Some f → IsDraftOf v d → IsDraftOf v f
 same_draft v d f e h = subst (λ (g : Draft). IsDraftOf v g) (let P : d ≡ f = cc in P) h
 
-no_content : (vs : Data) (how : Option ℕ) (x : List ℕ) → parts_form vs how ≡ Some x → count_of vs ≡ 0 → x ≡ []
+pub no_content : (vs : Data) (how : Option ℕ) (x : List ℕ) → parts_form vs how ≡ Some x → count_of vs ≡ 0 → x ≡ []
 no_content none how x e h = sym (some_is [] x e)
 no_content (item v vs) how x e h = absurd cc
 

@@ -1,6 +1,6 @@
 -- What the writer puts in front of the items of a list.
 use Rattle.std.proofs.Common.{◌≡◌, ◌<◌, ◌≤◌, ◌+◌, ◌-◌, ◌%◌, ◌^◌, ◌++◌, ◌&&◌, ℕ, false, true, ltb, eqb, List, [], ◌∷◌, Option, Some, refl, sym, ap, ◌∙◌, arith}
-use Rattle.std.specs.Int.{to_be_bytes, w8, w32}
+use Rattle.std.specs.Int.{to_be_bytes, w32}
 use Rattle.std.proofs.lemmas.Bool.{lt-ltb, le-ltb, ne_eqb}
 use Rattle.amqp_types.specs.Codes.{class_of}
 use Rattle.amqp_types.specs.Canon.{Appends}

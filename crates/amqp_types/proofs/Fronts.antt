@@ -3,7 +3,7 @@ use Rattle.std.proofs.Common.{◌≡◌, ◌≤◌, ◌-◌, ◌+◌, ℕ, suc, 
 use Rattle.std.specs.Borrow.{Bor}
 use Rattle.std.specs.Prelude.{option_map}
 use Rattle.std.specs.List.{list_any, IsFirstAndRest}
-use Rattle.std.proofs.lemmas.Bool.{eqb-true, ne_eqb}
+use Rattle.std.proofs.lemmas.Bool.{ne_eqb}
 use Rattle.std.proofs.lemmas.List.{length-append}
 use Rattle.std.proofs.Math.Nat.{pow-suc, mul-le-mul_right}
 use Rattle.amqp_types.specs.declared.class.Class.{Class}
@@ -12,8 +12,8 @@ use Rattle.amqp_types.specs.declared.class.Run.{Run}
 use Rattle.amqp_types.specs.declared.class.Reading.{Reading}
 use Rattle.amqp_types.specs.declared.class.Width.{Width}
 use Rattle.amqp_types.specs.Codes.{table, class_in, class_of, octets_in, kind_index, run_index, codes_in, of_run, HasCodes}
-use Rattle.amqp_types.specs.Datum.{Datum, number, octets}
-use Rattle.amqp_types.specs.Grammar.{number_from, number_of, read_number, fits, IsNumberBody, IsOctetsBody, IsListBody, is_run, SpellsWithin, Spells, IsFront, IsListWith, IsCandidate}
+use Rattle.amqp_types.specs.Datum.{number, octets}
+use Rattle.amqp_types.specs.Grammar.{number_from, number_of, read_number, fits, IsNumberBody, IsOctetsBody, is_run, Spells, IsFront, IsCandidate}
 use Rattle.amqp_types.specs.Reading.{split, field_at, number_at, run_at, octets_at, body_by, body_at, part_at}
 use Rattle.amqp_types.proofs.Frames.{field_takes, split_takes, guard_some}
 use Rattle.amqp_types.proofs.Laws.{nothing_read, spelling_taken, spelled_is_read}

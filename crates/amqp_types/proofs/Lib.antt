@@ -19,3 +19,4 @@ pub mod Lengths
 pub mod Spelled
 pub mod Typed
 pub mod Fronted
+pub mod Shortest

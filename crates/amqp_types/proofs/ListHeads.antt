@@ -1,21 +1,18 @@
 -- The heads of lists and of described values.
-use Rattle.std.proofs.Common.{◌≡◌, ◌≤◌, ◌+◌, ℕ, zero, suc, false, true, eqb, List, [], ◌∷◌, ◌++◌, length, take, drop, Option, Some, None, refl, sym, ap, subst, ◌∙◌, append_assoc, arith, cond}
+use Rattle.std.proofs.Common.{◌≡◌, ◌≤◌, ◌+◌, ℕ, suc, false, true, List, [], ◌∷◌, ◌++◌, length, take, drop, Option, Some, None, refl, sym, ap, subst, ◌∙◌, append_assoc, arith}
 use Rattle.std.specs.List.{IsFirstAndRest}
 use Rattle.std.specs.Prelude.{MatchOption}
 use Rattle.amqp_types.specs.declared.heads.ListHead.{ListHead}
 use Rattle.std.proofs.lemmas.List.{length-append, take_at, drop_at}
 use Rattle.amqp_types.specs.declared.class.Class.{Class}
-use Rattle.amqp_types.specs.declared.class.Kind.{Kind}
 use Rattle.amqp_types.specs.declared.class.Width.{Width}
-use Rattle.amqp_types.specs.declared.heads.Descriptor.{Descriptor}
-use Rattle.amqp_types.specs.declared.heads.Descriptor.TheVariants as descriptor
 use Rattle.amqp_types.specs.Codes.{table, class_of, codes_in}
-use Rattle.amqp_types.specs.Datum.{Datum, list, described, Data, none, item, count_of, depth_of, greatest_depth_of}
-use Rattle.amqp_types.specs.Grammar.{IsListBody, IsFramed, IsPart, IsBody, AreParts, SpellsWithin, Spells, IsListWith}
-use Rattle.amqp_types.specs.Heads.{IsListHead, HasNoList, datum_of, IsDescriptor}
+use Rattle.amqp_types.specs.Datum.{Datum, list, described, Data, none, item, count_of, greatest_depth_of}
+use Rattle.amqp_types.specs.Grammar.{IsListBody, IsFramed, AreParts, SpellsWithin, IsListWith}
+use Rattle.amqp_types.specs.Heads.{IsListHead, HasNoList}
 use Rattle.amqp_types.specs.Reading.{frame_at}
 use Rattle.amqp_types.proofs.Frames.{frame_takes, frame_again}
-use Rattle.amqp_types.proofs.Fronts.{of_list, is_code, class_listed, not_code}
+use Rattle.amqp_types.proofs.Fronts.{of_list, is_code, class_listed}
 
 -- ---- a list's head found
 

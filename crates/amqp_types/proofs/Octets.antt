@@ -1,5 +1,5 @@
 -- The number that the first octets are.
-use Rattle.std.proofs.Common.{◌≡◌, ◌≤◌, ◌<◌, ◌+◌, ◌*◌, ℕ, List, [], ◌∷◌, length, take, drop, get_or, ltb, false, Some, refl, sym, ap, ◌∙◌, arith}
+use Rattle.std.proofs.Common.{◌≡◌, ◌+◌, ℕ, List, [], ◌∷◌, length, take, drop, get_or, ltb, false, Some, refl, ap, ◌∙◌, arith}
 use Rattle.std.specs.Int.{from_be_bytes, w16, w32, w64}
 use Rattle.std.proofs.lemmas.Bool.{le-ltb}
 use Rattle.std.proofs.lemmas.List.{length-take}

@@ -1,5 +1,5 @@
 -- Octets in front of zeros.
-use Rattle.std.proofs.Common.{◌≡◌, ℕ, ◌+◌, ◌-◌, ◌≤◌, List, ◌++◌, length, take, drop, refl, sym, ap, ◌∙◌, arith}
+use Rattle.std.proofs.Common.{◌≡◌, ℕ, ◌-◌, ◌≤◌, List, ◌++◌, length, drop, sym, ap, ◌∙◌, arith}
 use Rattle.std.proofs.lemmas.List.{take_at, drop-replicate, length-append, length-replicate}
 use Rattle.std.specs.Prelude.{replicate}
 use Rattle.amqp_types.specs.Tag.{IsPadded}

@@ -1,6 +1,6 @@
 -- The spelling of a value from its head and its content, as the writer makes it.
-use Rattle.std.proofs.Common.{◌≡◌, ◌≤◌, ◌<◌, ◌+◌, ◌-◌, ◌^◌, ◌*◌, ◌&&◌, ℕ, suc, Bool, true, false, cond, ltb, eqb, List, [], ◌∷◌, ◌++◌, length, min, Option, Some, None, Result, Ok, Err, refl, sym, ap, subst, ◌∙◌, append_assoc, arith}
-use Rattle.std.proofs.lemmas.Bool.{ltb-true, ltb-false, lt-ltb, le-ltb}
+use Rattle.std.proofs.Common.{◌≡◌, ◌≤◌, ◌+◌, ◌-◌, ◌^◌, ◌*◌, ℕ, Bool, true, false, cond, ltb, List, [], ◌∷◌, ◌++◌, length, min, Option, Some, None, Result, Ok, Err, refl, sym, ap, subst, ◌∙◌, append_assoc, arith}
+use Rattle.std.proofs.lemmas.Bool.{ltb-true, ltb-false}
 use Rattle.std.proofs.lemmas.List.{length-append, append-nil}
 use Rattle.std.specs.Borrow.{Bor}
 use Rattle.std.specs.Int.{to_be_bytes, w8, w32}
@@ -14,11 +14,10 @@ use Rattle.amqp_types.specs.declared.forms.Head.{Head}
 use Rattle.amqp_types.specs.declared.forms.Head.TheVariants as head
 use Rattle.amqp_types.specs.declared.value.Value.{Value}
 use Rattle.amqp_types.specs.Codes.{class_of, octets_in}
-use Rattle.amqp_types.specs.Datum.{Datum, Data, number, octets, list, map, array, described, count_of}
-use Rattle.amqp_types.specs.Grammar.{is_even, is_element}
-use Rattle.amqp_types.specs.View.{view, views, views_of_pairs}
+use Rattle.amqp_types.specs.Datum.{Datum, Data, number, list, map, array, described}
+use Rattle.amqp_types.specs.View.{views, views_of_pairs}
 use Rattle.amqp_types.specs.Reading.{◌>>=◌}
-use Rattle.amqp_types.specs.Canon.{field, size_field, frame_head, list_head, map_head, array_head, described_head, Draft, number_draft, octets_draft, list_draft, map_draft, array_draft, described_draft, head_of, content_of, draft_form, spelled, draft, part_form, parts_form, Appends, canon, capped}
+use Rattle.amqp_types.specs.Canon.{size_field, frame_head, list_head, map_head, array_head, Draft, number_draft, octets_draft, list_draft, map_draft, array_draft, described_draft, head_of, content_of, spelled, draft, part_form, parts_form, Appends, canon, capped}
 use Rattle.amqp_types.specs.Writing.{code_for, frame_code}
 use Rattle.amqp_types.specs.Forms.{Writes, head_form, head_code, spelled_head, capped_with}
 use Rattle.amqp_types.proofs.Canonical.{canon_there}

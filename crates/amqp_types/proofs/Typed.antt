@@ -16,7 +16,6 @@ use Rattle.amqp_types.specs.declared.class.Width.{Width}
 use Rattle.amqp_types.specs.Codes.{run_index}
 use Rattle.amqp_types.specs.Grammar.{is_run, is_ascii}
 use Rattle.amqp_types.specs.Datum.{Datum, number, octets}
-use Rattle.amqp_types.specs.Reading.{◌>>=◌}
 use Rattle.amqp_types.specs.Canon.{number_form, size_field, octets_head, number_draft, octets_draft, canon, AppendsCanon}
 use Rattle.amqp_types.specs.Writing.{number_code, octets_code, sized_octets}
 use Rattle.amqp_types.proofs.Canonical.{canon_is}
@@ -173,3 +172,6 @@ refuses form none = (λ h. none, λ h. refl)
 
 pub accepts : (r : Result (Unit {0}) WriteFault) (form : Option (List ℕ)) (x : List ℕ) → form ≡ Some x → (r ≡ refused → ⊥) → (r ≡ refused → form ≡ None) × (form ≡ None → r ≡ refused)
 accepts r form x there apart = (λ h. absurd (apart h), λ h. absurd (let q : ◌≡◌ {A = Option (List ℕ)} None (Some x) = sym h ∙ there in cc))
+
+pub no_memory_apart : (r : Result (Unit {0}) WriteFault) (e : WriteFault) → r ≡ Err e → e ≡ fault.NoMemory → r ≡ refused → ⊥
+no_memory_apart r e is short h = cc

@@ -1,5 +1,5 @@
 -- What the writer's functions give, told in the words of the canonical spelling.
-use Rattle.std.specs.Prelude.{◌≡◌, ◌+◌, ◌-◌, ◌^◌, ℕ, List, [], ◌∷◌, ◌++◌, length, min, Option, Some, None, Result, Ok, Err, if◌then◌else◌, ◌==◌}
+use Rattle.std.specs.Prelude.{◌≡◌, ◌+◌, ◌-◌, ◌^◌, ℕ, List, ◌∷◌, length, min, Option, Some, None, Result, Ok, Err, if◌then◌else◌, ◌==◌}
 use Rattle.amqp_types.specs.declared.class.Class.{Class}
 use Rattle.amqp_types.specs.declared.fault.WriteFault.{WriteFault}
 use Rattle.amqp_types.specs.declared.fault.WriteFault.TheVariants as fault

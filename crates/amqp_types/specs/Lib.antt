@@ -10,3 +10,4 @@ pub mod Canon
 pub mod Writing
 pub mod Forms
 pub mod Shape
+pub mod Shortest

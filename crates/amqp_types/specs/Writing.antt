@@ -1,5 +1,5 @@
 -- The code that the writer chooses: the shortest that fits.
-use Rattle.std.specs.Prelude.{◌≡◌, ◌+◌, ◌-◌, ◌^◌, ◌==◌, ◌&&◌, ℕ, ◌∷◌, length, Option, Some, None, Result, Ok, Err, nat_lt, if◌then◌else◌, List, ◌++◌}
+use Rattle.std.specs.Prelude.{◌+◌, ◌-◌, ◌^◌, ◌==◌, ◌&&◌, ℕ, ◌∷◌, length, nat_lt, if◌then◌else◌, List, ◌++◌}
 use Rattle.std.specs.Int.{to_be_bytes, w8, w32}
 use Rattle.amqp_types.specs.declared.class.Kind.{Kind}
 use Rattle.amqp_types.specs.declared.class.Run.{Run}

@@ -189,7 +189,7 @@ pub fn write_symbol(out: &mut Vec<u8>, text: &str) -> Result<(), WriteFault>
 #[inline]
 pub fn write_list_head(out: &mut Vec<u8>, count: usize, size: usize) -> Result<(), WriteFault>
     ensures ok { OnOk result (Appends (list_front count size) out.old.items out.new.items) }
-    ensures refused { result ≡ Err WriteFault.NotWritable → list_front count size ≡ None }
+    ensures refused { (result ≡ Err WriteFault.NotWritable) ↔ (list_front count size ≡ None) }
     ensures err { OnErr result (out.new.items ≡ out.old.items) }
 {
     if count == 0 {

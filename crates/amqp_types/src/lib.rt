@@ -29,7 +29,7 @@
 //! - [`read_uint`] and its like, [`read_list_head`], [`read_descriptor`]: fields of one type, read in place
 //! - [`write_value`], [`value_size`]: whole values, written behind octets
 //! - [`write_uint`] and its like, [`write_list_head`], [`uint_size`], [`ulong_size`]: fields of one type, written
-//! - [`one_spelling`], [`canon_spells`]: the laws of spellings
+//! - [`one_spelling`], [`canon_spells`], [`read_back`], [`canon_is_shortest`]: the laws of spellings
 #![tactic(auto)]
 
 mod append;
@@ -67,7 +67,7 @@ pub use skip::{skip_value, skip_within};
 pub use tag::Tag;
 pub use text::Text;
 pub use value::Value;
-pub use write::{canon_spells, value_size, write_value};
+pub use write::{canon_is_shortest, canon_spells, read_back, value_size, write_value};
 
 #[cfg(test)]
 mod tests;

@@ -155,10 +155,38 @@ fn fields(rt: HostRuntime) -> Result<(), Fail> {
         out.as_slice(),
         [0x40, 0x41, 0x50, 7, 0x60, 1, 2, 0x52, 0xff, 0x53, 0x24].as_slice()
     );
-    assert_eq!(rt; uint_size(256), 5);
-    assert_eq!(rt; ulong_size(0), 1);
     assert_eq!(rt; value_size(&Value::Uint(255)), Some(2));
     Ok(())
+}
+
+// Octets, texts and what stands in front of a list's items, behind one another.
+#[test]
+fn written(rt: HostRuntime) -> Result<(), Fail> {
+    let mut out = Vec::new(rt.alloc());
+    write_binary(&mut out, &[1, 2])?;
+    write_string(&mut out, "\u{e9}")?;
+    write_symbol(&mut out, "x")?;
+    write_list_head(&mut out, 2, 3)?;
+    write_uint(&mut out, 1)?;
+    write_boolean(&mut out, true)?;
+    assert_eq!(rt;
+        out.as_slice(),
+        [
+            0xa0, 2, 1, 2, 0xa1, 2, 0xc3, 0xa9, 0xa3, 1, 0x78, 0xc0, 4, 2, 0x52, 1, 0x41
+        ]
+        .as_slice()
+    );
+    Ok(())
+}
+
+#[test]
+fn sizes(rt: HostRuntime) {
+    assert_eq!(rt; uint_size(0), 1);
+    assert_eq!(rt; uint_size(255), 2);
+    assert_eq!(rt; uint_size(256), 5);
+    assert_eq!(rt; ulong_size(0), 1);
+    assert_eq!(rt; ulong_size(36), 2);
+    assert_eq!(rt; ulong_size(256), 9);
 }
 
 #[test]

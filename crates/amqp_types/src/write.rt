@@ -1,11 +1,12 @@
 //! Writing the canonical spelling of a value.
-ghost use Rattle.std.specs.Prelude.{◌≡◌, ◌≤◌, ◌↔◌, ℕ, List, None, Some, Err, IsTrue, OnOk, OnErr};
+ghost use Rattle.std.specs.Prelude.{◌≡◌, ◌<◌, ◌≤◌, ◌++◌, ◌↔◌, ℕ, List, length, All, None, Some, Err, IsTrue, OnOk, OnErr};
 ghost use Rattle.amqp_types.specs.Datum.{Datum, depth_of, greatest_depth_of};
-ghost use Rattle.amqp_types.specs.Grammar.{Spells};
+ghost use Rattle.amqp_types.specs.Grammar.{Spells, BeginsWithValue};
 ghost use Rattle.amqp_types.specs.Canon.{part_form, parts_form, canon, capped, AppendsCanon};
 ghost use Rattle.amqp_types.specs.Forms.{Writes};
 ghost use Rattle.amqp_types.specs.View.{view, views, views_of_pairs};
 ghost use Rattle.amqp_types.specs.Shape.{datum_of};
+ghost use Rattle.amqp_types.specs.Shortest.{HasNoEmptyNulls};
 
 use crate::class::{Kind, Run};
 use crate::fault::WriteFault;
@@ -249,4 +250,16 @@ pub fn write_value(value: &Value, out: &mut Vec<u8>) -> Result<(), WriteFault>
 /// The canonical spelling is a spelling.
 pub fn canon_spells()
     ensures { (v : Datum) (x : List ℕ) → canon v ≡ Some x → Spells v x }
+{}
+
+/// What is written is read back, whatever follows it: that value is in front, and no other value and no other spelling.
+pub fn read_back()
+    ensures there { (v : Datum) (x rest : List ℕ) → canon v ≡ Some x → BeginsWithValue 32 (x ++ rest) }
+    ensures alone { (v w : Datum) (x rest y after : List ℕ) → canon v ≡ Some x → Spells w y → x ++ rest ≡ y ++ after → (w ≡ v) × (y ≡ x) }
+{}
+
+/// The canonical spelling is the shortest, of each value without an empty array of nulls. That array may be spelled without its constructor,
+/// which the canonical spelling has.
+pub fn canon_is_shortest()
+    ensures { (v : Datum) (x y : List ℕ) → HasNoEmptyNulls v → canon v ≡ Some x → Spells v y → All (λ o. o < 256) y → length x ≤ length y }
 {}

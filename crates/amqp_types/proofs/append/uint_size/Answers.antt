@@ -1,9 +1,9 @@
-use Rattle.std.proofs.Common.{◌∷◌, [], refl, sym, ap, ◌∙◌}
-use Rattle.std.specs.Int.{to_be_bytes, w8, w16, w32, w64}
+use Rattle.std.proofs.Common.{◌∷◌, []}
+use Rattle.std.specs.Int.{to_be_bytes, w8, w32}
 use Rattle.amqp_types.specs.declared.class.Kind.{Kind}
 use Rattle.amqp_types.specs.Datum.{number}
 use Rattle.amqp_types.specs.Canon.{canon}
-use Rattle.amqp_types.proofs.Typed.{appended, length_is, null_canon, true_canon, false_canon, ubyte_canon, ushort_canon, uint_zero, uint_small, uint_large, ulong_zero, ulong_small, ulong_large}
+use Rattle.amqp_types.proofs.Typed.{length_is, uint_zero, uint_small, uint_large}
 use Rattle.amqp_types.proofs.append.uint_size.Goals as goal
 
 pub returns-then-n-eq0 : goal.returns-then-n-eq0

@@ -1,11 +1,9 @@
-use Rattle.std.proofs.Common.{ℕ, List, ◌<◌, ◌^◌, ◌++◌, length, refl, sym, ap, ◌∙◌, arith}
-use Rattle.std.proofs.lemmas.Str.{is_utf8-from_IsUtf8}
+use Rattle.std.proofs.Common.{◌<◌, ◌^◌, length, arith}
 use Rattle.amqp_types.specs.declared.class.Run.{Run}
 use Rattle.amqp_types.specs.Datum.{octets}
-use Rattle.amqp_types.specs.Grammar.{is_ascii}
 use Rattle.amqp_types.specs.Canon.{canon}
 use Rattle.amqp_types.specs.Writing.{sized_octets}
-use Rattle.amqp_types.proofs.Typed.{binary_canon, str_canon, symbol_canon, long_canon, bad_canon, refuses, accepts}
+use Rattle.amqp_types.proofs.Typed.{binary_canon, long_canon, refuses, accepts}
 use Rattle.amqp_types.proofs.append.write_binary.Goals as goal
 
 pub returns-then-bytes-ge4294967296-clause-refused : goal.returns-then-bytes-ge4294967296-clause-refused

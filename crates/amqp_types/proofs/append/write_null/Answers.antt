@@ -1,9 +1,7 @@
-use Rattle.std.proofs.Common.{◌∷◌, [], refl, sym, ap, ◌∙◌}
-use Rattle.std.specs.Int.{to_be_bytes, w8, w16, w32, w64}
+use Rattle.std.proofs.Common.{◌∷◌, [], refl}
 use Rattle.amqp_types.specs.declared.class.Kind.{Kind}
 use Rattle.amqp_types.specs.Datum.{number}
-use Rattle.amqp_types.specs.Canon.{canon}
-use Rattle.amqp_types.proofs.Typed.{appended, length_is, null_canon, true_canon, false_canon, ubyte_canon, ushort_canon, uint_zero, uint_small, uint_large, ulong_zero, ulong_small, ulong_large}
+use Rattle.amqp_types.proofs.Typed.{appended, null_canon}
 use Rattle.amqp_types.proofs.append.write_null.Goals as goal
 
 pub returns-clause-ok : goal.returns-clause-ok

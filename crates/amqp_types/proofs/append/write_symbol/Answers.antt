@@ -1,11 +1,10 @@
-use Rattle.std.proofs.Common.{ℕ, List, ◌<◌, ◌^◌, ◌++◌, length, refl, sym, ap, ◌∙◌, arith}
-use Rattle.std.proofs.lemmas.Str.{is_utf8-from_IsUtf8}
+use Rattle.std.proofs.Common.{ℕ, List, ◌<◌, ◌^◌, ◌++◌, length, sym, ap, ◌∙◌, arith}
 use Rattle.amqp_types.specs.declared.class.Run.{Run}
 use Rattle.amqp_types.specs.Datum.{octets}
 use Rattle.amqp_types.specs.Grammar.{is_ascii}
 use Rattle.amqp_types.specs.Canon.{canon}
 use Rattle.amqp_types.specs.Writing.{sized_octets}
-use Rattle.amqp_types.proofs.Typed.{binary_canon, str_canon, symbol_canon, long_canon, bad_canon, refuses, accepts}
+use Rattle.amqp_types.proofs.Typed.{symbol_canon, long_canon, bad_canon, refuses, accepts}
 use Rattle.amqp_types.proofs.append.write_symbol.Goals as goal
 use Rattle.amqp_types.proofs.append.write_symbol.Goals.{then-text-ge4294967296-via-then-text-ge4294967296, then-text-ge4294967296-via-else-text-ge4294967296+then-not-is_ascii}
 

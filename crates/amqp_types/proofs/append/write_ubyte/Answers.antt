@@ -1,9 +1,8 @@
-use Rattle.std.proofs.Common.{◌∷◌, [], refl, sym, ap, ◌∙◌}
-use Rattle.std.specs.Int.{to_be_bytes, w8, w16, w32, w64}
+use Rattle.std.proofs.Common.{◌∷◌}
+use Rattle.std.specs.Int.{to_be_bytes, w8}
 use Rattle.amqp_types.specs.declared.class.Kind.{Kind}
 use Rattle.amqp_types.specs.Datum.{number}
-use Rattle.amqp_types.specs.Canon.{canon}
-use Rattle.amqp_types.proofs.Typed.{appended, one_octet, length_is, null_canon, true_canon, false_canon, ubyte_canon, ushort_canon, uint_zero, uint_small, uint_large, ulong_zero, ulong_small, ulong_large}
+use Rattle.amqp_types.proofs.Typed.{appended, one_octet, ubyte_canon}
 use Rattle.amqp_types.proofs.append.write_ubyte.Goals as goal
 
 pub returns-clause-ok : goal.returns-clause-ok

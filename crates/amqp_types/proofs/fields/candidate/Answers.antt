@@ -1,4 +1,3 @@
-use Rattle.std.proofs.Common.{[], ◌∷◌, refl}
 use Rattle.amqp_types.specs.declared.class.Width.{Width}
 use Rattle.amqp_types.proofs.Fronts.{candidate_other, candidate_no_size, candidate_short, candidate_after, candidate_found}
 use Rattle.amqp_types.proofs.fields.candidate.Goals as goal

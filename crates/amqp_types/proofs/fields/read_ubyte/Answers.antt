@@ -1,10 +1,9 @@
-use Rattle.std.proofs.Common.{[], ◌∷◌, refl, sym, arith}
+use Rattle.std.proofs.Common.{[], ◌∷◌, refl, arith}
 use Rattle.std.proofs.lemmas.Bool.{lt-ltb}
 use Rattle.amqp_types.specs.declared.class.Kind.{Kind}
 use Rattle.amqp_types.specs.declared.class.Reading.{Reading}
 use Rattle.amqp_types.specs.declared.class.Width.{Width}
 use Rattle.amqp_types.specs.Codes.{class_of}
-use Rattle.amqp_types.proofs.Octets.{no_octets}
 use Rattle.amqp_types.proofs.Fronts.{front_found, front_short, front_other, not_code}
 use Rattle.amqp_types.proofs.fields.read_ubyte.Goals as goal
 

@@ -1,4 +1,4 @@
-use Rattle.std.proofs.Common.{[], ◌∷◌, refl, ap, ◌∙◌, arith}
+use Rattle.std.proofs.Common.{[], ◌∷◌, refl, ap, arith}
 use Rattle.amqp_types.specs.declared.class.Width.{Width}
 use Rattle.amqp_types.specs.Codes.{class_of}
 use Rattle.amqp_types.proofs.Fronts.{not_code}

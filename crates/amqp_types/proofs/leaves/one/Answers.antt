@@ -1,4 +1,3 @@
-use Rattle.std.proofs.Common.{◌∙◌}
 use Rattle.amqp_types.specs.declared.class.Width.{Width}
 use Rattle.amqp_types.proofs.Octets.{IsCut, cut_length, field_cut, number_of_one}
 use Rattle.amqp_types.proofs.leaves.one.Goals as goal

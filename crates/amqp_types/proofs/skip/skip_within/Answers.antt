@@ -1,4 +1,4 @@
-use Rattle.std.proofs.Common.{◌≤◌, ◌-◌, length, take, arith}
+use Rattle.std.proofs.Common.{arith}
 use Rattle.amqp_types.proofs.Scans.{no_scan, scan_short, scan_spelled}
 use Rattle.amqp_types.proofs.skip.skip_within.Goals as goal
 

@@ -1,4 +1,4 @@
-use Rattle.std.proofs.Common.{◌+◌, ◌*◌, length, arith, refl, sym, ap, ◌∙◌, ◌++◌, None, Some}
+use Rattle.std.proofs.Common.{◌*◌, length, arith, refl, ◌∙◌, ◌++◌, None}
 use Rattle.amqp_types.specs.Datum.{number, octets, list, map, array, described}
 use Rattle.amqp_types.specs.Canon.{number_draft, octets_draft, list_draft, map_draft, array_draft, described_draft, part_form}
 use Rattle.amqp_types.specs.View.{view, views, views_of_pairs}

@@ -1,7 +1,7 @@
-use Rattle.std.proofs.Common.{◌*◌, length, arith, subst, refl, sym, ap, ◌∙◌, ◌++◌, None, Some}
+use Rattle.std.proofs.Common.{◌*◌, length, arith, subst, refl, sym, ◌∙◌, None, Some}
 use Rattle.std.proofs.lemmas.Result.{err_from_is_err_and}
-use Rattle.amqp_types.specs.Datum.{Datum, number, octets, list, map, array, described}
-use Rattle.amqp_types.specs.Canon.{number_draft, octets_draft, list_draft, map_draft, array_draft, parts_form, part_form}
+use Rattle.amqp_types.specs.Datum.{Datum, octets, list, map, array}
+use Rattle.amqp_types.specs.Canon.{octets_draft, list_draft, map_draft, array_draft, parts_form, part_form}
 use Rattle.amqp_types.specs.Forms.{Writes}
 use Rattle.amqp_types.specs.View.{view, views, views_of_pairs}
 use Rattle.amqp_types.specs.declared.forms.Head.TheVariants as head
