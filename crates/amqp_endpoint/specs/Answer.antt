@@ -1,10 +1,10 @@
 -- What the endpoint answers to a step, and what it is afterwards: one line for each kind of step.
-use Rattle.std.specs.Prelude.{Option, Some, None, Result, Err}
+use Rattle.std.specs.Prelude.{Option, Some, Result, Err}
 use Rattle.amqp_endpoint.specs.declared.op.Op.{Op}
 use Rattle.amqp_endpoint.specs.declared.op.Op.TheVariants.{Start}
-use Rattle.amqp_endpoint.specs.declared.frames.Frame.{Frame}
-use Rattle.amqp_endpoint.specs.declared.frames.Performative.{Performative}
-use Rattle.amqp_endpoint.specs.declared.frames.Performative.TheVariants.{Flow, Transfer}
+use Rattle.amqp_frames.specs.declared.frame.Frame.{Frame}
+use Rattle.amqp_performatives.specs.declared.performative.Performative.{Performative}
+use Rattle.amqp_performatives.specs.declared.performative.Performative.TheVariants.{Flow}
 use Rattle.amqp_endpoint.specs.declared.reply.Reply.{Reply}
 use Rattle.amqp_endpoint.specs.declared.refusal.Refusal.{Refusal}
 use Rattle.amqp_endpoint.specs.declared.violation.Violation.{Violation}
@@ -21,17 +21,15 @@ abbrev pub next_own : View → Op → View
 next_own v (Start link tag format payload) = next_start v link
 
 abbrev pub body_answer : View → Option Performative → Result Reply Violation
-body_answer v None = Err (unlinked OutOfSession)
 body_answer v (Some (Flow b)) = flow_answer v b
-body_answer v (Some (Transfer b)) = Err (unlinked OutOfSession)
+body_answer v _ = Err (unlinked OutOfSession)
 
 abbrev pub heard_answer : View → Frame → Result Reply Violation
 heard_answer v f = body_answer v f.body
 
 abbrev pub next_body : View → Option Performative → View
-next_body v None = v
 next_body v (Some (Flow b)) = next_flow v b
-next_body v (Some (Transfer b)) = v
+next_body v _ = v
 
 abbrev pub next_heard : View → Frame → View
 next_heard v f = next_body v f.body

@@ -1,10 +1,10 @@
 -- A flow that is heard (part 2, 2.5.6, 2.6.7 and 2.7.4).
-use Rattle.std.specs.Prelude.{ℕ, ◌+◌, ◌-◌, ◌^◌, nat_lt, nat_le, Bool, false, Option, Some, None, Result, List, [], ◌∷◌, find, is_none, unwrap_or}
-use Rattle.amqp_endpoint.specs.declared.frames.FlowBody.{FlowBody}
+use Rattle.std.specs.Prelude.{ℕ, ◌+◌, ◌-◌, ◌^◌, ◌||◌, nat_lt, nat_le, Bool, false, Option, Some, None, Result, List, [], ◌∷◌, find, is_none, unwrap_or}
+use Rattle.amqp_performatives.specs.declared.bodies.FlowBody.{FlowBody}
 use Rattle.amqp_endpoint.specs.declared.reply.Reply.{Reply}
 use Rattle.amqp_endpoint.specs.declared.reply.Given.TheVariants.{Nothing}
 use Rattle.amqp_endpoint.specs.declared.violation.Violation.{Violation}
-use Rattle.amqp_endpoint.specs.declared.violation.ViolationKind.TheVariants.{BadHandle, CountAhead}
+use Rattle.amqp_endpoint.specs.declared.violation.ViolationKind.TheVariants.{OutOfSession, BadHandle, CountAhead}
 use Rattle.amqp_endpoint.specs.Serial.{distance}
 use Rattle.amqp_endpoint.specs.View.{View, LinkView, has_peer_handle, change_first}
 use Rattle.amqp_endpoint.specs.Refusing.{first_refusal, answered, unlinked}
@@ -35,10 +35,15 @@ abbrev pub link_is_ahead : List LinkView → FlowBody → Option ℕ → Bool
 link_is_ahead links b None = false
 link_is_ahead links b (Some h) = is_ahead b (find (has_peer_handle h) links)
 
+-- it asks for a drain or an answer, for which there is none
+abbrev pub asks_more : FlowBody → Bool
+asks_more b = unwrap_or b.drain false || unwrap_or b.echo false
+
 -- the violations, in the order of their numbers
 abbrev pub flow_violations : View → FlowBody → List (Bool × Violation)
 flow_violations v b =
-    (names_no_link v.links b.handle, unlinked BadHandle)
+    (asks_more b, unlinked OutOfSession)
+    ∷ (names_no_link v.links b.handle, unlinked BadHandle)
     ∷ (nat_lt v.transfers (session_lag v b), unlinked CountAhead)
     ∷ (link_is_ahead v.links b b.handle, unlinked CountAhead)
     ∷ []

@@ -3,10 +3,8 @@ pub mod ViolationNumbers
 pub mod Limits
 pub mod Serial
 pub mod View
-pub mod FlowFrame
-pub mod FlowReading
-pub mod TransferFrame
 pub mod Refusing
+pub mod Sending
 pub mod Start
 pub mod Ready
 pub mod Flow

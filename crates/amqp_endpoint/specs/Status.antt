@@ -3,7 +3,7 @@ use Rattle.std.specs.Prelude.{ℕ, false, Option, option_map, find}
 use Rattle.amqp_endpoint.specs.declared.status.WindowView.{WindowView}
 use Rattle.amqp_endpoint.specs.declared.status.LinkStatus.{LinkStatus}
 use Rattle.amqp_endpoint.specs.declared.status.LinkPhase.TheVariants.{Attached}
-use Rattle.amqp_endpoint.specs.declared.reply.Role.TheVariants.{Sender}
+use Rattle.amqp_performatives.specs.declared.bodies.Role.TheVariants.{Sender}
 use Rattle.amqp_endpoint.specs.View.{View, LinkView, has_number}
 
 abbrev pub windows_of : View → WindowView

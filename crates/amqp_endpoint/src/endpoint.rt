@@ -7,18 +7,19 @@ ghost use Rattle.amqp_endpoint.specs.Answer.{own_answer, next_own, heard_answer,
 ghost use Rattle.amqp_endpoint.specs.Refusing.{Gives, no_memory};
 
 use crate::config::Config;
-use crate::frames::{Frame, Performative};
 use crate::op::Op;
 use crate::refusal::Refusal;
 use crate::reply::Reply;
 use crate::status::{LinkStatus, WindowView};
 use crate::violation::{Violation, ViolationKind};
+use amqp_frames::{Frame, Performative};
 use link::{Link, status_of};
 use std::alloc::{AllocError, Global};
 use std::marker::Model;
 
 mod flow;
 mod link;
+mod sending;
 mod start;
 
 /// One end of a session. A refused operation and a frame that is not taken change nothing.

@@ -5,8 +5,6 @@
 //! |---|---|
 //! | `config` | what is settled before the first step |
 //! | `op` | the operations of the application |
-//! | `frames` | the frames that are sent and heard |
-//! | `flow_frame` | a flow, read from its octets |
 //! | `reply` | what a step gives |
 //! | `refusal`, `violation` | why an operation is refused, and what is wrong with a frame |
 //! | `status` | the windows and a link, as they stand |
@@ -15,13 +13,10 @@
 
 pub mod config;
 pub mod endpoint;
-pub mod flow_frame;
-pub mod frames;
 pub mod op;
 pub mod refusal;
 pub mod reply;
 pub mod status;
 #[cfg(test)]
 mod tests;
-mod transfer_frame;
 pub mod violation;

@@ -1,4 +1,4 @@
-use crate::frames::Frame;
+use amqp_frames::{Frame, Role};
 use amqp_types::Items;
 use bytes::Bytes;
 
@@ -7,13 +7,6 @@ use bytes::Bytes;
 pub struct Sent {
     pub frame: Frame,
     pub bytes: Bytes,
-}
-
-/// An end of a link (part 2, 2.8.1).
-#[derive(Clone, Copy, Debug, PartialEq, Eq)]
-pub enum Role {
-    Sender,
-    Receiver,
 }
 
 /// What a step tells the application.

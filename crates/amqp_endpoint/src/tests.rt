@@ -1,26 +1,35 @@
 use crate::config::Config;
 use crate::endpoint::Endpoint;
-use crate::flow_frame::read_flow;
 use crate::op::Op;
 use crate::refusal::Refusal;
 use crate::reply::Given;
 use crate::violation::{Violation, ViolationKind};
+use amqp_frames::{FlowBody, Frame, Performative};
 use amqp_types::Tag;
 use bytes::Bytes;
 use std::alloc::Global;
 use std::test::Fail;
 
-/// A flow that gives link 0 five credits.
-const CREDIT: [u8; 30] = [
-    0, 0, 0, 0x1e, 2, 0, 0, 0, 0, 0x53, 0x13, 0xc0, 0x11, 0x07, 0x43, 0x70, 0, 0, 8, 0, 0x43, 0x70,
-    0x7f, 0xff, 0xff, 0xff, 0x43, 0x43, 0x52, 5,
-];
-
-/// The same for handle 5, which no link has.
-const UNKNOWN: [u8; 31] = [
-    0, 0, 0, 0x1f, 2, 0, 0, 0, 0, 0x53, 0x13, 0xc0, 0x12, 0x07, 0x43, 0x70, 0, 0, 8, 0, 0x43, 0x70,
-    0x7f, 0xff, 0xff, 0xff, 0x52, 5, 0x43, 0x52, 5,
-];
+/// A flow that gives five credits to the link with this handle.
+fn credit(handle: u32) -> Frame {
+    Frame {
+        channel: 0,
+        body: Some(Performative::Flow(FlowBody {
+            next_incoming_id: Some(0),
+            incoming_window: 2048,
+            next_outgoing_id: 0,
+            outgoing_window: 2147483647,
+            handle: Some(handle),
+            delivery_count: Some(0),
+            link_credit: Some(5),
+            available: None,
+            drain: None,
+            echo: None,
+            properties: None,
+        })),
+        payload: Bytes::new(),
+    }
+}
 
 fn start(alloc: Global, link: u32, octets: &[u8]) -> Result<Op, Fail> {
     let tag = Tag::new(&[1]).ok_or("a tag")?;
@@ -39,8 +48,7 @@ fn credited(alloc: Global) -> Result<Endpoint, Fail> {
     if endpoint.steps() > 0 {
         return Err(Fail::from("it has no step yet"));
     }
-    let flow = read_flow(&CREDIT).ok_or("a flow")?;
-    endpoint.receive(&flow)?;
+    endpoint.receive(&credit(0))?;
     Ok(endpoint)
 }
 
@@ -95,7 +103,7 @@ fn refusals_come_without_a_step(rt: HostRuntime) -> Result<(), Fail> {
 #[test]
 fn violations_come_without_a_step(rt: HostRuntime) -> Result<(), Fail> {
     let mut endpoint = Endpoint::new(rt.alloc(), &Config { journal_limit: 1 })?;
-    let flow = read_flow(&UNKNOWN).ok_or("a flow")?;
+    let flow = credit(5);
     let told = endpoint.violation(&flow).ok_or("a violation")?;
     assert_eq!(rt; told, Violation::unlinked(ViolationKind::BadHandle));
     assert_eq!(rt; endpoint.receive(&flow).err(), Some(told));

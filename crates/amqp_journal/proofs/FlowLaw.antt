@@ -1,7 +1,7 @@
 -- A flow, as formulas over the whole past and as single changes.
 use Rattle.std.proofs.Common.{◌≡◌, ◌<◌, ◌≤◌, ℕ, ◌+◌, ◌-◌, ◌^◌, Bool, true, false, cond, eqb, Option, Some, None, List, [], ◌∷◌, length, unwrap_or, option_map, arith, refl, add-one}
-use Rattle.amqp_endpoint.specs.declared.frames.FlowBody.{FlowBody}
-use Rattle.amqp_endpoint.specs.declared.frames.Performative.TheVariants.{Flow}
+use Rattle.amqp_performatives.specs.declared.bodies.FlowBody.{FlowBody}
+use Rattle.amqp_performatives.specs.declared.performative.Performative.TheVariants.{Flow}
 use Rattle.amqp_endpoint.specs.declared.reply.Reply.{Reply}
 use Rattle.amqp_endpoint.specs.Serial.{wire, distance}
 use Rattle.amqp_endpoint.specs.View.{LinkView}

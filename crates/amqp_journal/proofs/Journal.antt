@@ -10,8 +10,8 @@ use Rattle.amqp_endpoint.specs.declared.op.Op.{Op}
 use Rattle.amqp_endpoint.specs.declared.op.Op.TheVariants.{Start}
 use Rattle.amqp_endpoint.specs.declared.refusal.Refusal.{Refusal}
 use Rattle.amqp_endpoint.specs.declared.refusal.Refusal.TheVariants.{NoMemory}
-use Rattle.amqp_endpoint.specs.declared.frames.Performative.{Performative}
-use Rattle.amqp_endpoint.specs.declared.frames.Performative.TheVariants.{Flow, Transfer}
+use Rattle.amqp_performatives.specs.declared.performative.Performative.{Performative}
+use Rattle.amqp_performatives.specs.declared.performative.Performative.TheVariants.{Flow}
 use Rattle.amqp_endpoint.specs.View.{View}
 use Rattle.amqp_endpoint.specs.Serial.{wire}
 use Rattle.amqp_endpoint.specs.Limits.{IsWithinLimits}
@@ -73,9 +73,8 @@ entry-ids before (Heard f) reply h = heard f.body h
   where
     heard : (body : Option Performative) → body_answer (at before) body ≡ Ok reply
         → ◌≡◌ {A = List (Option ℕ)} (map (λ b. b.delivery_id) (transfers_sent (record { step = Heard (record { channel = f.channel; body = body; payload = f.payload }); reply = reply }))) []
-    heard None h = absurd (cc)
     heard (Some (Flow b)) h = let a = flow_accepts (at before) b reply h in rw (← a.replies) refl
-    heard (Some (Transfer b)) h = absurd (cc)
+    heard _ h = absurd (cc)
 
 record Counted (first n : ℕ) (ids : List (Option ℕ)) : Type 0 where
   many : length ids ≡ n

@@ -3,8 +3,8 @@ use Rattle.std.proofs.Common.{◌+◌, zero, suc, ◌≡◌, ◌<◌, ◌≤◌,
 use Rattle.std.proofs.lemmas.Bool.{eqb-true}
 use Rattle.amqp_endpoint.specs.declared.op.Op.{Op}
 use Rattle.amqp_endpoint.specs.declared.op.Op.TheVariants.{Start}
-use Rattle.amqp_endpoint.specs.declared.frames.Performative.{Performative}
-use Rattle.amqp_endpoint.specs.declared.frames.Performative.TheVariants.{Flow, Transfer}
+use Rattle.amqp_performatives.specs.declared.performative.Performative.{Performative}
+use Rattle.amqp_performatives.specs.declared.performative.Performative.TheVariants.{Flow}
 use Rattle.amqp_endpoint.specs.declared.reply.Reply.{Reply}
 use Rattle.amqp_endpoint.specs.View.{LinkView}
 use Rattle.amqp_endpoint.specs.Answer.{body_answer}
@@ -30,9 +30,8 @@ heard-law : (past : List Entry) (channel : ℕ) (body : Option Performative) (pa
     → Answers (at past) (Heard (record { channel = channel; body = body; payload = payload })) reply
     → at (record { step = Heard (record { channel = channel; body = body; payload = payload }); reply = reply } ∷ past)
     ≡ next (at past) (Heard (record { channel = channel; body = body; payload = payload }))
-heard-law past channel None payload reply small h = absurd (cc)
 heard-law past channel (Some (Flow b)) payload reply small h = flow-law past channel b payload reply small (flow_accepts (at past) b reply h)
-heard-law past channel (Some (Transfer b)) payload reply small h = absurd (cc)
+heard-law past channel _ payload reply small h = absurd (cc)
 
 -- one entry more is one step of the view
 step-law : (past : List Entry) (step : Step) (reply : Reply) → sent_transfers past < 2 ^ 32
@@ -49,9 +48,8 @@ sends-one past (Own (Start link tag format payload)) reply h =
 sends-one past (Heard f) reply h = heard f.body h
   where
     heard : (body : Option Performative) → body_answer (at past) body ≡ Ok reply → length (transfers_sent (record { step = Heard (record { channel = f.channel; body = body; payload = f.payload }); reply = reply })) ≡ 0
-    heard None h = absurd (cc)
     heard (Some (Flow b)) h = let a = flow_accepts (at past) b reply h in rw (← a.replies) refl
-    heard (Some (Transfer b)) h = absurd (cc)
+    heard _ h = absurd (cc)
 
 at_most_one : (b : Bool) (n : ℕ) → n ≡ cond b 1 0 → n ≤ 1
 at_most_one true n e = omega arith

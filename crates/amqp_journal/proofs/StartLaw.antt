@@ -3,7 +3,7 @@ use Rattle.std.proofs.Common.{◌≡◌, ℕ, ◌+◌, ◌-◌, Bool, true, fals
 use Rattle.std.proofs.lemmas.Bool.{eq-eqb, eqb-true}
 use Rattle.amqp_endpoint.specs.declared.op.Op.TheVariants.{Start}
 use Rattle.amqp_endpoint.specs.declared.reply.Reply.{Reply}
-use Rattle.amqp_endpoint.specs.declared.frames.FlowBody.{FlowBody}
+use Rattle.amqp_performatives.specs.declared.bodies.FlowBody.{FlowBody}
 use Rattle.amqp_endpoint.specs.Serial.{wire}
 use Rattle.amqp_endpoint.specs.View.{LinkView}
 use Rattle.amqp_endpoint.specs.Start.{next_start, begin_delivery}

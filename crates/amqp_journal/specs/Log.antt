@@ -7,7 +7,7 @@ use Rattle.amqp_endpoint.specs.declared.refusal.Refusal.{Refusal}
 use Rattle.amqp_endpoint.specs.declared.refusal.Refusal.TheVariants.{JournalFull}
 use Rattle.amqp_endpoint.specs.declared.violation.Violation.{Violation}
 use Rattle.amqp_endpoint.specs.declared.violation.ViolationKind.TheVariants.{JournalFull as Full}
-use Rattle.amqp_endpoint.specs.declared.frames.Frame.{Frame}
+use Rattle.amqp_frames.specs.declared.frame.Frame.{Frame}
 use Rattle.amqp_endpoint.specs.declared.config.Config.{Config}
 use Rattle.amqp_endpoint.specs.Refusing.{unlinked}
 use Rattle.amqp_endpoint.specs.Answer.{own_answer, heard_answer}

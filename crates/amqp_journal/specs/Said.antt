@@ -1,27 +1,25 @@
 -- What one entry says.
 use Rattle.std.specs.Prelude.{ℕ, ◌==◌, Bool, true, false, Option, None, Some, List, filter_map}
 use Rattle.amqp_endpoint.specs.declared.op.Op.TheVariants.{Start}
-use Rattle.amqp_endpoint.specs.declared.frames.FlowBody.{FlowBody}
-use Rattle.amqp_endpoint.specs.declared.frames.TransferBody.{TransferBody}
-use Rattle.amqp_endpoint.specs.declared.frames.Performative.{Performative}
-use Rattle.amqp_endpoint.specs.declared.frames.Performative.TheVariants.{Flow, Transfer}
+use Rattle.amqp_performatives.specs.declared.bodies.FlowBody.{FlowBody}
+use Rattle.amqp_performatives.specs.declared.bodies.TransferBody.{TransferBody}
+use Rattle.amqp_performatives.specs.declared.performative.Performative.{Performative}
+use Rattle.amqp_performatives.specs.declared.performative.Performative.TheVariants.{Flow, Transfer}
 use Rattle.amqp_journal.specs.declared.entry.Entry.{Entry}
 use Rattle.amqp_journal.specs.declared.entry.Step.{Step}
 use Rattle.amqp_journal.specs.declared.entry.Step.TheVariants.{Own, Heard}
 
 abbrev pub transfer_in : Option Performative → Option TransferBody
-transfer_in None = None
-transfer_in (Some (Flow b)) = None
 transfer_in (Some (Transfer b)) = Some b
+transfer_in _ = None
 
 -- the transfers that the entry's reply sends
 abbrev pub transfers_sent : Entry → List TransferBody
 transfers_sent e = filter_map (λ s. transfer_in s.frame.body) e.reply.sent
 
 abbrev pub flow_in : Option Performative → Option FlowBody
-flow_in None = None
 flow_in (Some (Flow b)) = Some b
-flow_in (Some (Transfer b)) = None
+flow_in _ = None
 
 abbrev pub flow_of : Step → Option FlowBody
 flow_of (Own op) = None

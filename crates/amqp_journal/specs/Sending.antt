@@ -2,7 +2,7 @@
 use Rattle.std.specs.Prelude.{ℕ, ◌+◌, ◌-◌, ◌==◌, Option, None, Some, List, unwrap_or, option_map, cond}
 use Rattle.amqp_endpoint.specs.Serial.{wire, distance}
 use Rattle.amqp_endpoint.specs.View.{LinkView}
-use Rattle.amqp_endpoint.specs.declared.frames.FlowBody.{FlowBody}
+use Rattle.amqp_performatives.specs.declared.bodies.FlowBody.{FlowBody}
 use Rattle.amqp_journal.specs.declared.entry.Entry.{Entry}
 use Rattle.amqp_journal.specs.Past.{total, last_said}
 use Rattle.amqp_journal.specs.Said.{flow_heard, starts_on}

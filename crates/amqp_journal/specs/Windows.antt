@@ -2,7 +2,7 @@
 -- incoming-window 2048 and outgoing-window 2147483647; our first transfer has the id 0.
 use Rattle.std.specs.Prelude.{ℕ, ◌+◌, ◌-◌, ◌==◌, zero, suc, Option, None, Some, List, length, cond}
 use Rattle.amqp_endpoint.specs.Serial.{wire}
-use Rattle.amqp_endpoint.specs.declared.frames.FlowBody.{FlowBody}
+use Rattle.amqp_performatives.specs.declared.bodies.FlowBody.{FlowBody}
 use Rattle.amqp_journal.specs.declared.entry.Entry.{Entry}
 use Rattle.amqp_journal.specs.Past.{total}
 use Rattle.amqp_journal.specs.Said.{transfers_sent}

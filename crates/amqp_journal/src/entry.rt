@@ -1,6 +1,6 @@
-use amqp_endpoint::frames::Frame;
 use amqp_endpoint::op::Op;
 use amqp_endpoint::reply::Reply;
+use amqp_frames::Frame;
 
 /// What happened to the endpoint: an operation of the application, or a frame that was heard.
 #[derive(Drop, Debug)]

@@ -11,11 +11,11 @@ ghost use Rattle.amqp_journal.specs.Lawful.{IsLawful, NeverWithoutCredit, SendsS
 use crate::entry::{Entry, Step};
 use amqp_endpoint::config::Config;
 use amqp_endpoint::endpoint::Endpoint;
-use amqp_endpoint::frames::Frame;
 use amqp_endpoint::op::Op;
 use amqp_endpoint::refusal::Refusal;
 use amqp_endpoint::reply::Given;
 use amqp_endpoint::violation::{Violation, ViolationKind};
+use amqp_frames::Frame;
 use std::alloc::{AllocError, Global};
 use std::marker::Model;
 
@@ -35,8 +35,12 @@ impl Model for Logged {
     ghost use Rattle.amqp_journal.specs.At.{at};
     ghost use Rattle.amqp_journal.specs.Lawful.{IsLawful};
     ghost use Rattle.amqp_endpoint.specs.Limits.{IsWithinLimits};
+    ghost use Rattle.amqp_types.specs.contracts.value.Value as value;
+    ghost use Rattle.std.specs.Coded.{codes};
 
     ghost Value = { Log };
+
+    ghost coded = { Prim.hlevel (codes, value.the_row.coded) };
 
     ghost view = { λ l. record { config = l.config; journal = l.journal.items } };
 
@@ -118,7 +122,10 @@ impl Logged {
         };
         let (reply, again) = match self.endpoint.receive(frame) {
             Ok(both) => both,
-            Err(violation) => return Err(violation),
+            Err(violation) => {
+                drop(copy);
+                return Err(violation);
+            }
         };
         push_within(
             &mut self.journal,

@@ -1,20 +1,35 @@
 use crate::entry::Step;
 use crate::logged::{Logged, laws};
 use amqp_endpoint::config::Config;
-use amqp_endpoint::flow_frame::read_flow;
 use amqp_endpoint::op::Op;
 use amqp_endpoint::refusal::Refusal;
 use amqp_endpoint::reply::Given;
 use amqp_endpoint::violation::ViolationKind;
+use amqp_frames::{FlowBody, Frame, Performative};
 use amqp_types::Tag;
 use bytes::Bytes;
 use std::test::Fail;
 
 /// A flow that gives link 0 five credits.
-const CREDIT: [u8; 30] = [
-    0, 0, 0, 0x1e, 2, 0, 0, 0, 0, 0x53, 0x13, 0xc0, 0x11, 0x07, 0x43, 0x70, 0, 0, 8, 0, 0x43, 0x70,
-    0x7f, 0xff, 0xff, 0xff, 0x43, 0x43, 0x52, 5,
-];
+fn credit() -> Frame {
+    Frame {
+        channel: 0,
+        body: Some(Performative::Flow(FlowBody {
+            next_incoming_id: Some(0),
+            incoming_window: 2048,
+            next_outgoing_id: 0,
+            outgoing_window: 2147483647,
+            handle: Some(0),
+            delivery_count: Some(0),
+            link_credit: Some(5),
+            available: None,
+            drain: None,
+            echo: None,
+            properties: None,
+        })),
+        payload: Bytes::new(),
+    }
+}
 
 #[test]
 fn steps_are_kept(rt: HostRuntime) -> Result<(), Fail> {
@@ -29,7 +44,7 @@ fn steps_are_kept(rt: HostRuntime) -> Result<(), Fail> {
     };
     assert_eq!(rt; logged.apply(&start).err(), Some(Refusal::NoCredit));
     assert!(rt; logged.journal().is_empty());
-    let flow = read_flow(&CREDIT).ok_or("a flow")?;
+    let flow = credit();
     assert_eq!(rt; logged.receive(&flow)?, Given::Nothing);
     assert_eq!(rt; logged.apply(&start)?, Given::Delivery(0));
     assert_eq!(rt; logged.apply(&start).err(), Some(Refusal::JournalFull));

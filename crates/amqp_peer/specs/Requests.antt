@@ -1,7 +1,8 @@
 use Rattle.amqp_endpoint.specs.Limits.{IsWithinLimits}
 use Rattle.amqp_peer.specs.declared.command_line.Request.{Request}
-use Rattle.amqp_peer.specs.declared.command_line.Request.TheVariants.{Script}
+use Rattle.amqp_peer.specs.declared.command_line.Request.TheVariants.{Script, Frames}
 
 -- each setting that a command is run with is within its limits
 abbrev pub IsAllowed : Request → Type 0
 IsAllowed (Script config) = IsWithinLimits config
+IsAllowed Frames = Unit {0}

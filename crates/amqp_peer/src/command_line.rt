@@ -13,6 +13,8 @@ use std::convert::AsStr;
 pub enum Request {
     /// A run of `script` on a journal with these settings.
     Script(Config),
+    /// A run of `frames`.
+    Frames,
 }
 
 /// What the words ask for, the first of which is the program's name. The error holds what is to be told: a fault of
@@ -22,6 +24,9 @@ pub fn read_request<'a, S: AsStr>(alloc: Global, words: &'a [S]) -> Result<Reque
 {
     let mut command = program(alloc)?;
     let matches = command.try_get_matches_from_mut(words)?;
+    if matches.subcommand_matches("frames").is_some() {
+        return Ok(Request::Frames);
+    }
     let config = script_config(&matches);
     if config.is_within_limits() {
         return Ok(Request::Script(config));
@@ -39,10 +44,14 @@ fn program<'a>(alloc: Global) -> Result<Command<'a>, AllocError> {
     let script = Command::new(alloc, "script")
         .about("Reads lines from standard input and answers each with a line")
         .arg(limit)?;
+    let frames = Command::new(alloc, "frames").about(
+        "Reads octets in hexadecimal from standard input and names the frames in them",
+    );
     Command::new(alloc, "amqp_peer")
         .about("One end of an AMQP 1.0 connection")
         .subcommand_required(true)
-        .subcommand(script)
+        .subcommand(script)?
+        .subcommand(frames)
 }
 
 /// The settings of a `script`, whose limit is the greatest one where none is given.

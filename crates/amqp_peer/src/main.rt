@@ -3,6 +3,8 @@
 //! | module | what it holds |
 //! |---|---|
 //! | `command_line` | the commands and their options |
+//! | `lines` | the lines of an input, one after the other |
+//! | `frames` | the command `frames`: octets in hexadecimal, framed and named |
 //! | `script` | the command `script`: lines of text on one journal, one answer each |
 //! | `script::line`, `script::words` | what a line says |
 //! | `script::answer` | the text of an answer |
@@ -11,16 +13,20 @@
 //! |---|---|
 //! | 0 | all is done, or help was asked for |
 //! | 1 | a read, a write or an allocation failed; standard error has one line on it |
-//! | 2 | the command line is at fault, or the script had a bad line |
+//! | 2 | the command line is at fault, or a line was bad, or octets were no frames |
 #![tactic(auto)]
 
 pub mod command_line;
+pub mod frames;
+pub mod lines;
 pub mod script;
 #[cfg(test)]
 mod tests;
 
 use command_line::{Request, read_request};
-use script::{Outcome, run_script};
+use frames::{Framed, Octets, run_frames};
+use lines::Outcome;
+use script::run_script;
 use std::env::Env;
 use std::io::{BufReader, BufWriter};
 use std::process::ExitCode;
@@ -29,6 +35,8 @@ use std::{env, io};
 const FAULT: u8 = 1;
 
 const BAD_LINE: u8 = 2;
+
+const NO_FRAMES: u8 = 2;
 
 fn main(rt: HostRuntime) -> ExitCode {
     match run(&rt) {
@@ -53,10 +61,23 @@ where
             let outcome = run_script(rt.alloc(), &config, &mut reader, &mut writer)?;
             Ok(status_of(outcome))
         }
+        Ok(Request::Frames) => {
+            let mut reader = BufReader::new(rt.alloc(), rt.reader())?;
+            let mut writer = BufWriter::new(rt.alloc(), io::writer(rt))?;
+            let outcome = run_frames(rt.alloc(), &mut reader, &mut writer)?;
+            Ok(status_of_frames(outcome))
+        }
         Err(error) => {
             error.print(rt)?;
             Ok(ExitCode::from(error.exit_code() as u8))
         }
+    }
+}
+
+fn status_of_frames(framed: Framed) -> ExitCode {
+    match framed.octets {
+        Octets::Whole => status_of(framed.lines),
+        _ => ExitCode::from(NO_FRAMES),
     }
 }
 

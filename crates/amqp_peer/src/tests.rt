@@ -1,8 +1,11 @@
 //! What no clause says: texts and statuses, faults in mid-run, and the command line.
 
 use crate::command_line::{Request, read_request};
-use crate::script::{Outcome, ScriptFault, run_script};
+use crate::frames::{Framed, Octets, run_frames};
+use crate::lines::{Outcome, RunFault};
+use crate::script::run_script;
 use amqp_endpoint::config::Config;
+use amqp_frames::FrameFault;
 use std::alloc::Global;
 use std::io;
 use std::io::{BufReader, Read, Write};
@@ -191,13 +194,13 @@ fn failing_reader(rt: HostRuntime) -> Result<(), Fail> {
     let mut answers: Vec<u8> = Vec::new(rt.alloc());
     assert!(rt; config.is_within_limits());
     let outcome = run_script(rt.alloc(), &config, &mut reader, &mut answers);
-    assert!(rt; matches!(&outcome, Err(ScriptFault::Read(_))));
+    assert!(rt; matches!(&outcome, Err(RunFault::Read(_))));
     assert_eq!(rt; answers.as_slice(), b"link 1 none\nbad line\n".as_slice());
     let Err(fault) = outcome else {
         return Err(Fail::new("no fault"));
     };
     let text = format!(in rt.alloc(); "{fault}")?;
-    assert_eq!(rt; text.as_str(), "reading the script: the line is cut");
+    assert_eq!(rt; text.as_str(), "reading the input: the line is cut");
     Ok(())
 }
 
@@ -237,7 +240,7 @@ fn failing_writer(rt: HostRuntime) -> Result<(), Fail> {
     };
     assert!(rt; config.is_within_limits());
     let outcome = run_script(rt.alloc(), &config, &mut reader, &mut writer);
-    assert!(rt; matches!(&outcome, Err(ScriptFault::Write(_))));
+    assert!(rt; matches!(&outcome, Err(RunFault::Write(_))));
     assert_eq!(rt; writer.taken.as_slice(), START_REFUSED);
     Ok(())
 }
@@ -279,5 +282,115 @@ fn command_lines(rt: HostRuntime) -> Result<(), Fail> {
         let request = read_request(alloc, words)?;
         assert_eq!(rt; request, Request::Script(Config { journal_limit }));
     }
+    Ok(())
+}
+
+/// What `frames` says of the lines, and whether it prints this.
+fn framed(alloc: Global, lines: &[u8], wanted: &[u8]) -> Result<Framed, Fail> {
+    let mut reader: &[u8] = lines;
+    let mut answers: Vec<u8> = Vec::new(alloc);
+    let framed = run_frames(alloc, &mut reader, &mut answers)?;
+    if answers.as_slice() != wanted {
+        return Err(Fail::new("other lines"));
+    }
+    Ok(framed)
+}
+
+const ALL_GOOD: Framed = Framed {
+    lines: Outcome::EachLineGood,
+    octets: Octets::Whole,
+};
+
+fn faulty(fault: FrameFault) -> Framed {
+    Framed {
+        lines: Outcome::EachLineGood,
+        octets: Octets::Faulty(fault),
+    }
+}
+
+#[test]
+fn frames_are_named(rt: HostRuntime) -> Result<(), Fail> {
+    let alloc = rt.alloc();
+    let close = b"0000001b02000000 00a30f616d71703a636c6f73653a6c69737445";
+    let joined = b"0000001b0200000000a30f616d71703a636c6f73653a6c69737445\n";
+    let wanted = b"channel=0 name=close fields=0 payload=0\ntotal close 1\n";
+    assert_eq!(rt;
+        framed(alloc, joined.as_slice(), wanted.as_slice())?,
+        ALL_GOOD
+    );
+    let spaced = framed(alloc, close.as_slice(), b"bad line\n")?;
+    assert_eq!(rt; spaced.lines, Outcome::SomeLineBad);
+    assert_eq!(rt; spaced.octets, Octets::Whole);
+    Ok(())
+}
+
+#[test]
+fn frames_over_lines(rt: HostRuntime) -> Result<(), Fail> {
+    let lines = b"0000000802000000000000\n1b02000000005314c0070443
+zz
+43a0010143005375A00268\n690000\n\n";
+    let wanted = b"channel=0 name=empty fields=0 payload=0
+bad line
+channel=0 name=transfer fields=4 payload=7
+rest 2
+total empty 1
+total transfer 1
+";
+    let told = framed(rt.alloc(), lines.as_slice(), wanted.as_slice())?;
+    assert_eq!(rt; told.lines, Outcome::SomeLineBad);
+    assert_eq!(rt; told.octets, Octets::Unfinished);
+    assert_eq!(rt; framed(rt.alloc(), b"", b"")?, ALL_GOOD);
+    Ok(())
+}
+
+#[test]
+fn faults_of_frames(rt: HostRuntime) -> Result<(), Fail> {
+    let alloc = rt.alloc();
+    assert_eq!(rt;
+        framed(alloc, b"00000007", b"fault 1\n")?,
+        faulty(FrameFault::ShortSize)
+    );
+    assert_eq!(rt;
+        framed(alloc, b"0000000801000000", b"fault 2\n")?,
+        faulty(FrameFault::BadDoff)
+    );
+    assert_eq!(rt;
+        framed(alloc, b"0001000102000000", b"fault 3\n")?,
+        faulty(FrameFault::TooBig)
+    );
+    assert_eq!(rt;
+        framed(alloc, b"0000000802010000", b"fault 4\n")?,
+        faulty(FrameFault::BadKind)
+    );
+    Ok(())
+}
+
+#[test]
+fn faults_of_bodies(rt: HostRuntime) -> Result<(), Fail> {
+    let alloc = rt.alloc();
+    let fault = faulty(FrameFault::BadBody);
+    assert_eq!(rt; framed(alloc, b"0000000902000000ff", b"fault 5\n")?, fault);
+    assert_eq!(rt;
+        framed(alloc, b"0000000d020000000053184500\nzz\n", b"fault 5\n")?,
+        fault
+    );
+    Ok(())
+}
+
+/// A fault of the reader is told, and no total.
+#[test]
+fn frames_of_a_failing_reader(rt: HostRuntime) -> Result<(), Fail> {
+    let failing = FailsAfter {
+        octets: b"0000000802000000\n",
+        was_interrupted: false,
+    };
+    let mut reader = BufReader::new(rt.alloc(), failing)?;
+    let mut answers: Vec<u8> = Vec::new(rt.alloc());
+    let outcome = run_frames(rt.alloc(), &mut reader, &mut answers);
+    assert!(rt; matches!(&outcome, Err(RunFault::Read(_))));
+    assert_eq!(rt;
+        answers.as_slice(),
+        b"channel=0 name=empty fields=0 payload=0\n".as_slice()
+    );
     Ok(())
 }

@@ -47,6 +47,7 @@ mod skip;
 mod tag;
 mod text;
 mod value;
+mod within;
 mod write;
 
 pub use append::{
@@ -67,6 +68,7 @@ pub use skip::{skip_value, skip_within};
 pub use tag::Tag;
 pub use text::Text;
 pub use value::Value;
+pub use within::{append_map, append_value, is_symbol, map_size_within, size_within};
 pub use write::{canon_is_shortest, canon_spells, read_back, value_size, write_value};
 
 #[cfg(test)]

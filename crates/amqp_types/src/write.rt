@@ -57,7 +57,7 @@ fn shape_of(value: &Value) -> Shape<'_>
 
 /// How many octets spell the value, with its own code or under that of an array; `u64::MAX` stands for all from there on.
 #[cycle(measuring)]
-fn part_len(value: &Value, how: Option<u8>) -> Option<u64>
+pub(crate) fn part_len(value: &Value, how: Option<u8>) -> Option<u64>
     ensures { result ≡ capped (part_form how (view value.now)) }
 {
     match shape_of(value) {
@@ -98,7 +98,7 @@ fn parts_len(values: &[Value], how: Option<u8>) -> Option<u64>
 }
 
 #[cycle(measuring)]
-fn pairs_len(pairs: &[(Value, Value)]) -> Option<u64>
+pub(crate) fn pairs_len(pairs: &[(Value, Value)]) -> Option<u64>
     ensures { result ≡ capped (parts_form (views_of_pairs pairs.now) None) }
 {
     let mut size: u64 = 0;
@@ -112,7 +112,7 @@ fn pairs_len(pairs: &[(Value, Value)]) -> Option<u64>
 
 /// Writes the value with its own code, or under that of an array.
 #[cycle(putting)]
-fn put_part(value: &Value, how: Option<u8>, out: &mut Vec<u8>) -> Result<(), WriteFault>
+pub(crate) fn put_part(value: &Value, how: Option<u8>, out: &mut Vec<u8>) -> Result<(), WriteFault>
     ensures { Writes (part_form how (view value.now)) result out.old.items out.new.items }
 {
     match shape_of(value) {
@@ -156,7 +156,7 @@ fn put_parts(values: &[Value], how: Option<u8>, out: &mut Vec<u8>) -> Result<(),
 }
 
 #[cycle(putting)]
-fn put_pairs(pairs: &[(Value, Value)], out: &mut Vec<u8>) -> Result<(), WriteFault>
+pub(crate) fn put_pairs(pairs: &[(Value, Value)], out: &mut Vec<u8>) -> Result<(), WriteFault>
     ensures { Writes (parts_form (views_of_pairs pairs.now) None) result out.old.items out.new.items }
 {
     for pair in pairs {
@@ -168,7 +168,7 @@ fn put_pairs(pairs: &[(Value, Value)], out: &mut Vec<u8>) -> Result<(), WriteFau
 
 /// Whether the value is nested at most so deep.
 #[cycle(depth)]
-fn is_within(value: &Value, depth: u8) -> bool
+pub(crate) fn is_within(value: &Value, depth: u8) -> bool
     ensures { IsTrue result ↔ (depth_of (view value.now) ≤ depth) }
 {
     if depth == 0 {
@@ -198,7 +198,7 @@ fn are_within(values: &[Value], depth: u8) -> bool
 }
 
 #[cycle(depth)]
-fn pairs_are_within(pairs: &[(Value, Value)], depth: u8) -> bool
+pub(crate) fn pairs_are_within(pairs: &[(Value, Value)], depth: u8) -> bool
     ensures { IsTrue result ↔ (greatest_depth_of (views_of_pairs pairs.now) ≤ depth) }
 {
     for pair in pairs {

@@ -1,12 +1,12 @@
 ghost use Rattle.std.specs.Prelude.{◌≡◌, ◌<◌, ◌^◌, OnOk, OnErr};
-ghost use Rattle.amqp_endpoint.specs.Flow.{flow_answer, flow_violation, next_flow, no_reply, session_lag};
+ghost use Rattle.amqp_endpoint.specs.Flow.{asks_more, flow_answer, flow_violation, next_flow, no_reply, session_lag};
 ghost use Rattle.amqp_endpoint.specs.Refusing.{Gives, no_memory};
 
 use crate::endpoint::Endpoint;
 use crate::endpoint::link::{link_is_ahead, names_no_link, take_flow};
-use crate::frames::FlowBody;
 use crate::reply::{Given, Reply};
 use crate::violation::{Violation, ViolationKind};
+use amqp_frames::FlowBody;
 use amqp_types::Items;
 use std::alloc::Global;
 
@@ -25,6 +25,13 @@ pub(super) fn no_reply(alloc: Global) -> Reply
     }
 }
 
+/// The flow asks for a drain or an answer, for which there is none.
+fn asks_more(b: &FlowBody) -> bool
+    ensures { result ≡ asks_more b.now }
+{
+    b.drain.unwrap_or(false) || b.echo.unwrap_or(false)
+}
+
 impl Endpoint {
     /// How far our next transfer id is past the one that the peer awaits.
     fn session_lag(&self, b: &FlowBody) -> u32
@@ -37,6 +44,9 @@ impl Endpoint {
     pub(super) fn check_flow(&self, b: &FlowBody) -> Option<Violation>
         ensures { result ≡ flow_violation self.now b.now }
     {
+        if asks_more(b) {
+            return Some(Violation::unlinked(ViolationKind::OutOfSession));
+        }
         if names_no_link(self.links.as_slice(), b) {
             return Some(Violation::unlinked(ViolationKind::BadHandle));
         }

@@ -5,9 +5,8 @@ ghost use Rattle.amqp_endpoint.specs.Start.{begin_delivery};
 ghost use Rattle.amqp_endpoint.specs.Status.{link_status, status_of};
 ghost use Rattle.amqp_endpoint.specs.Flow.{flow_link, flow_links, link_lag, names_no_link, link_is_ahead};
 
-use crate::frames::FlowBody;
-use crate::reply::Role;
 use crate::status::{LinkPhase, LinkStatus};
+use amqp_frames::{FlowBody, Role};
 use std::marker::Model;
 
 /// An attached link on which we send.

@@ -1,72 +1,49 @@
-ghost use Rattle.std.specs.Prelude.{◌≡◌, ◌<◌, ◌^◌, OnOk, OnErr, IfOk, Err, MatchResult, length};
+ghost use Rattle.std.specs.Prelude.{◌≡◌, ◌<◌, ◌^◌, OnOk, OnErr, Err, MatchResult};
 ghost use Rattle.std.specs.Result.{result_err};
-ghost use Rattle.amqp_endpoint.specs.TransferFrame.{transfer_octets};
-ghost use Rattle.amqp_endpoint.specs.Start.{start_answer, next_start, start_reply};
+ghost use Rattle.amqp_endpoint.specs.Start.{start_body, start_answer, next_start};
 ghost use Rattle.amqp_endpoint.specs.Refusing.{Gives};
+ghost use Rattle.amqp_endpoint.specs.Sending.{frame_refused};
 
 use crate::endpoint::Endpoint;
 use crate::endpoint::link::{begin_delivery, place_of_number};
-use crate::frames::{Frame, Performative, TransferBody};
+use crate::endpoint::sending::{reply_twice, sending_refusal};
 use crate::refusal::Refusal;
-use crate::reply::{Given, Reply, Sent};
-use crate::transfer_frame::{transfer_size, write_transfer};
-use amqp_types::{Items, Tag};
+use crate::reply::{Given, Reply};
+use amqp_frames::{Performative, TransferBody};
+use amqp_types::Tag;
 use bytes::Bytes;
-use std::alloc::{AllocError, Global};
 
-/// The reply that sends the transfer; `bytes` are its octets.
-fn start_reply(
-    alloc: Global,
-    handle: u32,
-    id: u32,
-    tag: Tag,
-    format: u32,
-    payload: &Bytes,
-    bytes: Bytes,
-) -> Result<Reply, AllocError>
-    requires { bytes ≡ transfer_octets handle id tag format payload.now }
-    ensures { IfOk result (λ r. r ≡ start_reply handle id tag format payload.now) }
+/// The transfer on the link with this handle.
+fn start_body(handle: u32, id: u32, tag: Tag, format: u32) -> Option<Performative>
+    ensures { result ≡ start_body handle id tag format }
 {
-    let body = TransferBody {
+    Some(Performative::Transfer(TransferBody {
         handle,
         delivery_id: Some(id),
         delivery_tag: Some(tag),
         message_format: Some(format),
         settled: Some(true),
-    };
-    let frame = Frame {
-        channel: 0,
-        body: Some(Performative::Transfer(body)),
-        payload: payload.clone()?,
-    };
-    let mut sent = Vec::new(alloc);
-    sent.push(Sent { frame, bytes })?;
-    Ok(Reply {
-        sent: Items { items: sent },
-        ended: Items {
-            items: Vec::new(alloc),
-        },
-        given: Given::Delivery(id),
-    })
+        more: None,
+        rcv_settle_mode: None,
+        state: None,
+        resume: None,
+        aborted: None,
+        batchable: None,
+    }))
 }
 
-/// The reply twice; the two share the frame's octets.
-fn both_replies(
-    alloc: Global,
+/// Why the transfer is not sent to a peer that takes frames of `max` octets, want of memory aside.
+fn transfer_refusal(
     handle: u32,
     id: u32,
     tag: Tag,
     format: u32,
     payload: &Bytes,
-) -> Result<(Reply, Reply), AllocError>
-    requires { length (transfer_octets handle id tag format payload.now) < 2 ^ 32 }
-    ensures { IfOk result (λ r. r ≡ (start_reply handle id tag format payload.now, start_reply handle id tag format payload.now)) }
+    max: u32,
+) -> Option<Refusal>
+    ensures { result ≡ frame_refused max (start_body handle id tag format) payload.now }
 {
-    let bytes = write_transfer(alloc, handle, id, tag, format, payload)?;
-    let again = bytes.clone()?;
-    let first = start_reply(alloc, handle, id, tag, format, payload, bytes)?;
-    let second = start_reply(alloc, handle, id, tag, format, payload, again)?;
-    Ok((first, second))
+    sending_refusal(start_body(handle, id, tag, format), payload, max)
 }
 
 /// What a start needs once no refusal is due.
@@ -100,14 +77,17 @@ impl Endpoint {
             return Err(Refusal::NoWindow);
         }
         let handle = l.handle;
-        let size = transfer_size(handle, self.next_delivery, tag, format, payload);
-        if size >= 1 << 32 {
-            return Err(Refusal::NotWritable);
+        match transfer_refusal(
+            handle,
+            self.next_delivery,
+            tag,
+            format,
+            payload,
+            self.max_frame,
+        ) {
+            Some(refusal) => Err(refusal),
+            None => Ok(Ready { place, handle }),
         }
-        if size > self.max_frame as u64 {
-            return Err(Refusal::FrameTooBig);
-        }
-        Ok(Ready { place, handle })
     }
 
     /// The refusal that the start would meet, memory aside.
@@ -141,7 +121,9 @@ impl Endpoint {
     {
         let Ready { place, handle } = self.check_start(link, tag, format, payload)?;
         let id = self.next_delivery;
-        let Ok(both) = both_replies(self.alloc, handle, id, tag, format, payload) else {
+        let body = start_body(handle, id, tag, format);
+        let given = Given::Delivery(id);
+        let Ok(both) = reply_twice(self.alloc, body, payload, self.max_frame, given) else {
             return Err(Refusal::NoMemory);
         };
         self.steps += 1;

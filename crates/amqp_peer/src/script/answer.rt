@@ -2,9 +2,10 @@
 ghost use Rattle.std.specs.Prelude.{◌≤◌, length};
 
 use amqp_endpoint::refusal::Refusal;
-use amqp_endpoint::reply::{Given, Reply, Role, Sent};
+use amqp_endpoint::reply::{Given, Reply, Sent};
 use amqp_endpoint::status::{LinkPhase, LinkStatus, WindowView};
 use amqp_endpoint::violation::ViolationKind;
+use amqp_frames::Role;
 use amqp_types::Items;
 use std::fmt;
 use std::fmt::{Formatter, Write};

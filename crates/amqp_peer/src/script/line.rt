@@ -3,12 +3,14 @@ ghost use Rattle.std.specs.Prelude.{◌≡◌};
 ghost use Rattle.amqp_peer.specs.declared.script.line.LineFault.TheVariants.{NoMemory};
 
 use crate::script::words::Words;
-use amqp_endpoint::flow_frame::read_flow;
-use amqp_endpoint::frames::Frame;
 use amqp_endpoint::op::Op;
+use amqp_frames::{Frame, FrameFault, Framer};
 use bytes::Bytes;
 use std::alloc::{AllocError, AllocFailed, Global};
 use thiserror::Error;
+
+/// The longest frame that is heard, in octets.
+const MAX_FRAME: u32 = 65536;
 
 /// A line of a script.
 #[derive(Debug, Drop)]
@@ -52,20 +54,35 @@ impl Line {
     /// The line that these octets write, without the newline.
     pub fn read(alloc: Global, octets: &[u8]) -> Result<Line, LineFault> {
         let mut words = Words::of(octets);
-        let line = match words.word()? {
-            b"start" => Line::Own(read_start(alloc, &mut words)?),
-            b"hear" => return read_hear(alloc, words),
-            b"windows" => Line::Windows,
-            b"link" => Line::Link(words.number()?),
-            _ => return Err(LineFault::Bad),
-        };
-        words.end()?;
-        Ok(line)
+        match words.word()? {
+            b"start" => read_start(alloc, words),
+            b"hear" => read_hear(alloc, words),
+            b"windows" => ended(words, Line::Windows),
+            b"link" => read_link(words),
+            _ => Err(LineFault::Bad),
+        }
     }
 }
 
+/// The line, where no word is left.
+fn ended(words: Words<'_>, line: Line) -> Result<Line, LineFault> {
+    match words.end() {
+        Ok(()) => Ok(line),
+        Err(fault) => {
+            drop(line);
+            Err(fault)
+        }
+    }
+}
+
+/// The words after `link`.
+fn read_link(mut words: Words<'_>) -> Result<Line, LineFault> {
+    let link = words.number()?;
+    ended(words, Line::Link(link))
+}
+
 /// The words after `start`. A delivery is settled and in one transfer as yet.
-fn read_start(alloc: Global, words: &mut Words<'_>) -> Result<Op, LineFault> {
+fn read_start(alloc: Global, mut words: Words<'_>) -> Result<Line, LineFault> {
     let link = words.number()?;
     let tag = words.tag()?;
     let format = words.number()?;
@@ -75,19 +92,33 @@ fn read_start(alloc: Global, words: &mut Words<'_>) -> Result<Op, LineFault> {
         return Err(LineFault::Bad);
     }
     let payload = Bytes::from_vec(words.octets(alloc)?)?;
-    Ok(Op::Start {
+    let op = Op::Start {
         link,
         tag,
         format,
         payload,
-    })
+    };
+    ended(words, Line::Own(op))
 }
 
 /// The words after `hear`, which write one whole frame.
 fn read_hear(alloc: Global, words: Words<'_>) -> Result<Line, LineFault> {
     let octets = words.joined_octets(alloc)?;
-    match read_flow(octets.as_slice()) {
-        Some(frame) => Ok(Line::Hear(frame)),
-        None => Err(LineFault::Bad),
+    let mut framer = Framer::new(alloc, MAX_FRAME);
+    match framer.feed(octets.as_slice()) {
+        Ok((used, Some(frame))) => whole(octets.len(), used, frame),
+        Ok((_, None)) => Err(LineFault::Bad),
+        Err(FrameFault::NoMemory) => Err(LineFault::NoMemory),
+        Err(_) => Err(LineFault::Bad),
+    }
+}
+
+/// The line, where the frame has all octets.
+fn whole(octets: usize, used: usize, frame: Frame) -> Result<Line, LineFault> {
+    if used == octets {
+        Ok(Line::Hear(frame))
+    } else {
+        drop(frame);
+        Err(LineFault::Bad)
     }
 }

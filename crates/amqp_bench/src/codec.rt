@@ -1,0 +1,191 @@
+//! Frames written and read in memory.
+
+use amqp_frames::{
+    DispositionBody, FlowBody, Frame, FrameFault, Framer, Performative, Role, TransferBody,
+    write_frame,
+};
+use amqp_types::Tag;
+use bytes::Bytes;
+use std::alloc::Global;
+use std::rt::Clock;
+use std::time::{Duration, Instant};
+
+/// The longest frame.
+const MAX_FRAME: u32 = 65536;
+
+/// Writes and reads each of the three frames so many times.
+pub fn run_codec<R>(rt: &R, rounds: u32) -> anyhow::Result<()>
+where
+    R: AllocGlobal + Print + Eprint + Clock,
+{
+    measure_transfer(rt, rounds)?;
+    measure_flow(rt, rounds)?;
+    measure_disposition(rt, rounds)
+}
+
+fn measure_transfer<R>(rt: &R, rounds: u32) -> anyhow::Result<()>
+where
+    R: AllocGlobal + Print + Eprint + Clock,
+{
+    let frame = transfer(rt.alloc())?;
+    let measured = measure(rt, "transfer", &frame, rounds);
+    drop(frame);
+    measured
+}
+
+fn measure_flow<R>(rt: &R, rounds: u32) -> anyhow::Result<()>
+where
+    R: AllocGlobal + Print + Eprint + Clock,
+{
+    let frame = flow();
+    let measured = measure(rt, "flow", &frame, rounds);
+    drop(frame);
+    measured
+}
+
+fn measure_disposition<R>(rt: &R, rounds: u32) -> anyhow::Result<()>
+where
+    R: AllocGlobal + Print + Eprint + Clock,
+{
+    let frame = disposition();
+    let measured = measure(rt, "disposition", &frame, rounds);
+    drop(frame);
+    measured
+}
+
+fn measure<R>(rt: &R, name: &str, frame: &Frame, rounds: u32) -> anyhow::Result<()>
+where
+    R: AllocGlobal + Print + Eprint + Clock,
+{
+    let alloc = rt.alloc();
+    let begun = Instant::now(rt)?;
+    let written = write_many(alloc, frame, rounds)?;
+    let took = begun.elapsed(rt)?;
+    println!(rt; "{name} written {rounds} octets {written}")?;
+    tell(rt, name, "written", rounds, took)?;
+    measure_reading(rt, name, frame, rounds)
+}
+
+fn measure_reading<R>(rt: &R, name: &str, frame: &Frame, rounds: u32) -> anyhow::Result<()>
+where
+    R: AllocGlobal + Print + Eprint + Clock,
+{
+    let alloc = rt.alloc();
+    let octets = write_frame(alloc, frame, MAX_FRAME)?;
+    let begun = Instant::now(rt)?;
+    let (frames, payload) = read_many(alloc, octets.as_slice(), rounds)?;
+    let took = begun.elapsed(rt)?;
+    println!(rt; "{name} read {frames} payload {payload}")?;
+    tell(rt, name, "read", rounds, took)
+}
+
+/// How many octets were written in all.
+fn write_many(alloc: Global, frame: &Frame, rounds: u32) -> anyhow::Result<u64> {
+    let mut octets: u64 = 0;
+    for _ in 0..rounds {
+        let written = write_frame(alloc, frame, MAX_FRAME)?;
+        octets = octets.wrapping_add(written.len() as u64);
+    }
+    Ok(octets)
+}
+
+/// How many frames were read, and how many octets of payload they have.
+fn read_many(alloc: Global, octets: &[u8], rounds: u32) -> anyhow::Result<(u64, u64)> {
+    let mut framer = Framer::new(alloc, MAX_FRAME);
+    let mut frames: u64 = 0;
+    let mut payload: u64 = 0;
+    for _ in 0..rounds {
+        if let Some(size) = read_once(&mut framer, octets)? {
+            frames = frames.wrapping_add(1);
+            payload = payload.wrapping_add(size);
+        }
+    }
+    Ok((frames, payload))
+}
+
+/// How many octets of payload the frame has that these octets are.
+fn read_once(framer: &mut Framer, octets: &[u8]) -> Result<Option<u64>, FrameFault> {
+    match framer.feed(octets) {
+        Ok((_, Some(frame))) => {
+            let size = frame.payload.len() as u64;
+            drop(frame);
+            Ok(Some(size))
+        }
+        Ok((_, None)) => Ok(None),
+        Err(fault) => Err(fault),
+    }
+}
+
+/// Tells the time of one frame, and how many there are in a second.
+fn tell<R>(rt: &R, name: &str, way: &str, rounds: u32, took: Duration) -> anyhow::Result<()>
+where
+    R: Eprint,
+{
+    let nanoseconds = took.as_nanos().max(1);
+    let tenths = nanoseconds.saturating_mul(10) / rounds.max(1) as u128;
+    let each_second = (rounds as u128).saturating_mul(1000000000) / nanoseconds;
+    eprintln!(rt;
+        "{name} {way}: {}.{} ns a frame, {each_second} a second",
+        tenths / 10,
+        tenths % 10
+    )?;
+    Ok(())
+}
+
+/// A settled delivery of 100 octets.
+fn transfer(alloc: Global) -> anyhow::Result<Frame> {
+    let tag = Tag::new(&[0, 0, 0, 7]);
+    let payload = Bytes::from_vec([0x78; 100].to_vec(alloc)?)?;
+    Ok(Frame {
+        channel: 0,
+        body: Some(Performative::Transfer(TransferBody {
+            handle: 0,
+            delivery_id: Some(1000),
+            delivery_tag: tag,
+            message_format: Some(0),
+            settled: Some(true),
+            more: None,
+            rcv_settle_mode: None,
+            state: None,
+            resume: None,
+            aborted: None,
+            batchable: None,
+        })),
+        payload,
+    })
+}
+
+fn flow() -> Frame {
+    Frame {
+        channel: 0,
+        body: Some(Performative::Flow(FlowBody {
+            next_incoming_id: Some(1000),
+            incoming_window: 2048,
+            next_outgoing_id: 2000,
+            outgoing_window: 2147483647,
+            handle: Some(0),
+            delivery_count: Some(1000),
+            link_credit: Some(100),
+            available: Some(0),
+            drain: Some(false),
+            echo: None,
+            properties: None,
+        })),
+        payload: Bytes::new(),
+    }
+}
+
+fn disposition() -> Frame {
+    Frame {
+        channel: 0,
+        body: Some(Performative::Disposition(DispositionBody {
+            role: Role::Receiver,
+            first: 1000,
+            last: Some(1099),
+            settled: Some(true),
+            state: Some(amqp_frames::DeliveryState::Accepted),
+            batchable: None,
+        })),
+        payload: Bytes::new(),
+    }
+}

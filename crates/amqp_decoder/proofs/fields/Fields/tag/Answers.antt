@@ -1,0 +1,13 @@
+use Rattle.amqp_performatives.specs.Bodies.{boolean, ubyte, ushort, uint, ulong, binary, string, mapping, any, optional}
+use Rattle.amqp_performatives.specs.Fair.{is_present, is_tag}
+use Rattle.amqp_decoder.specs.Reading.{every}
+use Rattle.std.proofs.Common.{ℕ}
+use Rattle.std.specs.Prelude.{nat_le}
+use Rattle.amqp_decoder.proofs.FirstField.{optional_misses, optional_absent, optional_present}
+use Rattle.amqp_decoder.proofs.fields.Fields.tag.Goals as goal
+
+pub returns-in-Some : goal.returns-in-Some
+returns-in-Some c = optional_absent binary is_tag c.args.self.depth c.args.self.left c.args.self.octets.now c.in-Some.others.depth c.in-Some.others.left c.in-Some.others.octets.now c.in-Some.ensures
+
+pub returns-in-None-required_tag : goal.returns-in-None-required_tag
+returns-in-None-required_tag c = optional_misses binary is_tag c.args.self.depth c.args.self.left c.args.self.octets.now c.in-None.ensures c.in-None-required_tag.ensures

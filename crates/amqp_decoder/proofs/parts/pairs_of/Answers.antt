@@ -1,0 +1,7 @@
+use Rattle.std.proofs.Common.{sym, ap}
+use Rattle.amqp_types.proofs.Views.{view_map}
+use Rattle.amqp_performatives.specs.Part.{value}
+use Rattle.amqp_decoder.proofs.parts.pairs_of.Goals as goal
+
+pub returns-in-Map : goal.returns-in-Map
+returns-in-Map c = rw c.in-Map.is (ap value (sym (view_map c.in-Map.pairs)))

@@ -1,0 +1,27 @@
+-- What the private readers of performatives promise.
+use Rattle.std.specs.Prelude.{ℕ, ◌≡◌, ◌≤◌, IsTrue, Result, Ok, Err, List, ◌++◌, length, take}
+use Rattle.amqp_types.specs.Datum.{Datum}
+use Rattle.amqp_decoder.specs.declared.fields.Fields.{Fields as Cursor}
+use Rattle.amqp_performatives.specs.declared.performative.Performative.{Performative}
+use Rattle.amqp_decoder.specs.declared.reading.BodyFault.{BodyFault}
+use Rattle.amqp_decoder.specs.declared.reading.BodyFault.TheVariants.{NoBody, NoMemory}
+use Rattle.amqp_performatives.specs.Part.{IsDescriptor}
+use Rattle.amqp_performatives.specs.Bodies.{descriptor_of, fields_of}
+use Rattle.amqp_performatives.specs.Fair.{is_fair}
+use Rattle.amqp_performatives.specs.Spelling.{IsPerformative}
+use Rattle.amqp_decoder.specs.Reading.{AreFields}
+
+-- these are the performative's fields, behind its descriptor
+abbrev pub IsDescribed : Datum → Cursor → Performative → Type 0
+IsDescribed descriptor from p = IsTrue (is_fair p) × IsDescriptor (descriptor_of p) descriptor × AreFields from.depth from.left (fields_of p) from.octets.now
+
+abbrev pub ReadsDescribed : Datum → Cursor → Result Performative BodyFault → Type 0
+ReadsDescribed descriptor from (Ok p) = IsDescribed descriptor from p
+ReadsDescribed descriptor from (Err NoBody) = (p : Performative) → IsDescribed descriptor from p → ⊥
+ReadsDescribed descriptor from (Err NoMemory) = (p : Performative) × IsDescribed descriptor from p
+
+-- the performative in front of the octets, or that none is
+abbrev pub ReadsFront : List ℕ → Result (Performative × ℕ) BodyFault → Type 0
+ReadsFront octets (Ok found) = (found.1 ≤ length octets) × IsPerformative found.0 (take found.1 octets)
+ReadsFront octets (Err NoBody) = (p : Performative) (x rest : List ℕ) → IsPerformative p x → octets ≡ x ++ rest → ⊥
+ReadsFront octets (Err NoMemory) = (p : Performative) × (x rest : List ℕ) × IsPerformative p x × (octets ≡ x ++ rest)

@@ -1,0 +1,108 @@
+//! The performative in front of octets (part 2, 2.7).
+ghost use Rattle.std.specs.Prelude.{◌≡◌, ◌≤◌, ◌++◌, ℕ, List, length, take, IfOk, Err};
+ghost use Rattle.amqp_types.specs.Heads.{datum_of};
+ghost use Rattle.amqp_performatives.specs.declared.performative.Performative.{Performative};
+ghost use Rattle.amqp_performatives.specs.Spelling.{IsPerformative};
+ghost use Rattle.amqp_decoder.specs.ReadPerformatives.{ReadsDescribed, ReadsFront};
+
+use crate::fields::Fields;
+use crate::opening::{names, open};
+use crate::reading::{
+    BodyFault, read_close, read_detach, read_disposition, read_end, read_flow, read_transfer,
+};
+use crate::setup::{read_attach, read_begin, read_open};
+use amqp_performatives::Performative;
+use amqp_types::Descriptor;
+use std::alloc::Global;
+
+/// The performative with this descriptor and these fields.
+fn read_described(
+    alloc: Global,
+    descriptor: Descriptor<'_>,
+    fields: Fields<'_>,
+) -> Result<Performative, BodyFault>
+    requires { 5 ≤ fields.depth }
+    ensures { ReadsDescribed (datum_of descriptor.entry) fields.entry result }
+{
+    if names(descriptor, 0x14, "amqp:transfer:list") {
+        return match read_transfer(alloc, fields) {
+            Ok(body) => Ok(Performative::Transfer(body)),
+            Err(fault) => Err(fault),
+        };
+    }
+    if names(descriptor, 0x13, "amqp:flow:list") {
+        return match read_flow(alloc, fields) {
+            Ok(body) => Ok(Performative::Flow(body)),
+            Err(fault) => Err(fault),
+        };
+    }
+    if names(descriptor, 0x15, "amqp:disposition:list") {
+        return match read_disposition(alloc, fields) {
+            Ok(body) => Ok(Performative::Disposition(body)),
+            Err(fault) => Err(fault),
+        };
+    }
+    if names(descriptor, 0x10, "amqp:open:list") {
+        return match read_open(alloc, fields) {
+            Ok(body) => Ok(Performative::Open(body)),
+            Err(fault) => Err(fault),
+        };
+    }
+    if names(descriptor, 0x11, "amqp:begin:list") {
+        return match read_begin(alloc, fields) {
+            Ok(body) => Ok(Performative::Begin(body)),
+            Err(fault) => Err(fault),
+        };
+    }
+    if names(descriptor, 0x12, "amqp:attach:list") {
+        return match read_attach(alloc, fields) {
+            Ok(body) => Ok(Performative::Attach(body)),
+            Err(fault) => Err(fault),
+        };
+    }
+    if names(descriptor, 0x16, "amqp:detach:list") {
+        return match read_detach(alloc, fields) {
+            Ok(body) => Ok(Performative::Detach(body)),
+            Err(fault) => Err(fault),
+        };
+    }
+    if names(descriptor, 0x17, "amqp:end:list") {
+        return match read_end(alloc, fields) {
+            Ok(body) => Ok(Performative::End(body)),
+            Err(fault) => Err(fault),
+        };
+    }
+    if names(descriptor, 0x18, "amqp:close:list") {
+        return match read_close(alloc, fields) {
+            Ok(body) => Ok(Performative::Close(body)),
+            Err(fault) => Err(fault),
+        };
+    }
+    Err(BodyFault::NoBody)
+}
+
+/// The performative in front of the octets, with the whole depth that values may have.
+fn read_front(alloc: Global, octets: &[u8]) -> Result<(Performative, usize), BodyFault>
+    ensures { ReadsFront octets.now result }
+{
+    match open(octets, 32) {
+        Some(opened) => match read_described(alloc, opened.descriptor, opened.fields) {
+            Ok(performative) => Ok((performative, opened.used)),
+            Err(fault) => Err(fault),
+        },
+        None => Err(BodyFault::NoBody),
+    }
+}
+
+/// Reads the performative at the front of the octets (part 1, 1.4; part 2, 2.7), and tells how many octets spell it.
+///
+/// # Errors
+///
+/// `NoBody` where no performative is in front, and `NoMemory` where one is and there is no memory for its fields of any type.
+pub fn read_performative(alloc: Global, octets: &[u8]) -> Result<(Performative, usize), BodyFault>
+    ensures found { IfOk result (λ found. (found.1 ≤ length octets.now) × IsPerformative found.0 (take found.1 octets.now)) }
+    ensures none { result ≡ Err BodyFault.NoBody → (p : Performative) (x rest : List ℕ) → IsPerformative p x → octets.now ≡ x ++ rest → ⊥ }
+    ensures memory { result ≡ Err BodyFault.NoMemory → (p : Performative) × (x rest : List ℕ) × IsPerformative p x × (octets.now ≡ x ++ rest) }
+{
+    read_front(alloc, octets)
+}

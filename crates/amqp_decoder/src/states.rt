@@ -1,0 +1,225 @@
+//! Delivery states (part 3, 3.4).
+ghost use Rattle.std.specs.Prelude.{◌≡◌, ◌≤◌, ◌&&◌, false, ℕ, IfOk, MatchOption, option_map};
+ghost use Rattle.amqp_types.specs.Heads.{datum_of};
+ghost use Rattle.amqp_performatives.specs.Bodies.{state as state_part, optional};
+ghost use Rattle.amqp_performatives.specs.Fair.{where_present, is_present, is_fair_state, names_state};
+ghost use Rattle.amqp_decoder.specs.Opening.{NoStateNamed};
+ghost use Rattle.amqp_performatives.specs.Part.{IsDescriptor};
+ghost use Rattle.amqp_decoder.specs.Parts.{ReadsAll, state_in, values_in};
+ghost use Rattle.amqp_decoder.specs.Reading.{Reads, MissesAbsent, every};
+ghost use Rattle.amqp_decoder.specs.States.{type_of, is_of, received_fields, modified_fields, state_fields};
+
+use crate::borrowed::{StateRef, ValueRef};
+use crate::fields::Fields;
+use crate::opening::{names, open};
+use crate::parts::{lone_error, owned_error, owned_value};
+use amqp_performatives::DeliveryState;
+use amqp_types::{Descriptor, read_descriptor};
+use std::alloc::{AllocError, Global};
+
+/// The types of delivery states.
+#[derive(Clone, Copy)]
+enum StateKind {
+    Received,
+    Accepted,
+    Rejected,
+    Released,
+    Modified,
+}
+
+/// The type that the descriptor names.
+#[inline]
+fn state_kind(descriptor: Descriptor<'_>) -> Option<StateKind>
+    ensures { MatchOption result (names_state (datum_of descriptor.entry) ≡ false) (λ k. IsDescriptor (type_of k) (datum_of descriptor.entry)) }
+{
+    if names(descriptor, 0x24, "amqp:accepted:list") {
+        return Some(StateKind::Accepted);
+    }
+    if names(descriptor, 0x23, "amqp:received:list") {
+        return Some(StateKind::Received);
+    }
+    if names(descriptor, 0x25, "amqp:rejected:list") {
+        return Some(StateKind::Rejected);
+    }
+    if names(descriptor, 0x26, "amqp:released:list") {
+        return Some(StateKind::Released);
+    }
+    if names(descriptor, 0x27, "amqp:modified:list") {
+        return Some(StateKind::Modified);
+    }
+    None
+}
+
+/// The fields of received (part 3, 3.4.1).
+fn received_fields(fields: Fields<'_>) -> Option<(u32, u64)>
+    ensures { ReadsAll received_fields every fields.entry result }
+{
+    let (section_number, fields) = fields.required_uint()?;
+    let (section_offset, fields) = fields.required_ulong()?;
+    if !fields.is_at_end() {
+        return None;
+    }
+    Some((section_number, section_offset))
+}
+
+/// The fields of modified (part 3, 3.4.5).
+fn modified_fields(fields: Fields<'_>) -> Option<(Option<bool>, Option<bool>, Option<ValueRef<'_>>)>
+    ensures { ReadsAll modified_fields (λ m. where_present is_present m.2) fields.entry (option_map (λ r. (r.0, r.1, values_in r.2)) result) }
+{
+    let (delivery_failed, fields) = fields.boolean()?;
+    let (undeliverable_here, fields) = fields.boolean()?;
+    let (message_annotations, fields) = fields.any()?;
+    if !fields.is_at_end() {
+        return None;
+    }
+    Some((delivery_failed, undeliverable_here, message_annotations))
+}
+
+/// The state of this type that has these fields.
+fn state_fields(kind: StateKind, fields: Fields<'_>) -> Option<StateRef<'_>>
+    requires { 3 ≤ fields.depth }
+    ensures { ReadsAll state_fields (λ s. is_of kind s && is_fair_state s) fields.entry (option_map state_in result) }
+{
+    match kind {
+        StateKind::Received => match received_fields(fields) {
+            Some((section_number, section_offset)) => Some(StateRef::Received {
+                section_number,
+                section_offset,
+            }),
+            None => None,
+        },
+        StateKind::Accepted => if fields.is_at_end() {
+            Some(StateRef::Accepted)
+        } else {
+            None
+        },
+        StateKind::Rejected => match lone_error(fields) {
+            Some(error) => Some(StateRef::Rejected(error)),
+            None => None,
+        },
+        StateKind::Released => if fields.is_at_end() {
+            Some(StateRef::Released)
+        } else {
+            None
+        },
+        StateKind::Modified => match modified_fields(fields) {
+            Some((delivery_failed, undeliverable_here, message_annotations)) => Some(
+                StateRef::Modified {
+                    delivery_failed,
+                    undeliverable_here,
+                    message_annotations,
+                },
+            ),
+            None => None,
+        },
+    }
+}
+
+impl<'a> Fields<'a> {
+    /// A state that is none of the five, as a transaction's: kept as it is.
+    fn other_state(self) -> Option<(StateRef<'a>, Fields<'a>)>
+        requires deep { 5 ≤ self.depth }
+        requires present { MissesAbsent self.left self.octets.now }
+        requires other { NoStateNamed self.depth self.octets.now }
+        ensures { Reads state_part is_fair_state self.entry (option_map (λ r. (state_in r.0, r.1)) result) }
+    {
+        match self.value() {
+            Some((value, others)) => Some((StateRef::Other(value), others)),
+            None => None,
+        }
+    }
+
+    /// A state that is there.
+    fn required_state(self) -> Option<(StateRef<'a>, Fields<'a>)>
+        requires deep { 5 ≤ self.depth }
+        requires present { MissesAbsent self.left self.octets.now }
+        ensures { Reads state_part is_fair_state self.entry (option_map (λ r. (state_in r.0, r.1)) result) }
+    {
+        match open(self.octets, self.depth) {
+            Some(opened) => match state_kind(opened.descriptor) {
+                Some(kind) => match state_fields(kind, opened.fields) {
+                    Some(state) => Some((state, self.after(opened.used))),
+                    None => None,
+                },
+                None => self.other_state(),
+            },
+            None => match read_descriptor(self.octets) {
+                Some((descriptor, _)) => match state_kind(descriptor) {
+                    Some(_) => None,
+                    None => self.other_state(),
+                },
+                None => self.other_state(),
+            },
+        }
+    }
+
+    /// A state.
+    #[inline]
+    pub(crate) fn state(self) -> Option<(Option<StateRef<'a>>, Fields<'a>)>
+        requires { 5 ≤ self.depth }
+        ensures { Reads (optional state_part) (where_present is_fair_state) self.entry (option_map (λ r. (option_map state_in r.0, r.1)) result) }
+    {
+        match self.absent() {
+            Some(others) => Some((None, others)),
+            None => match self.required_state() {
+                Some((state, others)) => Some((Some(state), others)),
+                None => None,
+            },
+        }
+    }
+}
+
+/// A state in memory of its own.
+fn owned_present(alloc: Global, state: StateRef<'_>) -> Result<DeliveryState, AllocError>
+    ensures part { IfOk result (λ s. state_part s ≡ state_part (state_in state.entry)) }
+    ensures fair { IfOk result (λ s. is_fair_state s ≡ is_fair_state (state_in state.entry)) }
+{
+    match state {
+        StateRef::Received {
+            section_number,
+            section_offset,
+        } => Ok(DeliveryState::Received {
+            section_number,
+            section_offset,
+        }),
+        StateRef::Accepted => Ok(DeliveryState::Accepted),
+        StateRef::Rejected(borrowed) => {
+            let error = owned_error(alloc, borrowed)?;
+            Ok(DeliveryState::Rejected(error))
+        }
+        StateRef::Released => Ok(DeliveryState::Released),
+        StateRef::Modified {
+            delivery_failed,
+            undeliverable_here,
+            message_annotations,
+        } => {
+            let message_annotations = owned_value(alloc, message_annotations)?;
+            Ok(DeliveryState::Modified {
+                delivery_failed,
+                undeliverable_here,
+                message_annotations,
+            })
+        }
+        StateRef::Other(borrowed) => {
+            let value = borrowed.owned(alloc)?;
+            Ok(DeliveryState::Other(value))
+        }
+    }
+}
+
+/// A state, where there is one, in memory of its own.
+pub(crate) fn owned_state(
+    alloc: Global,
+    state: Option<StateRef<'_>>,
+) -> Result<Option<DeliveryState>, AllocError>
+    ensures part { IfOk result (λ s. optional state_part s ≡ optional state_part (option_map state_in state.entry)) }
+    ensures fair { IfOk result (λ s. where_present is_fair_state s ≡ where_present is_fair_state (option_map state_in state.entry)) }
+{
+    match state {
+        Some(borrowed) => {
+            let state = owned_present(alloc, borrowed)?;
+            Ok(Some(state))
+        }
+        None => Ok(None),
+    }
+}

@@ -1,0 +1,129 @@
+-- Fields one after the other: which are written, and how many octets they take.
+use Rattle.std.proofs.Common.{◌≡◌, ◌≢◌, ℕ, suc, ◌+◌, ◌-◌, ◌^◌, ◌<◌, ◌≤◌, zero, append_assoc, Bool, true, false, leb, ltb, eqb, min, max, List, [], ◌∷◌, ◌++◌, length, get_or, drop, Option, Some, None, refl, sym, ap, ◌∙◌, arith, add-one, drop-cons}
+use Rattle.std.specs.Prelude.{option_map}
+use Rattle.std.proofs.lemmas.Bool.{ltb-true, ltb-false, leb-true, leb-false, le-leb, lt-leb}
+use Rattle.std.proofs.lemmas.List.{length-append, drop_all, append-nil}
+use Rattle.amqp_types.specs.Datum.{Datum, number, octets, list, map, array, described, Data, none, item, count_of, depth_of, greatest_depth_of}
+use Rattle.amqp_types.specs.Reading.{◌>>=◌}
+use Rattle.amqp_types.specs.Canon.{part_form, parts_form, capped}
+use Rattle.amqp_performatives.specs.declared.field.Field.{Field}
+use Rattle.amqp_performatives.specs.Part.{Part, Fields, absent, value, composite, shown, canonical, canonical_fields}
+use Rattle.amqp_performatives.proofs.Shown.{IsNext, none_counted}
+use Rattle.amqp_frames.specs.Field.{form_within, forms_within, measured, added}
+use Rattle.amqp_performatives.specs.Listed.{part_at, fields_at, is_absent, shown_fields}
+
+-- ---- depth
+
+pub depth_some : (d : Datum) → 1 ≤ depth_of d
+depth_some (number k n) = omega arith
+depth_some (octets r os) = omega arith
+depth_some (list vs) = omega arith
+depth_some (map vs) = omega arith
+depth_some (array c vs) = omega arith
+depth_some (described d v) = omega arith
+
+pub at_no_depth : (depth : ℕ) (d : Datum) → depth ≡ 0 → form_within depth d ≡ None
+at_no_depth depth d z = let e : leb (depth_of d) depth ≡ false = lt-leb _ _ (omega (arith, depth_some d)) in rw e refl
+
+pub leaf_within : (depth : ℕ) (d : Datum) → depth_of d ≡ 1 → depth ≢ 0 → form_within depth d ≡ part_form None d
+leaf_within depth d one ne = let e : leb (depth_of d) depth ≡ true = le-leb _ _ (omega (arith, one, ne)) in rw e refl
+
+-- ---- their spellings
+
+bind_none : {A B : Type 0} (o : Option A) → (o >>= (λ (a : A). let x : Option B = None in x)) ≡ None
+bind_none (Some a) = refl
+bind_none None = refl
+
+forms_by : (depth : ℕ) (v : Datum) (vs : Data) (b0 b1 : Bool) → leb (depth_of v) depth ≡ b0 → leb (greatest_depth_of vs) depth ≡ b1
+    → forms_within depth (item v vs) ≡ (form_within depth v >>= λ x. forms_within depth vs >>= λ y. Some (x ++ y))
+forms_by depth v vs true true e0 e1 =
+    let both : leb (max (depth_of v) (greatest_depth_of vs)) depth ≡ true = le-leb _ _ (omega (arith, leb-true _ _ e0, leb-true _ _ e1)) in
+    simp (e0, e1, both)
+forms_by depth v vs true false e0 e1 =
+    let both : leb (max (depth_of v) (greatest_depth_of vs)) depth ≡ false = lt-leb _ _ (omega (arith, leb-false _ _ e1)) in
+    simp (e0, e1, both) (sym (bind_none (part_form None v)))
+forms_by depth v vs false b1 e0 e1 =
+    let both : leb (max (depth_of v) (greatest_depth_of vs)) depth ≡ false = lt-leb _ _ (omega (arith, leb-false _ _ e0)) in
+    simp (e0, both)
+
+pub forms_item : (depth : ℕ) (v : Datum) (vs : Data) → forms_within depth (item v vs) ≡ (form_within depth v >>= λ x. forms_within depth vs >>= λ y. Some (x ++ y))
+forms_item depth v vs = forms_by depth v vs (leb (depth_of v) depth) (leb (greatest_depth_of vs) depth) refl refl
+
+-- ---- sizes, which are told up to 2 ^ 64 - 1
+
+-- so many octets, and what is behind them
+abbrev pub capped_behind : ℕ → Option (List ℕ) → Option ℕ
+capped_behind n form = form >>= λ x. Some (min (n + length x) (2 ^ 64 - 1))
+
+pub nothing_before : (form : Option (List ℕ)) → capped_behind 0 form ≡ capped form
+nothing_before (Some x) = ap (λ (k : ℕ). Some (min k (2 ^ 64 - 1))) (omega arith)
+nothing_before None = refl
+
+size_past : (size more next : ℕ) (a form : Option (List ℕ)) → Some more ≡ capped a → next ≡ min (size + more) (2 ^ 64 - 1) → capped_behind size (a >>= λ x. form >>= λ y. Some (x ++ y)) ≡ capped_behind next form
+size_past size more next (Some x) (Some y) e s =
+    let m : more ≡ min (length x) (2 ^ 64 - 1) = cc in
+    ap (λ (k : ℕ). let o : Option ℕ = Some k in o) (omega (arith, m, s, length-append x y))
+size_past size more next (Some x) None e s = refl
+size_past size more next None form e s = absurd cc
+
+-- one more field
+pub size_step : (depth : ℕ) (fs : List Field) (i n : ℕ) (f : Field) (size more next : ℕ) (total : Option ℕ) → IsNext fs i n f → Some more ≡ capped (form_within depth (canonical (part_at f))) → next ≡ min (size + more) (2 ^ 64 - 1)
+    → capped_behind size (forms_within depth (shown_fields (drop i fs))) ≡ total → capped_behind next (forms_within depth (shown_fields (drop (i + 1) fs))) ≡ total
+size_step depth fs i n f size more next total h e s so_far =
+    let parts : forms_within depth (shown_fields (drop i fs)) ≡ (form_within depth (canonical (part_at f)) >>= λ x. forms_within depth (shown_fields (drop (i + 1) fs)) >>= λ y. Some (x ++ y)) =
+    ap (forms_within depth) h.parts ∙ forms_item depth (canonical (part_at f)) (shown_fields (drop (i + 1) fs)) in
+    sym (size_past size more next (form_within depth (canonical (part_at f))) (forms_within depth (shown_fields (drop (i + 1) fs))) e s) ∙ sym (ap (capped_behind size) parts) ∙ so_far
+
+none_capped : (a : Option (List ℕ)) → None ≡ capped a → a ≡ None
+none_capped (Some x) e = absurd cc
+none_capped None e = refl
+
+-- a field that is not written at all
+pub size_missing : (depth : ℕ) (fs : List Field) (i n : ℕ) (f : Field) (size : ℕ) → IsNext fs i n f → None ≡ capped (form_within depth (canonical (part_at f)))
+    → capped_behind size (forms_within depth (shown_fields (drop i fs))) ≡ capped (forms_within depth (shown_fields fs)) → measured (count_of (shown_fields fs)) (forms_within depth (shown_fields fs)) ≡ None
+size_missing depth fs i n f size h e so_far =
+    let gone = none_capped (form_within depth (canonical (part_at f))) e in
+    let parts : forms_within depth (shown_fields (drop i fs)) ≡ None = ap (forms_within depth) h.parts ∙ forms_item depth (canonical (part_at f)) (shown_fields (drop (i + 1) fs)) ∙ rw gone refl in
+    let whole : forms_within depth (shown_fields fs) ≡ None = none_capped (forms_within depth (shown_fields fs)) (sym (ap (capped_behind size) parts) ∙ so_far) in
+    rw whole refl
+
+measured_as : (count size : ℕ) (form : Option (List ℕ)) → Some size ≡ capped form → Some (count, size) ≡ measured count form
+measured_as count size (Some x) e = let m : size ≡ min (length x) (2 ^ 64 - 1) = cc in rw m refl
+measured_as count size None e = absurd cc
+
+-- past the last field
+pub size_whole : (depth : ℕ) (fs : List Field) (i size : ℕ) → size ≤ 2 ^ 64 - 1 → count_of (shown_fields (drop i fs)) ≡ 0
+    → capped_behind size (forms_within depth (shown_fields (drop i fs))) ≡ capped (forms_within depth (shown_fields fs)) → Some (count_of (shown_fields fs), size) ≡ measured (count_of (shown_fields fs)) (forms_within depth (shown_fields fs))
+size_whole depth fs i size le counted so_far =
+    let end : shown_fields (drop i fs) ≡ none = none_counted (shown_fields (drop i fs)) counted in
+    let shallow : leb 0 depth ≡ true = le-leb 0 depth (omega arith) in
+    let done : forms_within depth none ≡ Some [] = rw shallow refl in
+    let all : capped_behind size (forms_within depth (shown_fields (drop i fs))) ≡ Some size =
+    ap (λ (ds : Data). capped_behind size (forms_within depth ds)) end ∙ ap (capped_behind size) done ∙ ap (λ (k : ℕ). let o : Option ℕ = Some k in o) (omega (arith, le)) in
+    measured_as (count_of (shown_fields fs)) size (forms_within depth (shown_fields fs)) (sym all ∙ so_far)
+
+-- ---- the octets
+
+regroup : (out a : List ℕ) (form : Option (List ℕ)) → added out (form >>= λ x. Some (a ++ x)) ≡ added (out ++ a) form
+regroup out a (Some x) = simp append_assoc
+regroup out a None = refl
+
+added_is : (out new : List ℕ) (a : Option (List ℕ)) → added out a ≡ Some new → (x : List ℕ) × (a ≡ Some x) × (new ≡ out ++ x)
+added_is out new (Some x) e = (x, refl, let q : out ++ x ≡ new = cc in sym q)
+added_is out new None e = absurd cc
+
+put_over : (out a new : List ℕ) (v : Datum) (vs : Data) → part_form None v ≡ Some a → new ≡ out ++ a → added new (parts_form vs None) ≡ added out (parts_form (item v vs) None)
+put_over out a new v vs e s = rw (s, e) (sym (regroup out a (parts_form vs None)))
+
+-- one more field
+pub put_step : (fs : List Field) (i n : ℕ) (f : Field) (out new : List ℕ) (total : Option (List ℕ)) → IsNext fs i n f → added out (part_form None (canonical (part_at f))) ≡ Some new
+    → added out (parts_form (shown_fields (drop i fs)) None) ≡ total → added new (parts_form (shown_fields (drop (i + 1) fs)) None) ≡ total
+put_step fs i n f out new total h e so_far =
+    let x = added_is out new (part_form None (canonical (part_at f))) e in
+    put_over out x.0 new (canonical (part_at f)) (shown_fields (drop (i + 1) fs)) x.1 x.2 ∙ sym (ap (λ (ds : Data). added out (parts_form ds None)) h.parts) ∙ so_far
+
+-- past the last field
+pub put_whole : (fs : List Field) (i : ℕ) (start out : List ℕ) → count_of (shown_fields (drop i fs)) ≡ 0 → added out (parts_form (shown_fields (drop i fs)) None) ≡ added start (parts_form (shown_fields fs) None) → added start (parts_form (shown_fields fs) None) ≡ Some out
+put_whole fs i start out counted so_far =
+    let end : shown_fields (drop i fs) ≡ none = none_counted (shown_fields (drop i fs)) counted in
+    sym so_far ∙ ap (λ (ds : Data). added out (parts_form ds None)) end ∙ ap (λ (y : List ℕ). let o : Option (List ℕ) = Some y in o) (append-nil out)

@@ -1,0 +1,12 @@
+pub mod Progress
+pub mod Leaves
+pub mod Composites
+pub mod Sizes
+pub mod Puts
+pub mod Framed
+pub mod Octets
+pub mod Framing
+pub mod Performatives
+pub mod Streams
+pub mod Feeding
+pub mod Fields

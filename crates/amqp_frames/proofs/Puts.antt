@@ -1,0 +1,93 @@
+-- What was written behind other octets.
+use Rattle.std.proofs.Common.{◌≡◌, ◌≢◌, ℕ, ◌+◌, ◌-◌, ◌^◌, ◌<◌, ◌≤◌, Bool, true, false, cond, eqb, ltb, min, List, [], ◌∷◌, ◌++◌, length, Option, Some, None, refl, sym, ap, subst, ◌∙◌, arith, append_assoc}
+use Rattle.std.specs.Prelude.{Result, Ok, Err, OnOk}
+use Rattle.std.proofs.lemmas.Bool.{eqb-true, ltb-true, ltb-false, leb-true}
+use Rattle.amqp_types.specs.Datum.{Datum, Data, none, item, count_of, depth_of, greatest_depth_of}
+use Rattle.amqp_types.specs.Reading.{◌>>=◌}
+use Rattle.amqp_types.specs.Canon.{part_form, parts_form, canon, Appends, AppendsCanon}
+use Rattle.amqp_types.proofs.Canonical.{canon_is}
+use Rattle.amqp_types.proofs.Frames.{guard_some}
+use Rattle.amqp_frames.specs.Field.{added, list_octets, measured, forms_within, composite_datum, with_payload}
+use Rattle.amqp_frames.proofs.Composites.{composite_form, composite_octets, empty_form}
+
+pub on_ok : {A E : Type 0} (r : Result A E) (P Q : Type 0) → (P → Q) → OnOk r P → OnOk r Q
+on_ok (Ok a) P Q f p = f p
+on_ok (Err e) P Q f p = tt
+
+pub appended : (old new : List ℕ) (form : Option (List ℕ)) → Appends form old new → added old form ≡ Some new
+appended old new form h = ap (added old) h.1 ∙ ap (λ (y : List ℕ). let o : Option (List ℕ) = Some y in o) (sym h.2)
+
+pub canon_appended : (d : Datum) (old new : List ℕ) → depth_of d ≡ 1 → AppendsCanon d old new → added old (part_form None d) ≡ Some new
+canon_appended d old new one h = ap (added old) (sym (canon_is d (omega (arith, one)))) ∙ appended old new (canon d) h
+
+added_parts : (old new : List ℕ) (a : Option (List ℕ)) → added old a ≡ Some new → (x : List ℕ) × (a ≡ Some x) × (new ≡ old ++ x)
+added_parts old new (Some x) e = (x, refl, let q : old ++ x ≡ new = cc in sym q)
+added_parts old new None e = absurd cc
+
+-- ---- a described list
+
+same_head_by : (count size : ℕ) (x h : List ℕ) (b0 b1 b3 : Bool) → (count ≡ 0 → x ≡ []) → size ≡ min (length x) (2 ^ 64 - 1) → eqb count 0 ≡ b0 → ltb (1 + size) 256 ≡ b1 → ltb (4 + size) (2 ^ 32) ≡ b3 → list_octets count size ≡ Some h → size ≡ length x
+same_head_by count size x h true b1 b3 empty s e0 e1 e3 e = let q : x ≡ [] = empty (eqb-true _ _ e0) in omega (arith, s, ap length q)
+same_head_by count size x h false true b3 empty s e0 e1 e3 e = omega (arith, s, ltb-true _ _ e1)
+same_head_by count size x h false false true empty s e0 e1 e3 e = omega (arith, s, ltb-true _ _ e3)
+same_head_by count size x h false false false empty s e0 e1 e3 e = let q : None ≡ Some h = simp (e0, e1, e3) at e in absurd cc
+
+same_head : (count size : ℕ) (x h : List ℕ) → (count ≡ 0 → x ≡ []) → size ≡ min (length x) (2 ^ 64 - 1) → list_octets count size ≡ Some h → size ≡ length x
+same_head count size x h empty s e = same_head_by count size x h (eqb count 0) (ltb (1 + size) 256) (ltb (4 + size) (2 ^ 32)) empty s refl refl refl e
+
+-- what was measured
+pub record IsMeasured (count size : ℕ) (ds : Data) (x : List ℕ) : Type 0 where
+  pub counted : count ≡ count_of ds
+  pub sized : size ≡ min (length x) (2 ^ 64 - 1)
+  pub form : parts_form ds None ≡ Some x
+
+measure_parts : (count size n : ℕ) (form : Option (List ℕ)) → Some (count, size) ≡ measured n form → (x : List ℕ) × (form ≡ Some x) × (count ≡ n) × (size ≡ min (length x) (2 ^ 64 - 1))
+measure_parts count size n (Some x) e =
+    let q : (count, size) ≡ (n, min (length x) (2 ^ 64 - 1)) = cc in
+    (x, refl, ap (λ (p : ℕ × ℕ). p.0) q, ap (λ (p : ℕ × ℕ). p.1) q)
+measure_parts count size n None e = absurd cc
+
+pub is_measured : (count size depth : ℕ) (ds : Data) → Some (count, size) ≡ measured (count_of ds) (forms_within depth ds) → (x : List ℕ) × IsMeasured count size ds x
+is_measured count size depth ds e =
+    let m = measure_parts count size (count_of ds) (forms_within depth ds) e in
+    let g = guard_some _ (parts_form ds None) m.0 m.1 in
+    (m.0, record { counted = m.2; sized = m.3; form = g.1 })
+
+described_from : (code count size : ℕ) (ds : Data) (start named headed end x h : List ℕ) → 0 < code → code < 256 → IsMeasured count size ds x → named ≡ start ++ (0x00 ∷ 0x53 ∷ code ∷ []) → list_octets count size ≡ Some h → headed ≡ named ++ h → end ≡ headed ++ x
+    → added start (part_form None (composite_datum code ds)) ≡ Some end
+described_from code count size ds start named headed end x h some small m n l s e =
+    let same : size ≡ length x = same_head count size x h (λ z. empty_form ds x m.form (sym m.counted ∙ z)) m.sized l in
+    let head : list_octets (count_of ds) (length x) ≡ Some h = ap (λ (k : ℕ). list_octets k (length x)) (sym m.counted) ∙ ap (list_octets count) (sym same) ∙ l in
+    let form : part_form None (composite_datum code ds) ≡ Some (0x00 ∷ 0x53 ∷ code ∷ (h ++ x)) = composite_form code ds some small ∙ ap (λ (o : Option (List ℕ)). o >>= composite_octets code (count_of ds)) m.form ∙ ap (λ (o : Option (List ℕ)). o >>= λ h. Some (0x00 ∷ 0x53 ∷ code ∷ (h ++ x))) head in
+    let parts : start ++ (0x00 ∷ 0x53 ∷ code ∷ (h ++ x)) ≡ end = sym (append_assoc start (0x00 ∷ 0x53 ∷ code ∷ []) (h ++ x)) ∙ ap (λ (y : List ℕ). y ++ (h ++ x)) (sym n) ∙ sym (append_assoc named h x) ∙ ap (λ (y : List ℕ). y ++ x) (sym s) ∙ sym e in
+    ap (added start) form ∙ ap (λ (y : List ℕ). let o : Option (List ℕ) = Some y in o) parts
+
+pub described_put : (code count size depth : ℕ) (ds : Data) (start named headed end : List ℕ) → 0 < code → code < 256 → Some (count, size) ≡ measured (count_of ds) (forms_within depth ds) → named ≡ start ++ (0x00 ∷ 0x53 ∷ code ∷ [])
+    → added named (list_octets count size) ≡ Some headed → added headed (parts_form ds None) ≡ Some end → added start (part_form None (composite_datum code ds)) ≡ Some end
+described_put code count size depth ds start named headed end some small m n l p =
+    let measure = is_measured count size depth ds m in
+    let head = added_parts named headed (list_octets count size) l in
+    let content = added_parts headed end (parts_form ds None) p in
+    let same : content.0 ≡ measure.0 = let q : Some content.0 ≡ Some measure.0 = sym content.1 ∙ measure.1.form in cc in
+    described_from code count size ds start named headed end measure.0 head.0 some small measure.1 n head.1 head.2 (content.2 ∙ ap (λ (y : List ℕ). headed ++ y) same)
+
+-- ---- a frame
+
+canon_measured : (count size code : ℕ) (ds : Data) → Some (count, size) ≡ measured (count_of ds) (forms_within 30 ds) → canon (composite_datum code ds) ≡ part_form None (composite_datum code ds)
+canon_measured count size code ds m =
+    let x = measure_parts count size (count_of ds) (forms_within 30 ds) m in
+    let g = guard_some _ (parts_form ds None) x.0 x.1 in
+    canon_is (composite_datum code ds) (omega (arith, leb-true _ _ g.0))
+
+payload_behind : (start headed end payload : List ℕ) (form : Option (List ℕ)) → added start form ≡ Some headed → end ≡ headed ++ payload → added start (with_payload form payload) ≡ Some end
+payload_behind start headed end payload (Some x) e s =
+    let q : start ++ x ≡ headed = cc in
+    ap (λ (y : List ℕ). let o : Option (List ℕ) = Some y in o) (sym (append_assoc start x payload) ∙ ap (λ (y : List ℕ). y ++ payload) q ∙ sym s)
+payload_behind start headed end payload None e s = absurd cc
+
+pub frame_put : (count size code : ℕ) (ds : Data) (start named headed end head payload : List ℕ) → Some (count, size) ≡ measured (count_of ds) (forms_within 30 ds) → named ≡ start ++ head
+    → added named (part_form None (composite_datum code ds)) ≡ Some headed → end ≡ headed ++ payload → added (start ++ head) (with_payload (canon (composite_datum code ds)) payload) ≡ Some end
+frame_put count size code ds start named headed end head payload m n b e =
+    ap (λ (y : List ℕ). added y (with_payload (canon (composite_datum code ds)) payload)) (sym n)
+    ∙ ap (λ (o : Option (List ℕ)). added named (with_payload o payload)) (canon_measured count size code ds m)
+    ∙ payload_behind named headed end payload (part_form None (composite_datum code ds)) b e

@@ -1,0 +1,163 @@
+//! Whether the fields hold what a reader can find there (part 2, 2.8.2 and 2.8.3; part 3, 3.4).
+ghost use Rattle.std.specs.Prelude.{◌≡◌};
+ghost use Rattle.amqp_types.specs.View.{view};
+ghost use Rattle.amqp_performatives.specs.Fair.{where_present, is_present, names_state, is_other_state, is_sender_mode, is_receiver_mode, is_tag, is_fair_error, is_fair_state, is_fair_open, is_fair_begin, is_fair_attach, is_fair};
+
+use amqp_performatives::{AmqpError, AttachBody, BeginBody, DeliveryState, OpenBody, Performative};
+use amqp_types::{Tag, Value};
+
+fn is_present(value: &Value) -> bool
+    ensures { result ≡ is_present value.now }
+{
+    match value {
+        Value::Null => false,
+        _ => true,
+    }
+}
+
+/// The descriptor of one of the five delivery states.
+fn names_state(descriptor: &Value) -> bool
+    ensures { result ≡ names_state (view descriptor.now) }
+{
+    match descriptor {
+        Value::Ulong(n) => *n == 0x23 || *n == 0x24 || *n == 0x25 || *n == 0x26 || *n == 0x27,
+        Value::Symbol(name) => {
+            let name = name.as_str();
+            name == "amqp:received:list"
+                || name == "amqp:accepted:list"
+                || name == "amqp:rejected:list"
+                || name == "amqp:released:list"
+                || name == "amqp:modified:list"
+        }
+        _ => false,
+    }
+}
+
+fn is_other_state(value: &Value) -> bool
+    ensures { result ≡ is_other_state (view value.now) }
+{
+    match value {
+        Value::Described(descriptor, _) => !names_state(descriptor.get()),
+        _ => is_present(value),
+    }
+}
+
+fn any_present(value: &Option<Value>) -> bool
+    ensures { result ≡ where_present is_present value.now }
+{
+    match value {
+        Some(value) => is_present(value),
+        None => true,
+    }
+}
+
+fn is_sender_mode(mode: Option<u8>) -> bool
+    ensures { result ≡ where_present is_sender_mode mode }
+{
+    match mode {
+        Some(mode) => mode <= 2,
+        None => true,
+    }
+}
+
+fn is_receiver_mode(mode: Option<u8>) -> bool
+    ensures { result ≡ where_present is_receiver_mode mode }
+{
+    match mode {
+        Some(mode) => mode <= 1,
+        None => true,
+    }
+}
+
+fn is_tag(tag: &Option<Tag>) -> bool
+    ensures { result ≡ where_present is_tag tag.now }
+{
+    match tag {
+        Some(tag) => tag.octets().len() <= 32,
+        None => true,
+    }
+}
+
+fn is_fair_error(failed: &Option<AmqpError>) -> bool
+    ensures { result ≡ where_present is_fair_error failed.now }
+{
+    match failed {
+        Some(failed) => any_present(&failed.info),
+        None => true,
+    }
+}
+
+fn is_fair_state(reached: &Option<DeliveryState>) -> bool
+    ensures { result ≡ where_present is_fair_state reached.now }
+{
+    match reached {
+        None => true,
+        Some(
+            DeliveryState::Received {
+                section_number: _,
+                section_offset: _,
+            },
+        ) => true,
+        Some(DeliveryState::Accepted) => true,
+        Some(DeliveryState::Rejected(failed)) => is_fair_error(failed),
+        Some(DeliveryState::Released) => true,
+        Some(
+            DeliveryState::Modified {
+                delivery_failed: _,
+                undeliverable_here: _,
+                message_annotations,
+            },
+        ) => { any_present(message_annotations) }
+        Some(DeliveryState::Other(value)) => is_other_state(value),
+    }
+}
+
+fn is_fair_open(body: &OpenBody) -> bool
+    ensures { result ≡ is_fair_open body.now }
+{
+    any_present(&body.outgoing_locales)
+        && any_present(&body.incoming_locales)
+        && any_present(&body.offered_capabilities)
+        && any_present(&body.desired_capabilities)
+        && any_present(&body.properties)
+}
+
+fn is_fair_begin(body: &BeginBody) -> bool
+    ensures { result ≡ is_fair_begin body.now }
+{
+    any_present(&body.offered_capabilities)
+        && any_present(&body.desired_capabilities)
+        && any_present(&body.properties)
+}
+
+fn is_fair_attach(body: &AttachBody) -> bool
+    ensures { result ≡ is_fair_attach body.now }
+{
+    is_sender_mode(body.snd_settle_mode)
+        && is_receiver_mode(body.rcv_settle_mode)
+        && any_present(&body.source)
+        && any_present(&body.target)
+        && any_present(&body.offered_capabilities)
+        && any_present(&body.desired_capabilities)
+        && any_present(&body.properties)
+}
+
+/// Whether each field holds what a reader can find there: no present field is null, a settle mode is one of those there are, and no other
+/// state has the descriptor of a delivery state.
+pub(crate) fn is_fair(performative: &Performative) -> bool
+    ensures { result ≡ is_fair performative.now }
+{
+    match performative {
+        Performative::Open(body) => is_fair_open(body),
+        Performative::Begin(body) => is_fair_begin(body),
+        Performative::Attach(body) => is_fair_attach(body),
+        Performative::Flow(body) => any_present(&body.properties),
+        Performative::Transfer(body) => is_tag(&body.delivery_tag)
+            && is_receiver_mode(body.rcv_settle_mode)
+            && is_fair_state(&body.state),
+        Performative::Disposition(body) => is_fair_state(&body.state),
+        Performative::Detach(body) => is_fair_error(&body.error),
+        Performative::End(body) => is_fair_error(&body.error),
+        Performative::Close(body) => is_fair_error(&body.error),
+    }
+}

@@ -1,0 +1,45 @@
+ghost use Rattle.std.specs.Prelude.{◌≡◌, IfOk};
+
+use amqp_performatives::Performative;
+use bytes::Bytes;
+use std::alloc::AllocError;
+
+/// A frame (part 2, 2.3): a performative on a channel, and a transfer's payload. Without a performative it is an empty frame.
+#[derive(Debug, Drop)]
+pub struct Frame {
+    pub channel: u16,
+    pub body: Option<Performative>,
+    pub payload: Bytes,
+}
+
+impl Clone for Frame {
+    ghost is_clone = { λ a b. b ≡ a };
+
+    fn clone(&self) -> Result<Frame, AllocError> {
+        copy(self.channel, &self.body, &self.payload)
+    }
+}
+
+/// A frame of copies of these parts.
+fn copy(channel: u16, body: &Option<Performative>, payload: &Bytes) -> Result<Frame, AllocError>
+    ensures { IfOk result (λ frame. frame ≡ record { channel = channel; body = body.now; payload = payload.now }) }
+{
+    let payload = payload.clone()?;
+    match copy_body(body) {
+        Ok(body) => Ok(Frame {
+            channel,
+            body,
+            payload,
+        }),
+        Err(error) => Err(error),
+    }
+}
+
+fn copy_body(body: &Option<Performative>) -> Result<Option<Performative>, AllocError>
+    ensures { IfOk result (λ copy. copy ≡ body.now) }
+{
+    match body {
+        None => Ok(None),
+        Some(performative) => Ok(Some(performative.clone()?)),
+    }
+}

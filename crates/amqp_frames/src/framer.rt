@@ -1,0 +1,221 @@
+//! Frames out of octets that come in pieces (part 2, 2.3).
+ghost use Rattle.std.specs.Prelude.{◌≡◌, ◌≢◌, ◌≤◌, ◌<◌, ◌*◌, ◌++◌, [], ℕ, List, Some, None, MatchResult, IsOk, IsSome, IfOk, IfSome, ◌+◌, length, take};
+ghost use Rattle.amqp_frames.specs.Framing.{IsUnfinished, AreContents, size_of};
+ghost use Rattle.amqp_frames.specs.Header.{BeginsWith};
+ghost use Rattle.amqp_frames.specs.Contents.{AreNoContents};
+ghost use Rattle.amqp_frames.specs.Framer.{Feeds};
+
+use crate::contents::read_contents;
+use crate::fault::FrameFault;
+use crate::frame::Frame;
+use crate::header::{Header, examine};
+use std::alloc::Global;
+use std::marker::Model;
+
+/// Takes octets in pieces of any length and gives the frames in them. What has come of the next frame is kept until it is whole.
+#[derive(Debug, Drop)]
+pub struct Framer {
+    max_size: u32,
+    /// What has come of the next frame; or, where `is_done`, octets of the one that was given last.
+    buffer: Vec<u8>,
+    is_done: bool,
+    /// How many octets of the buffer `unread` keeps.
+    before: Option<usize>,
+}
+
+impl Model for Framer {
+    ghost use Rattle.std.specs.Prelude.{[], if◌then◌else◌, take, option_map};
+    ghost use Rattle.std.specs.Vec.{vec_capacity};
+    ghost use Rattle.amqp_frames.specs.Framer.{FramerState, IsSound};
+
+    ghost Value = { FramerState };
+
+    ghost view = { λ f. record { max_size = f.max_size; kept = (if f.is_done then [] else f.buffer.items); before = option_map (λ n. take n f.buffer.items) f.before } };
+
+    ghost invariant = { λ f. IsSound f.max_size (vec_capacity f.buffer) (if f.is_done then [] else f.buffer.items) (option_map (λ n. take n f.buffer.items) f.before) };
+}
+
+impl Framer {
+    /// A framer that takes frames of at most `max_size` octets. It takes no memory.
+    pub fn new(alloc: Global, max_size: u32) -> Framer
+        ensures { result ≡ record { max_size = max_size; kept = []; before = None } }
+    {
+        Framer {
+            max_size,
+            buffer: Vec::new(alloc),
+            is_done: false,
+            before: None,
+        }
+    }
+
+    /// Takes octets of the piece, at most to the end of one frame, and answers how many, with the frame where it is whole.
+    ///
+    /// A fault is answered as soon as the octets show it (`FrameFault`): the size once four octets of the frame are there, the rest of its
+    /// header once eight are, its body once it is whole. After a fault the framer is as before. A frame that lies whole in the piece is
+    /// read in place; a payload is copied once.
+    pub fn feed(&mut self, piece: &[u8]) -> Result<(usize, Option<Frame>), FrameFault>
+        ensures fed { Feeds self.old piece.now result self.new }
+        ensures empty { piece.now ≡ [] → IsOk result }
+        ensures progress { piece.now ≢ [] → IfOk result (λ fed. 0 < fed.0) }
+    {
+        if piece.is_empty() {
+            self.before = Some(self.kept().len());
+            return Ok((0, None));
+        }
+        let (head, count) = first_octets(self.kept(), piece);
+        match examine(self.max_size, &head[..count]) {
+            Err(fault) => Err(fault),
+            Ok(None) => self.keep(piece, 8),
+            Ok(Some(header)) => self.take(header, piece),
+        }
+    }
+
+    /// How many octets have come of a frame that is not whole.
+    pub fn pending(&self) -> usize
+        ensures { result ≡ length self.now.kept }
+    {
+        self.kept().len()
+    }
+
+    /// The octets that are kept.
+    fn kept(&self) -> &[u8]
+        ensures value { result.now ≡ self.now.kept }
+        ensures unfinished { IsUnfinished self.now.max_size self.now.kept }
+    {
+        if self.is_done {
+            &[]
+        } else {
+            self.buffer.as_slice()
+        }
+    }
+
+    /// Keeps a piece that does not make the next frame whole, in a buffer that has room for so many octets.
+    fn keep(&mut self, piece: &[u8], room: usize) -> Result<(usize, Option<Frame>), FrameFault>
+        requires unfinished { IsUnfinished self.old.max_size (self.old.kept ++ piece.now) }
+        requires within { length (self.old.kept ++ piece.now) ≤ room }
+        requires size { 8 ≤ length (self.old.kept ++ piece.now) → size_of (self.old.kept ++ piece.now) ≤ room }
+        ensures { Feeds self.old piece.now result self.new }
+    {
+        let count = self.kept().len();
+        let Ok(()) = self.buffer.reserve(room.saturating_sub(self.buffer.len())) else {
+            return Err(FrameFault::NoMemory);
+        };
+        self.buffer.truncate(count);
+        self.is_done = false;
+        self.before = Some(count);
+        self.buffer.extend_from_slice(piece).unwrap();
+        Ok((piece.len(), None))
+    }
+
+    /// Keeps the piece after a header that shows no fault, or gives the frame that it makes whole.
+    fn take(&mut self, header: Header, piece: &[u8]) -> Result<(usize, Option<Frame>), FrameFault>
+        requires { BeginsWith header self.old.max_size (self.old.kept ++ piece.now) }
+        ensures { Feeds self.old piece.now result self.new }
+    {
+        let count = self.kept().len();
+        let size = header.size as usize;
+        let missing = size - count;
+        if piece.len() < missing {
+            return self.keep(piece, size);
+        }
+        if count <= header.start() {
+            self.finish_in_place(header, piece, missing)
+        } else {
+            self.finish(header, piece, missing)
+        }
+    }
+
+    /// Gives the frame that the piece makes whole, where all contents lie in the piece.
+    fn finish_in_place(
+        &mut self,
+        header: Header,
+        piece: &[u8],
+        missing: usize,
+    ) -> Result<(usize, Option<Frame>), FrameFault>
+        requires begins { BeginsWith header self.old.max_size (self.old.kept ++ piece.now) }
+        requires size { length self.old.kept + missing ≡ header.size }
+        requires whole { missing ≤ length piece.now }
+        requires place { length self.old.kept ≤ 4 * header.doff }
+        ensures { Feeds self.old piece.now result self.new }
+    {
+        let count = self.kept().len();
+        let contents = &piece[header.start() - count..missing];
+        match read_frame(*self.buffer.allocator(), header, contents) {
+            Ok(frame) => {
+                self.before = Some(count);
+                self.is_done = true;
+                Ok((missing, Some(frame)))
+            }
+            Err(fault) => Err(fault),
+        }
+    }
+
+    /// Gives the frame that the piece makes whole, where contents are kept.
+    fn finish(
+        &mut self,
+        header: Header,
+        piece: &[u8],
+        missing: usize,
+    ) -> Result<(usize, Option<Frame>), FrameFault>
+        requires begins { BeginsWith header self.old.max_size (self.old.kept ++ piece.now) }
+        requires size { length self.old.kept + missing ≡ header.size }
+        requires whole { missing ≤ length piece.now }
+        requires place { 4 * header.doff < length self.old.kept }
+        ensures { Feeds self.old piece.now result self.new }
+    {
+        let count = self.kept().len();
+        self.buffer.extend_from_slice(&piece[..missing]).unwrap();
+        match read_frame(
+            *self.buffer.allocator(),
+            header,
+            &self.buffer[header.start()..],
+        ) {
+            Ok(frame) => {
+                self.before = Some(count);
+                self.is_done = true;
+                Ok((missing, Some(frame)))
+            }
+            Err(fault) => {
+                self.buffer.truncate(count);
+                Err(fault)
+            }
+        }
+    }
+
+    /// Puts the framer back to before the last feed.
+    pub fn unread(&mut self)
+        requires { IsSome self.old.before }
+        ensures { IfSome self.old.before (λ octets. self.new ≡ record { max_size = self.old.max_size; kept = octets; before = None }) }
+    {
+        if let Some(count) = self.before {
+            self.buffer.truncate(count);
+            self.is_done = false;
+            self.before = None;
+        }
+    }
+}
+
+/// The first eight of the octets that are kept and then come, or all of them where they are fewer.
+fn first_octets(kept: &[u8], piece: &[u8]) -> ([u8; 8], usize)
+    ensures octets { take result.1 result.0 ≡ take 8 (kept.now ++ piece.now) }
+    ensures within { result.1 ≤ 8 }
+{
+    let mut head = [0; 8];
+    let from_kept = kept.len().min(8);
+    let from_piece = piece.len().min(8 - from_kept);
+    head[..from_kept].copy_from_slice(&kept[..from_kept]);
+    head[from_kept..from_kept + from_piece].copy_from_slice(&piece[..from_piece]);
+    (head, from_kept + from_piece)
+}
+
+/// The frame of a header and its contents.
+fn read_frame(alloc: Global, header: Header, contents: &[u8]) -> Result<Frame, FrameFault>
+    ensures { MatchResult result (λ frame. (frame.channel ≡ header.channel) × AreContents frame.body frame.payload contents.now) (λ fault. AreNoContents fault contents.now) }
+{
+    let (body, payload) = read_contents(alloc, contents)?;
+    Ok(Frame {
+        channel: header.channel,
+        body,
+        payload,
+    })
+}

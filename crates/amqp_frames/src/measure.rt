@@ -1,0 +1,115 @@
+//! How many octets fields take, without memory. A size of `u64::MAX` stands for all from there on.
+ghost use Rattle.std.specs.Prelude.{◌≡◌, ◌≤◌, ◌<◌, ℕ, length, option_map};
+ghost use Rattle.amqp_types.specs.Canon.{capped};
+ghost use Rattle.amqp_types.specs.Datum.{count_of};
+ghost use Rattle.amqp_performatives.specs.Part.{canonical};
+ghost use Rattle.amqp_performatives.specs.Bodies.{state};
+ghost use Rattle.amqp_frames.specs.Field.{form_within, forms_within, measured, composite_datum};
+ghost use Rattle.amqp_performatives.specs.Listed.{part_at, is_absent, shown_fields};
+
+use crate::leaf::{list_len, run_len, ubyte_size, ushort_size};
+use amqp_performatives::DeliveryState;
+use amqp_performatives::field::{Field, any, boolean, failure};
+use amqp_performatives::listed::{error_fields, shown_count};
+use amqp_types::{is_symbol, map_size_within, size_within, uint_size, ulong_size};
+
+/// The count of fields and how many octets they take together.
+#[derive(Clone, Copy)]
+pub(crate) struct Measure {
+    pub(crate) count: u64,
+    pub(crate) size: u64,
+}
+
+/// How many octets the field takes; None where it is nested more than `depth` deep or holds what has no spelling.
+#[cycle(measuring)]
+fn field_len(field: &Field<'_>, depth: u8) -> Option<u64>
+    ensures { result ≡ capped (form_within depth (canonical (part_at field.now))) }
+{
+    if depth == 0 {
+        return None;
+    }
+    match field {
+        Field::Absent => Some(1),
+        Field::Boolean(_) => Some(1),
+        Field::Ubyte(n) => Some(ubyte_size(*n)),
+        Field::Ushort(n) => Some(ushort_size(*n)),
+        Field::Uint(n) => Some(uint_size(*n) as u64),
+        Field::Ulong(n) => Some(ulong_size(*n) as u64),
+        Field::Binary(octets) => run_len(octets.len()),
+        Field::Str(text) => run_len(text.as_bytes().len()),
+        Field::Symbol(text) => if is_symbol(text) {
+            run_len(text.as_bytes().len())
+        } else {
+            None
+        },
+        Field::Mapping(pairs) => map_size_within(depth, pairs),
+        Field::Any(value) => size_within(depth, value),
+        Field::State(reached) => state_len(reached, depth),
+        Field::Failure(failed) => composite_len(&error_fields(failed), depth),
+    }
+}
+
+#[cycle(measuring)]
+fn state_len(reached: &DeliveryState, depth: u8) -> Option<u64>
+    ensures { result ≡ capped (form_within depth (canonical (state reached.now))) }
+{
+    match reached {
+        DeliveryState::Received {
+            section_number,
+            section_offset,
+        } => {
+            composite_len(
+                &[Field::Uint(*section_number), Field::Ulong(*section_offset)],
+                depth,
+            )
+        }
+        DeliveryState::Accepted => composite_len(&[], depth),
+        DeliveryState::Rejected(failed) => composite_len(&[failure(failed)], depth),
+        DeliveryState::Released => composite_len(&[], depth),
+        DeliveryState::Modified {
+            delivery_failed,
+            undeliverable_here,
+            message_annotations,
+        } => {
+            composite_len(
+                &[
+                    boolean(*delivery_failed),
+                    boolean(*undeliverable_here),
+                    any(message_annotations),
+                ],
+                depth,
+            )
+        }
+        DeliveryState::Other(value) => size_within(depth, value),
+    }
+}
+
+/// How many octets a described list of the fields takes, where its descriptor's number is below 256.
+#[cycle(measuring)]
+fn composite_len(fields: &[Field<'_>], depth: u8) -> Option<u64>
+    ensures { (code : ℕ) → 0 < code → code < 256 → result ≡ capped (form_within depth (composite_datum code (shown_fields fields.now))) }
+{
+    if depth < 2 {
+        return None;
+    }
+    let measure = fields_len(fields, depth - 2)?;
+    let size = list_len(measure.count, measure.size)?;
+    Some(size + 3)
+}
+
+/// The fields up to the last that is present; None where one has no spelling nested at most `depth` deep.
+#[cycle(measuring)]
+pub(crate) fn fields_len(fields: &[Field<'_>], depth: u8) -> Option<Measure>
+    ensures { option_map (λ m. (m.count, m.size)) result ≡ measured (count_of (shown_fields fields.now)) (forms_within depth (shown_fields fields.now)) }
+{
+    let count = shown_count(fields);
+    let mut size: u64 = 0;
+    for i in 0..count {
+        let more = field_len(&fields[i], depth)?;
+        size = size.saturating_add(more);
+    }
+    Some(Measure {
+        count: count as u64,
+        size,
+    })
+}

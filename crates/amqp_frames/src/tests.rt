@@ -1,0 +1,423 @@
+//! What no clause says: octets of known frames, and each call once. A frame is let go in the helper that makes it: a test holds octets and answers alone.
+
+use super::*;
+use amqp_types::{Boxed, Items, Text, Value};
+use bytes::Bytes;
+use std::alloc::{AllocError, Global};
+use std::test::Fail;
+
+const UNFAIR: Option<FrameRefusal> = Some(FrameRefusal::NotWritable);
+
+/// A transfer of a delivery with the payload of one data section.
+const T: &str = "0000001b0200000000 5314c0070443 43a00100 43005375a0026869";
+
+/// The octets that the text writes, past its spaces; as many as fit.
+fn octets(alloc: Global, text: &str) -> Result<Vec<u8>, AllocError> {
+    let mut octets = Vec::new(alloc);
+    let mut high: Option<u8> = None;
+    for letter in text.as_bytes() {
+        let digit = match letter {
+            b'0'..=b'9' => *letter - b'0',
+            b'a'..=b'f' => *letter - b'a' + 10,
+            _ => continue,
+        };
+        match high {
+            None => high = Some(digit),
+            Some(first) => {
+                octets.push(first.wrapping_mul(16).wrapping_add(digit))?;
+                high = None;
+            }
+        }
+    }
+    Ok(octets)
+}
+
+/// What is written for the frame that these octets are.
+fn written(alloc: Global, octets: &[u8], max: u32) -> Result<Bytes, FrameRefusal> {
+    let mut framer = Framer::new(alloc, 65536);
+    match framer.feed(octets) {
+        Ok((_, Some(frame))) => {
+            let written = write_frame(alloc, &frame, max);
+            drop(frame);
+            written
+        }
+        _ => Err(FrameRefusal::NoMemory),
+    }
+}
+
+/// The octets are a frame, and are written for it.
+fn is_written_back(alloc: Global, text: &str) -> Result<bool, AllocError> {
+    let octets = octets(alloc, text)?;
+    match written(alloc, octets.as_slice(), 65536) {
+        Ok(again) => Ok(again.as_slice() == octets.as_slice()),
+        Err(_) => Ok(false),
+    }
+}
+
+/// How many octets of these a framer takes, and whether they end a frame.
+fn fed(framer: &mut Framer, octets: &[u8]) -> Result<(usize, bool), FrameFault> {
+    match framer.feed(octets) {
+        Ok((used, Some(frame))) => {
+            drop(frame);
+            Ok((used, true))
+        }
+        Ok((used, None)) => Ok((used, false)),
+        Err(fault) => Err(fault),
+    }
+}
+
+/// The same, and then they are put back.
+fn fed_and_unread(framer: &mut Framer, octets: &[u8]) -> Result<(usize, bool), FrameFault> {
+    match framer.feed(octets) {
+        Ok((used, Some(frame))) => {
+            drop(frame);
+            framer.unread();
+            Ok((used, true))
+        }
+        Ok((used, None)) => {
+            framer.unread();
+            Ok((used, false))
+        }
+        Err(fault) => Err(fault),
+    }
+}
+
+fn fault(alloc: Global, text: &str) -> Result<Option<FrameFault>, AllocError> {
+    let octets = octets(alloc, text)?;
+    let mut framer = Framer::new(alloc, 65536);
+    Ok(fed(&mut framer, octets.as_slice()).err())
+}
+
+/// Why a frame of this performative and payload is not written; told by both calls, or else none.
+fn refusal(alloc: Global, body: Performative, payload: Bytes) -> Option<FrameRefusal> {
+    let frame = Frame {
+        channel: 0,
+        body: Some(body),
+        payload,
+    };
+    let told = frame_refusal(0, &frame.body, frame.payload.as_slice(), 65536);
+    let answered = write_frame(alloc, &frame, 65536).err();
+    drop(frame);
+    if told == answered { answered } else { None }
+}
+
+fn flow(payload: &'static [u8], properties: Option<Value>, alloc: Global) -> Option<FrameRefusal> {
+    let body = FlowBody {
+        next_incoming_id: None,
+        incoming_window: 0,
+        next_outgoing_id: 0,
+        outgoing_window: 0,
+        handle: None,
+        delivery_count: None,
+        link_credit: None,
+        available: None,
+        drain: None,
+        echo: None,
+        properties,
+    };
+    refusal(alloc, Performative::Flow(body), Bytes::from_static(payload))
+}
+
+fn transfer(alloc: Global, rcv_settle_mode: Option<u8>) -> Option<FrameRefusal> {
+    let body = TransferBody {
+        handle: 0,
+        delivery_id: None,
+        delivery_tag: None,
+        message_format: None,
+        settled: None,
+        more: None,
+        rcv_settle_mode,
+        state: None,
+        resume: None,
+        aborted: None,
+        batchable: None,
+    };
+    refusal(
+        alloc,
+        Performative::Transfer(body),
+        Bytes::from_static(b"x"),
+    )
+}
+
+fn disposition(alloc: Global, state: Option<DeliveryState>) -> Option<FrameRefusal> {
+    let body = DispositionBody {
+        role: Role::Sender,
+        first: 0,
+        last: None,
+        settled: None,
+        state,
+        batchable: None,
+    };
+    refusal(
+        alloc,
+        Performative::Disposition(body),
+        Bytes::from_static(b""),
+    )
+}
+
+/// A list without items, described by this.
+fn described(alloc: Global, descriptor: Value) -> Result<DeliveryState, AllocError> {
+    let descriptor = Boxed::new(alloc, descriptor)?;
+    let list = Boxed::new(alloc, Value::List(Items::new(alloc)))?;
+    Ok(DeliveryState::Other(Value::Described(descriptor, list)))
+}
+
+fn begin(alloc: Global, properties: Option<Value>) -> Option<FrameRefusal> {
+    let body = BeginBody {
+        remote_channel: None,
+        next_outgoing_id: 0,
+        incoming_window: 0,
+        outgoing_window: 0,
+        handle_max: None,
+        offered_capabilities: None,
+        desired_capabilities: None,
+        properties,
+    };
+    refusal(alloc, Performative::Begin(body), Bytes::from_static(b""))
+}
+
+fn attach(
+    alloc: Global,
+    name: Text,
+    snd_settle_mode: Option<u8>,
+    target: Option<Value>,
+) -> Option<FrameRefusal> {
+    let body = AttachBody {
+        name,
+        handle: 0,
+        role: Role::Receiver,
+        snd_settle_mode,
+        rcv_settle_mode: None,
+        source: None,
+        target,
+        unsettled: None,
+        incomplete_unsettled: None,
+        initial_delivery_count: None,
+        max_message_size: None,
+        offered_capabilities: None,
+        desired_capabilities: None,
+        properties: None,
+    };
+    refusal(alloc, Performative::Attach(body), Bytes::from_static(b""))
+}
+
+fn open(alloc: Global, container_id: Text, properties: Option<Value>) -> Option<FrameRefusal> {
+    let body = OpenBody {
+        container_id,
+        hostname: None,
+        max_frame_size: None,
+        channel_max: None,
+        idle_time_out: None,
+        outgoing_locales: None,
+        incoming_locales: None,
+        offered_capabilities: None,
+        desired_capabilities: None,
+        properties,
+    };
+    refusal(alloc, Performative::Open(body), Bytes::from_static(b""))
+}
+
+fn failure(condition: Text, info: Option<Value>) -> AmqpError {
+    AmqpError {
+        condition,
+        description: None,
+        info,
+    }
+}
+
+fn end(alloc: Global, error: AmqpError) -> Option<FrameRefusal> {
+    let body = EndBody { error: Some(error) };
+    refusal(alloc, Performative::End(body), Bytes::from_static(b""))
+}
+
+fn close(alloc: Global, error: Option<AmqpError>) -> Option<FrameRefusal> {
+    let body = CloseBody { error };
+    refusal(alloc, Performative::Close(body), Bytes::from_static(b""))
+}
+
+fn detach(alloc: Global, error: Option<AmqpError>) -> Option<FrameRefusal> {
+    let body = DetachBody {
+        handle: 0,
+        closed: None,
+        error,
+    };
+    refusal(alloc, Performative::Detach(body), Bytes::from_static(b""))
+}
+
+#[test]
+fn lengths(rt: HostRuntime) -> Result<(), Fail> {
+    let transfer = octets(rt.alloc(), T)?;
+    let whole = written(rt.alloc(), transfer.as_slice(), 27)?;
+    assert_eq!(rt; whole.as_slice(), transfer.as_slice());
+    assert_eq!(rt;
+        written(rt.alloc(), transfer.as_slice(), 26).err(),
+        Some(FrameRefusal::FrameTooBig)
+    );
+    Ok(())
+}
+
+#[test]
+fn unread_octets_come_again(rt: HostRuntime) -> Result<(), Fail> {
+    let first = octets(rt.alloc(), "0000001b020000000053")?;
+    let transfer = octets(rt.alloc(), T)?;
+    let mut framer = Framer::new(rt.alloc(), 65536);
+    assert_eq!(rt; fed_and_unread(&mut framer, first.as_slice())?, (10, false));
+    assert_eq!(rt; framer.pending(), 0);
+    assert_eq!(rt;
+        fed_and_unread(&mut framer, transfer.as_slice())?,
+        (27, true)
+    );
+    assert_eq!(rt; fed(&mut framer, transfer.as_slice())?, (27, true));
+    Ok(())
+}
+
+#[test]
+fn an_octet_at_a_time(rt: HostRuntime) -> Result<(), Fail> {
+    let transfer = octets(rt.alloc(), T)?;
+    let mut framer = Framer::new(rt.alloc(), 65536);
+    let mut frames = 0u32;
+    for octet in transfer.as_slice() {
+        if let (_, true) = fed(&mut framer, &[*octet])? {
+            frames = frames.wrapping_add(1);
+        }
+    }
+    assert_eq!(rt; frames, 1);
+    assert_eq!(rt; framer.pending(), 0);
+    Ok(())
+}
+
+#[test]
+fn faults(rt: HostRuntime) -> Result<(), Fail> {
+    let alloc = rt.alloc();
+    assert_eq!(rt; fault(alloc, "00000007")?, Some(FrameFault::ShortSize));
+    assert_eq!(rt;
+        fault(alloc, "00000008 01000000")?,
+        Some(FrameFault::BadDoff)
+    );
+    assert_eq!(rt;
+        fault(alloc, "00010001 02000000")?,
+        Some(FrameFault::TooBig)
+    );
+    assert_eq!(rt;
+        fault(alloc, "00000008 02010000")?,
+        Some(FrameFault::BadKind)
+    );
+    assert_eq!(rt;
+        fault(alloc, "00000009 02000000 ff")?,
+        Some(FrameFault::BadBody)
+    );
+    assert_eq!(rt;
+        fault(alloc, "0000000d 02000000 0053184500")?,
+        Some(FrameFault::BadBody)
+    );
+    Ok(())
+}
+
+#[test]
+fn frames_of_a_session(rt: HostRuntime) -> Result<(), Fail> {
+    let alloc = rt.alloc();
+    let begin = "0000001c02000000 005311c00f04 600000 43 7000000800 707fffffff";
+    assert!(rt; is_written_back(alloc, begin)?);
+    let sender = "0000001c02000000 005312c00f0a a10171 43 41 5002 5000 40404040 43";
+    assert!(rt; is_written_back(alloc, sender)?);
+    let flow = "0000001e02000000 005313c01107 43 7000000800 43 707fffffff 43 43 5205";
+    assert!(rt; is_written_back(alloc, flow)?);
+    assert!(rt; is_written_back(alloc, T)?);
+    Ok(())
+}
+
+#[test]
+fn frames_of_endings(rt: HostRuntime) -> Result<(), Fail> {
+    let alloc = rt.alloc();
+    assert!(rt; is_written_back(alloc, "00000010 02000000 005315c0030241 43")?);
+    assert!(rt; is_written_back(alloc, "00000010 02000000 005316c003024341")?);
+    assert!(rt; is_written_back(alloc, "0000000c 02000000 00531745")?);
+    assert!(rt; is_written_back(alloc, "0000000c 02000000 00531845")?);
+    assert!(rt; is_written_back(alloc, "00000008 02000000")?);
+    Ok(())
+}
+
+/// A name in place of a number, and an extended header: the frame is written anew in its canonical form.
+#[test]
+fn other_spellings(rt: HostRuntime) -> Result<(), Fail> {
+    let alloc = rt.alloc();
+    let named = octets(
+        alloc,
+        "0000001b02000000 00a30f616d71703a636c6f73653a6c697374 45",
+    )?;
+    assert_eq!(rt; written(alloc, named.as_slice(), 65536)?.len(), 12);
+    let extended = octets(alloc, "00000010 03000000 01020304 00531745")?;
+    assert_eq!(rt; written(alloc, extended.as_slice(), 65536)?.len(), 12);
+    Ok(())
+}
+
+#[test]
+fn unfair_flows_and_deliveries(rt: HostRuntime) -> Result<(), Fail> {
+    let alloc = rt.alloc();
+    assert_eq!(rt; flow(b"", None, alloc), None);
+    assert_eq!(rt; flow(b"x", None, alloc), UNFAIR);
+    assert_eq!(rt; flow(b"", Some(Value::Null), alloc), UNFAIR);
+    assert_eq!(rt; transfer(alloc, Some(1)), None);
+    assert_eq!(rt; transfer(alloc, Some(2)), UNFAIR);
+    Ok(())
+}
+
+#[test]
+fn unfair_states(rt: HostRuntime) -> Result<(), Fail> {
+    let alloc = rt.alloc();
+    assert_eq!(rt; disposition(alloc, Some(DeliveryState::Accepted)), None);
+    assert_eq!(rt;
+        disposition(alloc, Some(DeliveryState::Other(Value::Null))),
+        UNFAIR
+    );
+    let declared = described(alloc, Value::Ulong(0x33))?;
+    assert_eq!(rt; disposition(alloc, Some(declared)), None);
+    let accepted = described(alloc, Value::Ulong(0x24))?;
+    assert_eq!(rt; disposition(alloc, Some(accepted)), UNFAIR);
+    Ok(())
+}
+
+#[test]
+fn unfair_links(rt: HostRuntime) -> Result<(), Fail> {
+    let alloc = rt.alloc();
+    assert_eq!(rt; begin(alloc, None), None);
+    assert_eq!(rt; begin(alloc, Some(Value::Null)), UNFAIR);
+    assert_eq!(rt; attach(alloc, Text::new(alloc, "q")?, Some(2), None), None);
+    assert_eq!(rt;
+        attach(alloc, Text::new(alloc, "q")?, Some(3), None),
+        UNFAIR
+    );
+    assert_eq!(rt;
+        attach(alloc, Text::new(alloc, "q")?, None, Some(Value::Null)),
+        UNFAIR
+    );
+    Ok(())
+}
+
+#[test]
+fn unfair_endings(rt: HostRuntime) -> Result<(), Fail> {
+    let alloc = rt.alloc();
+    assert_eq!(rt; open(alloc, Text::new(alloc, "a")?, None), None);
+    assert_eq!(rt;
+        open(alloc, Text::new(alloc, "a")?, Some(Value::Null)),
+        UNFAIR
+    );
+    assert_eq!(rt; close(alloc, None), None);
+    let error = failure(Text::new(alloc, "x")?, Some(Value::Null));
+    assert_eq!(rt; close(alloc, Some(error)), UNFAIR);
+    Ok(())
+}
+
+#[test]
+fn unfair_errors(rt: HostRuntime) -> Result<(), Fail> {
+    let alloc = rt.alloc();
+    assert_eq!(rt; end(alloc, failure(Text::new(alloc, "x")?, None)), None);
+    assert_eq!(rt;
+        end(alloc, failure(Text::new(alloc, "\u{e9}")?, None)),
+        UNFAIR
+    );
+    assert_eq!(rt; detach(alloc, None), None);
+    let error = failure(Text::new(alloc, "x")?, Some(Value::Null));
+    assert_eq!(rt; detach(alloc, Some(error)), UNFAIR);
+    Ok(())
+}

@@ -1,0 +1,136 @@
+//! Writing fields and composite types behind octets. On an error some of what was to be written may stand there.
+ghost use Rattle.std.specs.Prelude.{◌≡◌, ◌<◌, Some, None, OnOk};
+ghost use Rattle.amqp_types.specs.Canon.{part_form, parts_form};
+ghost use Rattle.amqp_types.specs.Datum.{count_of};
+ghost use Rattle.amqp_performatives.specs.Part.{canonical};
+ghost use Rattle.amqp_performatives.specs.Bodies.{state};
+ghost use Rattle.amqp_frames.specs.Field.{forms_within, measured, composite_datum, added};
+ghost use Rattle.amqp_performatives.specs.Listed.{part_at, shown_fields};
+
+use crate::leaf::{put_list_head, put_run};
+use crate::measure::{Measure, fields_len};
+use amqp_performatives::DeliveryState;
+use amqp_performatives::field::{Field, any, boolean, failure};
+use amqp_performatives::listed::error_fields;
+use amqp_types::{
+    WriteFault, append_map, append_value, is_symbol, write_boolean, write_null, write_ubyte,
+    write_uint, write_ulong, write_ushort,
+};
+
+/// Writes the field, nested at most `depth` deep; an absent one as null.
+#[cycle(writing)]
+fn put_field(field: &Field<'_>, depth: u8, out: &mut Vec<u8>) -> Result<(), WriteFault>
+    ensures { OnOk result (added out.old.items (part_form None (canonical (part_at field.now))) ≡ Some out.new.items) }
+{
+    match field {
+        Field::Absent => Ok(write_null(out)?),
+        Field::Boolean(b) => Ok(write_boolean(out, *b)?),
+        Field::Ubyte(n) => Ok(write_ubyte(out, *n)?),
+        Field::Ushort(n) => Ok(write_ushort(out, *n)?),
+        Field::Uint(n) => Ok(write_uint(out, *n)?),
+        Field::Ulong(n) => Ok(write_ulong(out, *n)?),
+        Field::Binary(octets) => put_run(0xa0, 0xb0, octets, out),
+        Field::Str(text) => put_run(0xa1, 0xb1, text.as_bytes(), out),
+        Field::Symbol(text) => {
+            if is_symbol(text) {
+                put_run(0xa3, 0xb3, text.as_bytes(), out)
+            } else {
+                Err(WriteFault::NotWritable)
+            }
+        }
+        Field::Mapping(pairs) => append_map(pairs, out),
+        Field::Any(value) => append_value(value, out),
+        Field::State(reached) => put_state(reached, depth, out),
+        Field::Failure(failed) => put_composite(0x1d, &error_fields(failed), depth, out),
+    }
+}
+
+#[cycle(writing)]
+fn put_state(reached: &DeliveryState, depth: u8, out: &mut Vec<u8>) -> Result<(), WriteFault>
+    ensures { OnOk result (added out.old.items (part_form None (canonical (state reached.now))) ≡ Some out.new.items) }
+{
+    match reached {
+        DeliveryState::Received {
+            section_number,
+            section_offset,
+        } => {
+            put_composite(
+                0x23,
+                &[Field::Uint(*section_number), Field::Ulong(*section_offset)],
+                depth,
+                out,
+            )
+        }
+        DeliveryState::Accepted => put_composite(0x24, &[], depth, out),
+        DeliveryState::Rejected(failed) => put_composite(0x25, &[failure(failed)], depth, out),
+        DeliveryState::Released => put_composite(0x26, &[], depth, out),
+        DeliveryState::Modified {
+            delivery_failed,
+            undeliverable_here,
+            message_annotations,
+        } => {
+            let fields = [
+                boolean(*delivery_failed),
+                boolean(*undeliverable_here),
+                any(message_annotations),
+            ];
+            put_composite(0x27, &fields, depth, out)
+        }
+        DeliveryState::Other(value) => append_value(value, out),
+    }
+}
+
+/// Writes a described list of the fields.
+#[cycle(writing)]
+fn put_composite(
+    code: u8,
+    fields: &[Field<'_>],
+    depth: u8,
+    out: &mut Vec<u8>,
+) -> Result<(), WriteFault>
+    requires { 0 < code }
+    ensures { OnOk result (added out.old.items (part_form None (composite_datum code (shown_fields fields.now))) ≡ Some out.new.items) }
+{
+    if depth < 2 {
+        return Err(WriteFault::NotWritable);
+    }
+    match fields_len(fields, depth - 2) {
+        Some(measure) => put_described(code, fields, measure, depth - 2, out),
+        None => Err(WriteFault::NotWritable),
+    }
+}
+
+/// Writes a described list of the fields, each nested at most `depth` deep, whose measure is known.
+#[cycle(writing)]
+pub(crate) fn put_described(
+    code: u8,
+    fields: &[Field<'_>],
+    measure: Measure,
+    depth: u8,
+    out: &mut Vec<u8>,
+) -> Result<(), WriteFault>
+    requires some { 0 < code }
+    requires measure { Some (measure.count, measure.size) ≡ measured (count_of (shown_fields fields.now)) (forms_within depth (shown_fields fields.now)) }
+    ensures { OnOk result (added out.old.items (part_form None (composite_datum code (shown_fields fields.now))) ≡ Some out.new.items) }
+{
+    out.extend_from_slice(&[0x00, 0x53, code])?;
+    put_list_head(measure.count, measure.size, out)?;
+    put_fields(fields, measure.count as usize, depth, out)
+}
+
+/// Writes so many of the fields, those up to the last that is present.
+#[cycle(writing)]
+fn put_fields(
+    fields: &[Field<'_>],
+    count: usize,
+    depth: u8,
+    out: &mut Vec<u8>,
+) -> Result<(), WriteFault>
+    requires { count ≡ count_of (shown_fields fields.now) }
+    ensures { OnOk result (added out.old.items (parts_form (shown_fields fields.now) None) ≡ Some out.new.items) }
+{
+    for i in 0..count {
+        put_field(&fields[i], depth, out)?;
+    }
+    Ok(())
+}

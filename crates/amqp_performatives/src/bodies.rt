@@ -1,0 +1,316 @@
+//! The fields of the nine performatives (part 2, 2.7), in their order. A field that is not mandatory is an option; a default is not filled in.
+ghost use Rattle.std.specs.Prelude.{◌≡◌};
+
+use crate::copying::{copy_error, copy_pairs, copy_state, copy_text, copy_value};
+use crate::error::AmqpError;
+use crate::state::DeliveryState;
+use amqp_types::{Items, Tag, Text, Value};
+use std::alloc::AllocError;
+
+/// An end of a link (part 2, 2.8.1): true on the wire where it receives.
+#[derive(Clone, Copy, Debug, PartialEq, Eq)]
+pub enum Role {
+    Sender,
+    Receiver,
+}
+
+/// Open (part 2, 2.7.1).
+#[derive(Debug, Drop)]
+pub struct OpenBody {
+    pub container_id: Text,
+    pub hostname: Option<Text>,
+    /// In octets; 4294967295 where absent.
+    pub max_frame_size: Option<u32>,
+    /// 65535 where absent.
+    pub channel_max: Option<u16>,
+    /// In milliseconds.
+    pub idle_time_out: Option<u32>,
+    pub outgoing_locales: Option<Value>,
+    pub incoming_locales: Option<Value>,
+    pub offered_capabilities: Option<Value>,
+    pub desired_capabilities: Option<Value>,
+    pub properties: Option<Value>,
+}
+
+impl Clone for OpenBody {
+    ghost is_clone = { λ a b. b ≡ a };
+
+    fn clone(&self) -> Result<OpenBody, AllocError> {
+        let container_id = self.container_id.clone()?;
+        let hostname = copy_text(&self.hostname)?;
+        let outgoing_locales = copy_value(&self.outgoing_locales)?;
+        let incoming_locales = copy_value(&self.incoming_locales)?;
+        let offered_capabilities = copy_value(&self.offered_capabilities)?;
+        let desired_capabilities = copy_value(&self.desired_capabilities)?;
+        let properties = copy_value(&self.properties)?;
+        Ok(OpenBody {
+            container_id,
+            hostname,
+            max_frame_size: self.max_frame_size,
+            channel_max: self.channel_max,
+            idle_time_out: self.idle_time_out,
+            outgoing_locales,
+            incoming_locales,
+            offered_capabilities,
+            desired_capabilities,
+            properties,
+        })
+    }
+}
+
+/// Begin (part 2, 2.7.2).
+#[derive(Debug, Drop)]
+pub struct BeginBody {
+    pub remote_channel: Option<u16>,
+    pub next_outgoing_id: u32,
+    /// In transfers.
+    pub incoming_window: u32,
+    /// In transfers.
+    pub outgoing_window: u32,
+    /// 4294967295 where absent.
+    pub handle_max: Option<u32>,
+    pub offered_capabilities: Option<Value>,
+    pub desired_capabilities: Option<Value>,
+    pub properties: Option<Value>,
+}
+
+impl Clone for BeginBody {
+    ghost is_clone = { λ a b. b ≡ a };
+
+    fn clone(&self) -> Result<BeginBody, AllocError> {
+        let offered_capabilities = copy_value(&self.offered_capabilities)?;
+        let desired_capabilities = copy_value(&self.desired_capabilities)?;
+        let properties = copy_value(&self.properties)?;
+        Ok(BeginBody {
+            remote_channel: self.remote_channel,
+            next_outgoing_id: self.next_outgoing_id,
+            incoming_window: self.incoming_window,
+            outgoing_window: self.outgoing_window,
+            handle_max: self.handle_max,
+            offered_capabilities,
+            desired_capabilities,
+            properties,
+        })
+    }
+}
+
+/// Attach (part 2, 2.7.3).
+#[derive(Debug, Drop)]
+pub struct AttachBody {
+    pub name: Text,
+    pub handle: u32,
+    pub role: Role,
+    /// 0 unsettled, 1 settled, 2 mixed (part 2, 2.8.2); 2 where absent.
+    pub snd_settle_mode: Option<u8>,
+    /// 0 first, 1 second (part 2, 2.8.3); 0 where absent.
+    pub rcv_settle_mode: Option<u8>,
+    pub source: Option<Value>,
+    pub target: Option<Value>,
+    /// Delivery tags with their states.
+    pub unsettled: Option<Items<(Value, Value)>>,
+    /// False where absent.
+    pub incomplete_unsettled: Option<bool>,
+    /// A sender's first delivery-count.
+    pub initial_delivery_count: Option<u32>,
+    /// In octets; no limit where it is 0 or absent.
+    pub max_message_size: Option<u64>,
+    pub offered_capabilities: Option<Value>,
+    pub desired_capabilities: Option<Value>,
+    pub properties: Option<Value>,
+}
+
+impl Clone for AttachBody {
+    ghost is_clone = { λ a b. b ≡ a };
+
+    fn clone(&self) -> Result<AttachBody, AllocError> {
+        let name = self.name.clone()?;
+        let source = copy_value(&self.source)?;
+        let target = copy_value(&self.target)?;
+        let unsettled = copy_pairs(&self.unsettled)?;
+        let offered_capabilities = copy_value(&self.offered_capabilities)?;
+        let desired_capabilities = copy_value(&self.desired_capabilities)?;
+        let properties = copy_value(&self.properties)?;
+        Ok(AttachBody {
+            name,
+            handle: self.handle,
+            role: self.role,
+            snd_settle_mode: self.snd_settle_mode,
+            rcv_settle_mode: self.rcv_settle_mode,
+            source,
+            target,
+            unsettled,
+            incomplete_unsettled: self.incomplete_unsettled,
+            initial_delivery_count: self.initial_delivery_count,
+            max_message_size: self.max_message_size,
+            offered_capabilities,
+            desired_capabilities,
+            properties,
+        })
+    }
+}
+
+/// Flow (part 2, 2.7.4). Without a handle it speaks of the session alone.
+#[derive(Debug, Drop)]
+pub struct FlowBody {
+    pub next_incoming_id: Option<u32>,
+    /// In transfers.
+    pub incoming_window: u32,
+    pub next_outgoing_id: u32,
+    /// In transfers.
+    pub outgoing_window: u32,
+    pub handle: Option<u32>,
+    pub delivery_count: Option<u32>,
+    /// In deliveries.
+    pub link_credit: Option<u32>,
+    /// In messages.
+    pub available: Option<u32>,
+    /// False where absent.
+    pub drain: Option<bool>,
+    /// False where absent.
+    pub echo: Option<bool>,
+    pub properties: Option<Value>,
+}
+
+impl Clone for FlowBody {
+    ghost is_clone = { λ a b. b ≡ a };
+
+    fn clone(&self) -> Result<FlowBody, AllocError> {
+        let properties = copy_value(&self.properties)?;
+        Ok(FlowBody {
+            next_incoming_id: self.next_incoming_id,
+            incoming_window: self.incoming_window,
+            next_outgoing_id: self.next_outgoing_id,
+            outgoing_window: self.outgoing_window,
+            handle: self.handle,
+            delivery_count: self.delivery_count,
+            link_credit: self.link_credit,
+            available: self.available,
+            drain: self.drain,
+            echo: self.echo,
+            properties,
+        })
+    }
+}
+
+/// Transfer (part 2, 2.7.5); its payload is the frame's.
+#[derive(Debug, Drop)]
+pub struct TransferBody {
+    pub handle: u32,
+    pub delivery_id: Option<u32>,
+    pub delivery_tag: Option<Tag>,
+    pub message_format: Option<u32>,
+    pub settled: Option<bool>,
+    /// False where absent.
+    pub more: Option<bool>,
+    /// 0 first, 1 second.
+    pub rcv_settle_mode: Option<u8>,
+    pub state: Option<DeliveryState>,
+    /// False where absent.
+    pub resume: Option<bool>,
+    /// False where absent.
+    pub aborted: Option<bool>,
+    /// False where absent.
+    pub batchable: Option<bool>,
+}
+
+impl Clone for TransferBody {
+    ghost is_clone = { λ a b. b ≡ a };
+
+    fn clone(&self) -> Result<TransferBody, AllocError> {
+        let state = copy_state(&self.state)?;
+        Ok(TransferBody {
+            handle: self.handle,
+            delivery_id: self.delivery_id,
+            delivery_tag: self.delivery_tag,
+            message_format: self.message_format,
+            settled: self.settled,
+            more: self.more,
+            rcv_settle_mode: self.rcv_settle_mode,
+            state,
+            resume: self.resume,
+            aborted: self.aborted,
+            batchable: self.batchable,
+        })
+    }
+}
+
+/// Disposition (part 2, 2.7.6), of the deliveries from `first` to `last`; of `first` alone where `last` is absent.
+#[derive(Debug, Drop)]
+pub struct DispositionBody {
+    pub role: Role,
+    pub first: u32,
+    pub last: Option<u32>,
+    /// False where absent.
+    pub settled: Option<bool>,
+    pub state: Option<DeliveryState>,
+    /// False where absent.
+    pub batchable: Option<bool>,
+}
+
+impl Clone for DispositionBody {
+    ghost is_clone = { λ a b. b ≡ a };
+
+    fn clone(&self) -> Result<DispositionBody, AllocError> {
+        let state = copy_state(&self.state)?;
+        Ok(DispositionBody {
+            role: self.role,
+            first: self.first,
+            last: self.last,
+            settled: self.settled,
+            state,
+            batchable: self.batchable,
+        })
+    }
+}
+
+/// Detach (part 2, 2.7.7).
+#[derive(Debug, Drop)]
+pub struct DetachBody {
+    pub handle: u32,
+    /// False where absent.
+    pub closed: Option<bool>,
+    pub error: Option<AmqpError>,
+}
+
+impl Clone for DetachBody {
+    ghost is_clone = { λ a b. b ≡ a };
+
+    fn clone(&self) -> Result<DetachBody, AllocError> {
+        let error = copy_error(&self.error)?;
+        Ok(DetachBody {
+            handle: self.handle,
+            closed: self.closed,
+            error,
+        })
+    }
+}
+
+/// End (part 2, 2.7.8).
+#[derive(Debug, Drop)]
+pub struct EndBody {
+    pub error: Option<AmqpError>,
+}
+
+impl Clone for EndBody {
+    ghost is_clone = { λ a b. b ≡ a };
+
+    fn clone(&self) -> Result<EndBody, AllocError> {
+        let error = copy_error(&self.error)?;
+        Ok(EndBody { error })
+    }
+}
+
+/// Close (part 2, 2.7.9).
+#[derive(Debug, Drop)]
+pub struct CloseBody {
+    pub error: Option<AmqpError>,
+}
+
+impl Clone for CloseBody {
+    ghost is_clone = { λ a b. b ≡ a };
+
+    fn clone(&self) -> Result<CloseBody, AllocError> {
+        let error = copy_error(&self.error)?;
+        Ok(CloseBody { error })
+    }
+}

@@ -1,0 +1,54 @@
+ghost use Rattle.std.specs.Prelude.{◌≡◌};
+
+use crate::copying::{copy_error, copy_value};
+use crate::error::AmqpError;
+use amqp_types::Value;
+use std::alloc::AllocError;
+
+/// The state of a delivery at one end (part 3, 3.4). All but `Received` and `Other` are outcomes.
+#[derive(Debug, Drop)]
+pub enum DeliveryState {
+    Received {
+        section_number: u32,
+        section_offset: u64,
+    },
+    Accepted,
+    Rejected(Option<AmqpError>),
+    Released,
+    Modified {
+        delivery_failed: Option<bool>,
+        undeliverable_here: Option<bool>,
+        message_annotations: Option<Value>,
+    },
+    /// A state that is none of these, as a transaction's.
+    Other(Value),
+}
+
+impl Clone for DeliveryState {
+    ghost is_clone = { λ a b. b ≡ a };
+
+    fn clone(&self) -> Result<DeliveryState, AllocError> {
+        match self {
+            DeliveryState::Received {
+                section_number,
+                section_offset,
+            } => Ok(DeliveryState::Received {
+                section_number: *section_number,
+                section_offset: *section_offset,
+            }),
+            DeliveryState::Accepted => Ok(DeliveryState::Accepted),
+            DeliveryState::Rejected(error) => Ok(DeliveryState::Rejected(copy_error(error)?)),
+            DeliveryState::Released => Ok(DeliveryState::Released),
+            DeliveryState::Modified {
+                delivery_failed,
+                undeliverable_here,
+                message_annotations,
+            } => Ok(DeliveryState::Modified {
+                delivery_failed: *delivery_failed,
+                undeliverable_here: *undeliverable_here,
+                message_annotations: copy_value(message_annotations)?,
+            }),
+            DeliveryState::Other(value) => Ok(DeliveryState::Other(value.clone()?)),
+        }
+    }
+}
