@@ -1,3 +1,3 @@
 pub mod Places
-pub mod Accepted
 pub mod Sent
+pub mod Accepted

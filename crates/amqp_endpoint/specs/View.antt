@@ -1,29 +1,33 @@
 -- What a session is, as callers see it (part 2, 2.5.6 and 2.6.7).
-use Rattle.std.specs.Prelude.{ℕ, ◌≡◌, ◌<◌, ◌==◌, Bool, Option, Some, List, [], ◌∷◌, length, find, is_none, false, slice_set, cond}
+use Rattle.std.specs.Prelude.{ℕ, ◌≡◌, ◌<◌, ◌+◌, ◌==◌, Bool, Some, List, [], ◌∷◌, length, find, is_none, false, slice_set, cond}
 use Rattle.std.specs.List.{slice_index_or}
+use Rattle.amqp_flow.specs.Serial.{wire}
+use Rattle.amqp_flow.specs.Windows.{WindowsView, unused_windows, windows_begun}
+use Rattle.amqp_flow.specs.Credit.{CreditView, no_credit}
+use Rattle.amqp_endpoint.specs.declared.config.Config.{Config}
 
 -- an attached link on which we send
 pub record LinkView : Type 0 where
   pub number : ℕ
   pub handle : ℕ
   pub peer_handle : ℕ
-  pub first_count : ℕ
-  pub count : ℕ
-  pub credit : ℕ
+  pub credit : CreditView
+  -- how many messages the application said to be available
+  pub available : ℕ
 
--- `steps` were accepted, and `transfers` were sent; `first` is the id of the first transfer and of the first delivery
 pub record View : Type 0 where
+  -- how many were accepted
   pub steps : ℕ
-  pub first : ℕ
-  pub next_in : Option ℕ
-  pub incoming : ℕ
-  pub next_out : ℕ
-  pub remote_in : ℕ
-  pub remote_out : ℕ
-  pub transfers : ℕ
-  pub next_delivery : ℕ
+  pub windows : WindowsView
+  -- how many deliveries were begun
+  pub deliveries : ℕ
+  -- in octets: the longest frame that the peer takes
   pub max_frame : ℕ
   pub links : List LinkView
+
+-- the id of the delivery that begins next: the first delivery has the id of the first transfer
+abbrev pub next_delivery : View → ℕ
+next_delivery v = wire (v.windows.first + v.deliveries)
 
 abbrev pub has_number : ℕ → LinkView → Bool
 has_number k l = l.number == k
@@ -37,21 +41,19 @@ change_first test change [] = []
 change_first test change (l ∷ links) = cond (test l) (change l ∷ links) (l ∷ change_first test change links)
 
 abbrev pub initial_link : ℕ → LinkView
-initial_link k = record { number = k; handle = 0; peer_handle = 0; first_count = 0; count = 0; credit = 0 }
+initial_link k = record { number = k; handle = 0; peer_handle = 0; credit = no_credit 0; available = 0 }
 
--- the view of the empty journal: a mapped session whose peer takes frames of 65536 octets and a window of 2048, with one link
-abbrev pub initial : View
-initial =
+-- the peer's begin told next-outgoing-id 0, incoming-window 2048 and outgoing-window 2147483647
+abbrev pub initial_windows : Config → WindowsView
+initial_windows c = windows_begun 0 2048 2147483647 (unused_windows c.first_id c.window)
+
+-- the view of the empty journal: a mapped session whose peer takes frames of 65536 octets, with one link
+abbrev pub initial : Config → View
+initial c =
     record {
       steps = 0;
-      first = 0;
-      next_in = Some 0;
-      incoming = 2048;
-      next_out = 0;
-      remote_in = 2048;
-      remote_out = 2147483647;
-      transfers = 0;
-      next_delivery = 0;
+      windows = initial_windows c;
+      deliveries = 0;
       max_frame = 65536;
       links = initial_link 0 ∷ [];
     }

@@ -1,7 +1,7 @@
 ghost use Rattle.std.specs.Prelude.{◌≡◌, ◌<◌, ◌^◌, OnOk, OnErr, IfOk};
 ghost use Rattle.std.specs.Result.{result_err};
 ghost use Rattle.amqp_endpoint.specs.Limits.{IsWithinLimits};
-ghost use Rattle.amqp_endpoint.specs.View.{initial};
+ghost use Rattle.amqp_endpoint.specs.View.{initial, initial_windows, next_delivery};
 ghost use Rattle.amqp_endpoint.specs.Status.{windows_of, status_of};
 ghost use Rattle.amqp_endpoint.specs.Answer.{own_answer, next_own, heard_answer, next_heard};
 ghost use Rattle.amqp_endpoint.specs.Refusing.{Gives, no_memory};
@@ -12,15 +12,21 @@ use crate::refusal::Refusal;
 use crate::reply::Reply;
 use crate::status::{LinkStatus, WindowView};
 use crate::violation::{Violation, ViolationKind};
+use amqp_flow::windows::Windows;
 use amqp_frames::{Frame, Performative};
 use link::{Link, status_of};
 use std::alloc::{AllocError, Global};
 use std::marker::Model;
 
+mod beat;
+mod drained;
 mod flow;
 mod link;
+mod offer;
+mod refresh;
 mod sending;
 mod start;
+mod telling;
 
 /// One end of a session. A refused operation and a frame that is not taken change nothing.
 ///
@@ -28,21 +34,17 @@ mod start;
 ///
 /// | what | at the start | after |
 /// |---|---|---|
-/// | next-outgoing-id, delivery-id | 0 | one more for each transfer, each delivery |
+/// | next-outgoing-id, delivery-id | the configured first one | one more for each transfer, each delivery |
+/// | incoming-window | the configured one | as configured at each flow that is sent |
 /// | remote-incoming-window | 2048 | one less for each transfer; a heard flow gives it anew |
-/// | link-credit | 0 | one less for each delivery; a heard flow gives it anew |
+/// | delivery-count | 0 | one more for each delivery; what credit was left more at a drain |
+/// | link-credit | 0 | one less for each delivery; 0 at a drain; a heard flow gives it anew |
 #[derive(Drop)]
 pub struct Endpoint {
     alloc: Global,
     steps: u32,
-    first: u32,
-    next_in: Option<u32>,
-    incoming: u32,
-    next_out: u32,
-    remote_in: u32,
-    remote_out: u32,
-    transfers: u32,
-    next_delivery: u32,
+    windows: Windows,
+    deliveries: u32,
     max_frame: u32,
     links: Vec<Link>,
 }
@@ -53,30 +55,33 @@ impl Model for Endpoint {
 
     ghost Value = { View };
 
-    ghost view = { λ e. record { steps = e.steps; first = e.first; next_in = e.next_in; incoming = e.incoming; next_out = e.next_out; remote_in = e.remote_in; remote_out = e.remote_out; transfers = e.transfers; next_delivery = e.next_delivery; max_frame = e.max_frame; links = e.links.items } };
+    ghost view = { λ e. record { steps = e.steps; windows = e.windows; deliveries = e.deliveries; max_frame = e.max_frame; links = e.links.items } };
 
-    ghost invariant = { λ e. e.transfers ≤ e.steps };
+    ghost invariant = { λ e. (e.windows.sent ≤ e.steps) × (e.deliveries ≤ e.steps) };
+}
+
+/// The windows of a session whose peer told next-outgoing-id 0, incoming-window 2048 and outgoing-window 2147483647 by its begin.
+fn initial_windows(config: &Config) -> Windows
+    ensures { result ≡ initial_windows config.now }
+{
+    let mut windows = Windows::new(config.first_id, config.window);
+    windows.on_begin(0, 2048, 2147483647);
+    windows
 }
 
 impl Endpoint {
     /// The endpoint before its first step.
     pub fn new(alloc: Global, config: &Config) -> Result<Endpoint, AllocError>
         requires { IsWithinLimits config.now }
-        ensures { IfOk result (λ e. e ≡ initial) }
+        ensures { IfOk result (λ e. e ≡ initial config.now) }
     {
         let mut links = Vec::new(alloc);
         links.push(Link::new(0))?;
         Ok(Endpoint {
             alloc,
             steps: 0,
-            first: 0,
-            next_in: Some(0),
-            incoming: 2048,
-            next_out: 0,
-            remote_in: 2048,
-            remote_out: 2147483647,
-            transfers: 0,
-            next_delivery: 0,
+            windows: initial_windows(config),
+            deliveries: 0,
             max_frame: 65536,
             links,
         })
@@ -94,13 +99,20 @@ impl Endpoint {
         ensures { result ≡ windows_of self.now }
     {
         WindowView {
-            next_in: self.next_in,
-            incoming: self.incoming,
-            next_out: self.next_out,
-            remote_in: self.remote_in,
-            remote_out: self.remote_out,
-            next_delivery: self.next_delivery,
+            next_in: self.windows.next_incoming(),
+            incoming: self.windows.incoming(),
+            next_out: self.windows.next_outgoing(),
+            remote_in: self.windows.remote_incoming(),
+            remote_out: self.windows.remote_outgoing(),
+            next_delivery: self.next_delivery(),
         }
+    }
+
+    /// The id of the delivery that begins next.
+    fn next_delivery(&self) -> u32
+        ensures { result ≡ next_delivery self.now }
+    {
+        self.windows.first().wrapping_add(self.deliveries)
     }
 
     /// The link with this number, as it stands; none where there is none.
@@ -124,6 +136,10 @@ impl Endpoint {
                 format,
                 payload,
             } => self.start(*link, *tag, *format, payload),
+            Op::Offer { link, available } => self.offer(*link, *available),
+            Op::Drained { link } => self.drained(*link),
+            Op::Refresh { echo } => self.refresh(*echo),
+            Op::Beat => self.beat(),
         }
     }
 
@@ -138,6 +154,10 @@ impl Endpoint {
                 format,
                 payload,
             } => self.start_refusal(*link, *tag, *format, payload),
+            Op::Offer { link, available } => self.offer_refusal(*link, *available),
+            Op::Drained { link } => self.drained_refusal(*link),
+            Op::Refresh { echo } => self.refresh_refusal(*echo),
+            Op::Beat => self.beat_refusal(),
         }
     }
 
@@ -159,7 +179,7 @@ impl Endpoint {
         ensures { result ≡ result_err (heard_answer self.now frame.now) }
     {
         match &frame.body {
-            Some(Performative::Flow(body)) => self.check_flow(body),
+            Some(Performative::Flow(body)) => self.flow_violation(body),
             _ => Some(Violation::unlinked(ViolationKind::OutOfSession)),
         }
     }

@@ -318,7 +318,7 @@ fn frames_of_a_session(rt: HostRuntime) -> Result<(), Fail> {
     let alloc = rt.alloc();
     let begin = "0000001c02000000 005311c00f04 600000 43 7000000800 707fffffff";
     assert!(rt; is_written_back(alloc, begin)?);
-    let sender = "0000001c02000000 005312c00f0a a10171 43 41 5002 5000 40404040 43";
+    let sender = "0000001c02000000 005312c00f0a a10171 43 42 5002 5000 40404040 43";
     assert!(rt; is_written_back(alloc, sender)?);
     let flow = "0000001e02000000 005313c01107 43 7000000800 43 707fffffff 43 43 5205";
     assert!(rt; is_written_back(alloc, flow)?);

@@ -1,7 +1,7 @@
 -- Journals in which every reply is the specification's.
 use Rattle.std.specs.Prelude.{ℕ, ◌≡◌, ◌<◌, ◌≤◌, ◌+◌, true, Option, Some, Ok, List, [], ◌∷◌, ◌++◌, length, map, EachIndex, slice_get}
 use Rattle.std.specs.List.{flat_map}
-use Rattle.amqp_endpoint.specs.Serial.{wire}
+use Rattle.amqp_flow.specs.Serial.{wire}
 use Rattle.amqp_endpoint.specs.declared.reply.Reply.{Reply}
 use Rattle.amqp_endpoint.specs.declared.config.Config.{Config}
 use Rattle.amqp_endpoint.specs.View.{View}
@@ -11,7 +11,6 @@ use Rattle.amqp_journal.specs.declared.entry.Step.{Step}
 use Rattle.amqp_journal.specs.declared.entry.Step.TheVariants.{Own, Heard}
 use Rattle.amqp_journal.specs.Past.{past}
 use Rattle.amqp_journal.specs.Said.{starts_on, transfers_sent}
-use Rattle.amqp_journal.specs.Windows.{first_id}
 use Rattle.amqp_journal.specs.Sending.{credit}
 use Rattle.amqp_journal.specs.At.{at}
 
@@ -24,13 +23,13 @@ next v (Own op) = next_own v op
 next v (Heard frame) = next_heard v frame
 
 -- each entry has the reply that is due after the entries before it
-abbrev pub IsReplayed : List Entry → Type 0
-IsReplayed [] = Unit {0}
-IsReplayed (e ∷ before) = IsReplayed before × Answers (at before) e.step e.reply
+abbrev pub IsReplayed : Config → List Entry → Type 0
+IsReplayed c [] = Unit {0}
+IsReplayed c (e ∷ before) = IsReplayed c before × Answers (at c before) e.step e.reply
 
 pub record IsLawful (c : Config) (past : List Entry) : Type 0 where
   pub short : length past ≤ c.journal_limit
-  pub replayed : IsReplayed past
+  pub replayed : IsReplayed c past
 
 -- before each start on a link its credit is at least one
 abbrev pub NeverWithoutCredit : List Entry → Type 0
@@ -41,10 +40,10 @@ NeverWithoutCredit journal =
 abbrev pub sent_ids : List Entry → List (Option ℕ)
 sent_ids journal = flat_map (λ e. map (λ b. b.delivery_id) (transfers_sent e)) journal
 
--- the i-th transfer sent carries the i-th serial number
-abbrev pub SendsSerials : List Entry → Type 0
-SendsSerials journal = EachIndex (sent_ids journal) (λ i. slice_get (sent_ids journal) i ≡ Some (Some (wire (first_id + i))))
+-- the i-th transfer sent carries the i-th serial number, counted from the first
+abbrev pub SendsSerials : ℕ → List Entry → Type 0
+SendsSerials first journal = EachIndex (sent_ids journal) (λ i. slice_get (sent_ids journal) i ≡ Some (Some (wire (first + i))))
 
 -- one entry more changes the view as the entry's step does
-abbrev pub GoesOn : List Entry → Type 0
-GoesOn journal = (before : List Entry) (e : Entry) → journal ≡ before ++ e ∷ [] → at (past journal) ≡ next (at (past before)) e.step
+abbrev pub GoesOn : Config → List Entry → Type 0
+GoesOn c journal = (before : List Entry) (e : Entry) → journal ≡ before ++ e ∷ [] → at c (past journal) ≡ next (at c (past before)) e.step

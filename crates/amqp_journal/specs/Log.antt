@@ -22,10 +22,10 @@ pub record Log : Type 0 where
 
 -- what is due to an operation: a full journal refuses it, else the view decides
 abbrev pub own_answer_of : Log → Op → Result Reply Refusal
-own_answer_of l op = cond (nat_le l.config.journal_limit (length l.journal)) (Err JournalFull) (own_answer (at (past l.journal)) op)
+own_answer_of l op = cond (nat_le l.config.journal_limit (length l.journal)) (Err JournalFull) (own_answer (at l.config (past l.journal)) op)
 
 abbrev pub heard_answer_of : Log → Frame → Result Reply Violation
-heard_answer_of l frame = cond (nat_le l.config.journal_limit (length l.journal)) (Err (unlinked Full)) (heard_answer (at (past l.journal)) frame)
+heard_answer_of l frame = cond (nat_le l.config.journal_limit (length l.journal)) (Err (unlinked Full)) (heard_answer (at l.config (past l.journal)) frame)
 
 -- the log has one entry more, with the reply that is due
 abbrev pub Appends : {E : Type 0} → Log → Step → Result Reply E → Given → Log → Type 0

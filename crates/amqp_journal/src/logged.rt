@@ -2,10 +2,11 @@ ghost use Rattle.amqp_endpoint.specs.declared.config.Config.{Config};
 ghost use Rattle.amqp_endpoint.specs.Limits.{IsWithinLimits};
 ghost use Rattle.amqp_endpoint.specs.Refusing.{no_memory};
 ghost use Rattle.amqp_journal.specs.declared.entry.Entry.{Entry};
-ghost use Rattle.std.specs.Prelude.{List, ◌≡◌, ◌<◌, ◌≤◌, ◌^◌, ◌+◌, ◌++◌, ◌∷◌, length, [], vec_len, vec_capacity, IfErr, OnOk, OnErr, IfOk};
+ghost use Rattle.std.specs.Prelude.{ℕ, List, ◌≡◌, ◌<◌, ◌≤◌, ◌^◌, ◌+◌, ◌++◌, ◌∷◌, length, [], vec_len, vec_capacity, IfErr, IfSome, OnOk, OnErr, IfOk};
 ghost use Rattle.amqp_journal.specs.Log.{Log, Appends, IsRefusal, own_answer_of, heard_answer_of};
 ghost use Rattle.amqp_journal.specs.Past.{past};
 ghost use Rattle.amqp_journal.specs.At.{at};
+ghost use Rattle.amqp_journal.specs.Sending.{last_credit, passed, passed_then};
 ghost use Rattle.amqp_journal.specs.Lawful.{IsLawful, NeverWithoutCredit, SendsSerials, GoesOn};
 
 use crate::entry::{Entry, Step};
@@ -33,6 +34,7 @@ impl Model for Logged {
     ghost use Rattle.amqp_journal.specs.Log.{Log};
     ghost use Rattle.amqp_journal.specs.Past.{past};
     ghost use Rattle.amqp_journal.specs.At.{at};
+    ghost use Rattle.amqp_journal.specs.Sending.{last_credit, passed, passed_then};
     ghost use Rattle.amqp_journal.specs.Lawful.{IsLawful};
     ghost use Rattle.amqp_endpoint.specs.Limits.{IsWithinLimits};
     ghost use Rattle.amqp_types.specs.contracts.value.Value as value;
@@ -44,7 +46,7 @@ impl Model for Logged {
 
     ghost view = { λ l. record { config = l.config; journal = l.journal.items } };
 
-    ghost invariant = { λ l. IsLawful l.config (past l.journal.items) × (l.endpoint ≡ at (past l.journal.items)) × IsWithinLimits l.config };
+    ghost invariant = { λ l. IsLawful l.config (past l.journal.items) × (l.endpoint ≡ at l.config (past l.journal.items)) × IsWithinLimits l.config };
 }
 
 impl Logged {
@@ -66,14 +68,14 @@ impl Logged {
         ensures value { result.now ≡ self.now.journal }
         ensures lawful { IsLawful self.now.config (past self.now.journal) }
         ensures credit { NeverWithoutCredit self.now.journal }
-        ensures serials { SendsSerials self.now.journal }
+        ensures serials { SendsSerials self.now.config.first_id self.now.journal }
     {
         self.journal.as_slice()
     }
 
     /// The endpoint, as it stands.
     pub fn endpoint(&self) -> &Endpoint
-        ensures { result.now ≡ at (past self.now.journal) }
+        ensures { result.now ≡ at self.now.config (past self.now.journal) }
     {
         &self.endpoint
     }
@@ -169,9 +171,11 @@ fn push_within(journal: &mut Vec<Entry>, entry: Entry)
 }
 
 /// Along every lawful journal each entry changes the view as its step does, no delivery begins without credit,
-/// and the ids that are sent are consecutive serial numbers.
+/// and the ids that are sent are consecutive serial numbers from the configured first one on. The credit of a link is counted from the
+/// deliveries that had passed on it before the last flow that said one.
 pub fn laws()
-    ensures goes_on { (c : Config) (journal : List Entry) → IsWithinLimits c → IsLawful c (past journal) → GoesOn journal }
+    ensures goes_on { (c : Config) (journal : List Entry) → IsWithinLimits c → IsLawful c (past journal) → GoesOn c journal }
     ensures credit { (c : Config) (journal : List Entry) → IsLawful c (past journal) → NeverWithoutCredit journal }
-    ensures serials { (c : Config) (journal : List Entry) → IsLawful c (past journal) → SendsSerials journal }
+    ensures serials { (c : Config) (journal : List Entry) → IsLawful c (past journal) → SendsSerials c.first_id journal }
+    ensures granted { (k : ℕ) (past : List Entry) → IfSome (last_credit k past) (λ said. passed_then k past ≡ passed k said.1) }
 {}

@@ -35,15 +35,11 @@ pub fn read_request<'a, S: AsStr>(alloc: Global, words: &'a [S]) -> Result<Reque
 }
 
 fn program<'a>(alloc: Global) -> Result<Command<'a>, AllocError> {
-    let limit = Arg::new(alloc, "limit")
-        .long("limit")
-        .value_name("L")
-        .value_parser(value_parser!(u32).range(1..=1048576))
-        .default_value("1048576")
-        .help("How many steps the journal may have");
     let script = Command::new(alloc, "script")
         .about("Reads lines from standard input and answers each with a line")
-        .arg(limit)?;
+        .arg(first_id(alloc)?)?
+        .arg(window(alloc)?)?
+        .arg(limit(alloc)?)?;
     let frames = Command::new(alloc, "frames").about(
         "Reads octets in hexadecimal from standard input and names the frames in them",
     );
@@ -54,13 +50,54 @@ fn program<'a>(alloc: Global) -> Result<Command<'a>, AllocError> {
         .subcommand(frames)
 }
 
-/// The settings of a `script`, whose limit is the greatest one where none is given.
+fn first_id<'a>(alloc: Global) -> Result<Arg<'a>, AllocError> {
+    Ok(
+        Arg::new(alloc, "first-id")
+            .long("first-id")
+            .value_name("N")
+            .value_parser(value_parser!(u32))
+            .default_value("0")
+            .help("The first transfer id and delivery id"),
+    )
+}
+
+fn window<'a>(alloc: Global) -> Result<Arg<'a>, AllocError> {
+    Ok(
+        Arg::new(alloc, "window")
+            .long("window")
+            .value_name("W")
+            .value_parser(value_parser!(u32).range(1..=2147483647))
+            .default_value("2048")
+            .help("The incoming window, in transfers"),
+    )
+}
+
+fn limit<'a>(alloc: Global) -> Result<Arg<'a>, AllocError> {
+    Ok(
+        Arg::new(alloc, "limit")
+            .long("limit")
+            .value_name("L")
+            .value_parser(value_parser!(u32).range(1..=1073741824))
+            .default_value("1073741824")
+            .help("How many steps the journal may have"),
+    )
+}
+
+/// The incoming window where none is given.
+const WINDOW: u32 = 2048;
+
+/// The settings of a `script`: the first id 0, the window 2048 and the greatest limit where none is given.
 fn script_config(matches: &ArgMatches<'_>) -> Config {
-    let limit = match matches.subcommand_matches("script") {
-        Some(options) => options.get_one::<u32>("limit"),
-        None => None,
+    let Some(options) = matches.subcommand_matches("script") else {
+        return Config {
+            first_id: 0,
+            window: WINDOW,
+            journal_limit: MAX_JOURNAL_LIMIT,
+        };
     };
     Config {
-        journal_limit: limit.unwrap_or(MAX_JOURNAL_LIMIT),
+        first_id: options.get_one::<u32>("first-id").unwrap_or(0),
+        window: options.get_one::<u32>("window").unwrap_or(WINDOW),
+        journal_limit: options.get_one::<u32>("limit").unwrap_or(MAX_JOURNAL_LIMIT),
     }
 }

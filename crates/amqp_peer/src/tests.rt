@@ -11,7 +11,7 @@ use std::io;
 use std::io::{BufReader, Read, Write};
 use std::test::Fail;
 
-const LONGEST: u32 = 1048576;
+const LONGEST: u32 = 1073741824;
 
 /// A start that finds no credit at first.
 const START: &[u8] = b"start 0 01 0 1 0 78\n";
@@ -24,7 +24,20 @@ const HEARD: &[u8] = b"ok given=none ended=- frames=-\n";
 
 /// The script's answers are these, and whether each of its lines was one.
 fn answers(alloc: Global, limit: u32, script: &[u8], wanted: &[u8]) -> Result<bool, Fail> {
+    answers_from(alloc, 0, limit, script, wanted)
+}
+
+/// The same of a session whose first id is this.
+fn answers_from(
+    alloc: Global,
+    first_id: u32,
+    limit: u32,
+    script: &[u8],
+    wanted: &[u8],
+) -> Result<bool, Fail> {
     let config = Config {
+        first_id,
+        window: 2048,
         journal_limit: limit,
     };
     if !config.is_within_limits() {
@@ -142,6 +155,8 @@ fn forms_of_good_lines(rt: HostRuntime) -> Result<(), Fail> {
 #[test]
 fn long_line(rt: HostRuntime) -> Result<(), Fail> {
     let config = Config {
+        first_id: 0,
+        window: 2048,
         journal_limit: LONGEST,
     };
     let mut script = Vec::from_slice(rt.alloc(), HEAR)?;
@@ -184,6 +199,8 @@ impl Read for FailsAfter<'_> {
 #[test]
 fn failing_reader(rt: HostRuntime) -> Result<(), Fail> {
     let config = Config {
+        first_id: 0,
+        window: 2048,
         journal_limit: LONGEST,
     };
     let failing = FailsAfter {
@@ -229,6 +246,8 @@ impl Write for HasRoom {
 #[test]
 fn failing_writer(rt: HostRuntime) -> Result<(), Fail> {
     let config = Config {
+        first_id: 0,
+        window: 2048,
         journal_limit: LONGEST,
     };
     let mut script = Vec::from_slice(rt.alloc(), START)?;
@@ -252,10 +271,10 @@ fn command_lines(rt: HostRuntime) -> Result<(), Fail> {
         &["amqp_peer"],
         &["amqp_peer", "listen"],
         &["amqp_peer", "script", "--limit", "0"],
-        &["amqp_peer", "script", "--limit", "1048577"],
+        &["amqp_peer", "script", "--limit", "1073741825"],
         &["amqp_peer", "script", "--limit", "many"],
-        &["amqp_peer", "script", "--first-id", "0"],
-        &["amqp_peer", "script", "--window", "2048"],
+        &["amqp_peer", "script", "--first-id", "4294967296"],
+        &["amqp_peer", "script", "--window", "0"],
         &["amqp_peer", "script", "first-path.script"],
     ];
     for words in faults {
@@ -273,14 +292,47 @@ fn command_lines(rt: HostRuntime) -> Result<(), Fail> {
         assert_eq!(rt; error.exit_code(), 0);
         assert!(rt; !error.use_stderr());
     }
-    let goods: [(&[&str], u32); 3] = [
-        (&["amqp_peer", "script"], 1048576),
-        (&["amqp_peer", "script", "--limit", "1"], 1),
-        (&["amqp_peer", "script", "--limit=1048576"], 1048576),
+    Ok(())
+}
+
+#[test]
+fn settings(rt: HostRuntime) -> Result<(), Fail> {
+    let alloc = rt.alloc();
+    let goods: [(&[&str], u32, u32, u32); 3] = [
+        (&["amqp_peer", "script"], 0, 2048, 1073741824),
+        (
+            &[
+                "amqp_peer",
+                "script",
+                "--limit",
+                "1",
+                "--window",
+                "2147483647",
+            ],
+            0,
+            2147483647,
+            1,
+        ),
+        (
+            &[
+                "amqp_peer",
+                "script",
+                "--limit=1073741824",
+                "--first-id=4294967295",
+            ],
+            4294967295,
+            2048,
+            1073741824,
+        ),
     ];
-    for (words, journal_limit) in goods {
+    for (words, first_id, window, journal_limit) in goods {
         let request = read_request(alloc, words)?;
-        assert_eq!(rt; request, Request::Script(Config { journal_limit }));
+        let config = Config {
+            first_id,
+            window,
+            journal_limit,
+        };
+        assert_eq!(rt; request, Request::Script(config));
     }
     Ok(())
 }
@@ -392,5 +444,76 @@ fn frames_of_a_failing_reader(rt: HostRuntime) -> Result<(), Fail> {
         answers.as_slice(),
         b"channel=0 name=empty fields=0 payload=0\n".as_slice()
     );
+    Ok(())
+}
+
+#[test]
+fn ids_that_wrap(rt: HostRuntime) -> Result<(), Fail> {
+    let script = b"hear 0000002202000000005313c0150770ffffffff700000080043707fffffff43435205
+start 0 01 0 1 0 -
+start 0 01 0 1 0 -
+";
+    let wanted = b"ok given=none ended=- frames=-
+ok given=delivery:4294967295 ended=- frames=0000001902000000005314c00c054370ffffffffa001014341
+ok given=delivery:0 ended=- frames=0000001502000000005314c008054343a001014341
+";
+    let (script, wanted) = (script.as_slice(), wanted.as_slice());
+    assert!(rt; answers_from(rt.alloc(), 4294967295, LONGEST, script, wanted)?);
+    Ok(())
+}
+
+#[test]
+fn echo_of_the_session(rt: HostRuntime) -> Result<(), Fail> {
+    let script = b"hear 0000002002000000005313c0130a43700000080043707fffffff404040404041
+";
+    let wanted = b"ok given=none ended=- frames=0000001a02000000005313c00d0443700000080043707fffffff
+";
+    let (script, wanted) = (script.as_slice(), wanted.as_slice());
+    assert!(rt; answers_from(rt.alloc(), 0, LONGEST, script, wanted)?);
+    Ok(())
+}
+
+#[test]
+fn an_offer(rt: HostRuntime) -> Result<(), Fail> {
+    let script = b"hear 0000001e02000000005313c0110743700000080043707fffffff43435205
+offer 0 7
+offer 1 7
+";
+    let wanted = b"ok given=none ended=- frames=-
+ok given=none ended=- frames=0000002002000000005313c0130843700000080043707fffffff434352055207
+refused 5
+";
+    let (script, wanted) = (script.as_slice(), wanted.as_slice());
+    assert!(rt; answers_from(rt.alloc(), 0, LONGEST, script, wanted)?);
+    Ok(())
+}
+
+#[test]
+fn beats_and_an_echo_of_the_link(rt: HostRuntime) -> Result<(), Fail> {
+    let script = b"beat
+hear 0000002102000000005313c0140a43700000080043707fffffff43435205404041
+";
+    let wanted = b"ok given=none ended=- frames=0000000802000000
+ok given=none ended=- frames=0000001f02000000005313c0120843700000080043707fffffff4343520543
+";
+    let (script, wanted) = (script.as_slice(), wanted.as_slice());
+    assert!(rt; answers_from(rt.alloc(), 0, LONGEST, script, wanted)?);
+    Ok(())
+}
+
+#[test]
+fn a_drain(rt: HostRuntime) -> Result<(), Fail> {
+    let script = b"drained 0
+hear 0000002002000000005313c0130943700000080043707fffffff434352034041
+drained 0
+drained 0
+";
+    let wanted = b"refused 20
+ok given=none ended=- frames=-
+ok given=none ended=- frames=0000002002000000005313c0130943700000080043707fffffff435203434341
+refused 20
+";
+    let (script, wanted) = (script.as_slice(), wanted.as_slice());
+    assert!(rt; answers_from(rt.alloc(), 0, LONGEST, script, wanted)?);
     Ok(())
 }

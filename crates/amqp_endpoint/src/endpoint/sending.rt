@@ -1,5 +1,6 @@
 //! Frames as they are sent: all on channel 0, each with its octets.
-ghost use Rattle.std.specs.Prelude.{◌≡◌, [], ◌∷◌, None, IfOk, option_map};
+ghost use Rattle.std.specs.Prelude.{◌≡◌, [], ◌∷◌, IfOk, option_map};
+ghost use Rattle.amqp_endpoint.specs.Flow.{no_reply};
 ghost use Rattle.amqp_endpoint.specs.Sending.{told, octets_of, sent_of, reply_of, frame_refused};
 
 use crate::refusal::Refusal;
@@ -31,12 +32,12 @@ fn told_refusal(fault: Option<FrameRefusal>) -> Option<Refusal>
 /// Why a frame is not sent to a peer that takes frames of `max` octets, want of memory aside. It asks for no memory.
 pub(super) fn sending_refusal(
     body: Option<Performative>,
-    payload: &Bytes,
+    payload: &[u8],
     max: u32,
 ) -> Option<Refusal>
     ensures { result ≡ frame_refused max body payload.now }
 {
-    let refusal = told_refusal(frame_refusal(0, &body, payload.as_slice(), max));
+    let refusal = told_refusal(frame_refusal(0, &body, payload, max));
     drop(body);
     refusal
 }
@@ -59,14 +60,13 @@ fn alone(alloc: Global, sent: Sent) -> Result<Items<Sent>, AllocError>
     Ok(Items { items })
 }
 
-/// A frame that meets no refusal, as it is sent, twice: the two share its octets.
+/// The frame with this body and payload as it is sent, twice: the two share its octets. It fails for want of memory alone where no refusal is due.
 pub(super) fn send_twice(
     alloc: Global,
     body: Option<Performative>,
     payload: &Bytes,
     max: u32,
 ) -> Result<(Items<Sent>, Items<Sent>), AllocError>
-    requires { frame_refused max body payload.now ≡ None }
     ensures { IfOk result (λ both. both ≡ (sent_of body payload.now ∷ [], sent_of body payload.now ∷ [])) }
 {
     let payload = payload.clone()?;
@@ -97,7 +97,6 @@ pub(super) fn reply_twice(
     max: u32,
     given: Given,
 ) -> Result<(Reply, Reply), AllocError>
-    requires { frame_refused max body payload.now ≡ None }
     ensures { IfOk result (λ both. both ≡ (reply_of body payload.now given, reply_of body payload.now given)) }
 {
     let (first, second) = send_twice(alloc, body, payload, max)?;
@@ -112,4 +111,26 @@ pub(super) fn reply_twice(
         given,
     };
     Ok((reply, again))
+}
+
+/// The reply that sends this frame, which has no payload, twice; it gives nothing.
+pub(super) fn notice_twice(
+    alloc: Global,
+    body: Option<Performative>,
+    max: u32,
+) -> Result<(Reply, Reply), AllocError>
+    ensures { IfOk result (λ both. both ≡ (reply_of body [] Given.Nothing, reply_of body [] Given.Nothing)) }
+{
+    reply_twice(alloc, body, &Bytes::new(), max, Given::Nothing)
+}
+
+/// Nothing is sent, ended or given.
+pub(super) fn no_reply(alloc: Global) -> Reply
+    ensures { result ≡ no_reply }
+{
+    Reply {
+        sent: Items::new(alloc),
+        ended: Items::new(alloc),
+        given: Given::Nothing,
+    }
 }

@@ -1,11 +1,11 @@
-ghost use Rattle.std.specs.Prelude.{◌≡◌, ◌<◌, ◌^◌, OnOk, OnErr, Err, MatchResult};
+ghost use Rattle.std.specs.Prelude.{◌≡◌, ◌<◌, ◌^◌, OnOk, OnErr, Err, MatchResult, MatchOption};
 ghost use Rattle.std.specs.Result.{result_err};
-ghost use Rattle.amqp_endpoint.specs.Start.{start_body, start_answer, next_start};
+ghost use Rattle.amqp_endpoint.specs.Start.{start_body, start_answer, next_start, begin_delivery};
 ghost use Rattle.amqp_endpoint.specs.Refusing.{Gives};
 ghost use Rattle.amqp_endpoint.specs.Sending.{frame_refused};
 
 use crate::endpoint::Endpoint;
-use crate::endpoint::link::{begin_delivery, place_of_number};
+use crate::endpoint::link::{Link, Placed, change_link, with_number};
 use crate::endpoint::sending::{reply_twice, sending_refusal};
 use crate::refusal::Refusal;
 use crate::reply::{Given, Reply};
@@ -43,50 +43,48 @@ fn transfer_refusal(
 ) -> Option<Refusal>
     ensures { result ≡ frame_refused max (start_body handle id tag format) payload.now }
 {
-    sending_refusal(start_body(handle, id, tag, format), payload, max)
+    sending_refusal(start_body(handle, id, tag, format), payload.as_slice(), max)
 }
 
-/// What a start needs once no refusal is due.
-#[derive(Clone, Copy)]
-pub(super) struct Ready {
-    place: usize,
-    handle: u32,
+/// The link once a delivery has begun; none where it has no credit.
+fn begun(mut link: Link) -> Option<Link>
+    ensures { MatchOption result (link.credit.credit ≡ 0) (λ l. (0 < link.credit.credit) × (l ≡ begin_delivery link)) }
+{
+    match link.credit.begin() {
+        Ok(()) => Some(link),
+        Err(_) => None,
+    }
 }
 
 impl Endpoint {
-    ghost use Rattle.amqp_endpoint.specs.Ready.{IsReady};
+    ghost use Rattle.amqp_endpoint.specs.Ready.{IsStarted};
 
-    /// The first refusal that is due, or what the start needs.
+    /// The first refusal that is due, or the link as it will be.
     fn check_start(
         &self,
         link: u32,
         tag: Tag,
         format: u32,
         payload: &Bytes,
-    ) -> Result<Ready, Refusal>
-        ensures { MatchResult result (IsReady self.now link tag format payload.now) (λ e. start_answer self.now link tag format payload.now ≡ Err e) }
+    ) -> Result<Placed, Refusal>
+        ensures { MatchResult result (IsStarted self.now link tag format payload.now) (λ e. start_answer self.now link tag format payload.now ≡ Err e) }
     {
-        let Some(place) = place_of_number(self.links.as_slice(), link) else {
+        let Some(found) = with_number(self.links.as_slice(), link) else {
             return Err(Refusal::NoLink);
         };
-        let l = &self.links[place];
-        if l.credit == 0 {
+        let Some(begun) = begun(found.link) else {
             return Err(Refusal::NoCredit);
-        }
-        if self.remote_in == 0 {
+        };
+        if self.windows.remote_incoming() == 0 {
             return Err(Refusal::NoWindow);
         }
-        let handle = l.handle;
-        match transfer_refusal(
-            handle,
-            self.next_delivery,
-            tag,
-            format,
-            payload,
-            self.max_frame,
-        ) {
+        let id = self.next_delivery();
+        match transfer_refusal(begun.handle, id, tag, format, payload, self.max_frame) {
             Some(refusal) => Err(refusal),
-            None => Ok(Ready { place, handle }),
+            None => Ok(Placed {
+                place: found.place,
+                link: begun,
+            }),
         }
     }
 
@@ -119,19 +117,17 @@ impl Endpoint {
         ensures next { OnOk result (self.new ≡ next_start self.old link) }
         ensures err { OnErr result (self.new ≡ self.old) }
     {
-        let Ready { place, handle } = self.check_start(link, tag, format, payload)?;
-        let id = self.next_delivery;
-        let body = start_body(handle, id, tag, format);
+        let begun = self.check_start(link, tag, format, payload)?;
+        let id = self.next_delivery();
+        let body = start_body(begun.link.handle, id, tag, format);
         let given = Given::Delivery(id);
         let Ok(both) = reply_twice(self.alloc, body, payload, self.max_frame, given) else {
             return Err(Refusal::NoMemory);
         };
         self.steps += 1;
-        self.next_out = self.next_out.wrapping_add(1);
-        self.remote_in -= 1;
-        self.transfers += 1;
-        self.next_delivery = self.next_delivery.wrapping_add(1);
-        begin_delivery(self.links.as_mut_slice(), place);
+        self.windows.sent();
+        self.deliveries += 1;
+        change_link(self.links.as_mut_slice(), begun);
         Ok(both)
     }
 }

@@ -15,7 +15,8 @@ const MAX_FRAME: u32 = 65536;
 /// A line of a script.
 #[derive(Debug, Drop)]
 pub enum Line {
-    /// An operation of the application: `start LINK TAG FORMAT SETTLED MORE HEX`.
+    /// An operation of the application: `start LINK TAG FORMAT SETTLED MORE HEX`, `offer LINK AVAILABLE`, `drained LINK`,
+    /// `refresh ECHO`, `beat`.
     Own(Op),
     /// A frame that the peer sent: `hear HEX`.
     Hear(Frame),
@@ -56,6 +57,10 @@ impl Line {
         let mut words = Words::of(octets);
         match words.word()? {
             b"start" => read_start(alloc, words),
+            b"offer" => read_offer(words),
+            b"drained" => read_drained(words),
+            b"refresh" => read_refresh(words),
+            b"beat" => ended(words, Line::Own(Op::Beat)),
             b"hear" => read_hear(alloc, words),
             b"windows" => ended(words, Line::Windows),
             b"link" => read_link(words),
@@ -99,6 +104,25 @@ fn read_start(alloc: Global, mut words: Words<'_>) -> Result<Line, LineFault> {
         payload,
     };
     ended(words, Line::Own(op))
+}
+
+/// The words after `offer`.
+fn read_offer(mut words: Words<'_>) -> Result<Line, LineFault> {
+    let link = words.number()?;
+    let available = words.number()?;
+    ended(words, Line::Own(Op::Offer { link, available }))
+}
+
+/// The words after `drained`.
+fn read_drained(mut words: Words<'_>) -> Result<Line, LineFault> {
+    let link = words.number()?;
+    ended(words, Line::Own(Op::Drained { link }))
+}
+
+/// The words after `refresh`.
+fn read_refresh(mut words: Words<'_>) -> Result<Line, LineFault> {
+    let echo = words.truth()?;
+    ended(words, Line::Own(Op::Refresh { echo }))
 }
 
 /// The words after `hear`, which write one whole frame.

@@ -4,4 +4,4 @@ use Rattle.amqp_endpoint.proofs.endpoint.sending.sending_refusal.Goals as goal
 
 pub returns : goal.returns
 unfolding frame_refused
-returns c = rw (c.told_refusal-refusal.ensures, c.frame_refusal.ensures, c.as_slice.ensures) refl
+returns c = rw (c.told_refusal-refusal.ensures, c.frame_refusal.ensures) refl
