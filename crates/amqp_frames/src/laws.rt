@@ -15,8 +15,8 @@ pub fn one_answer()
     ensures one_front { (f g : Frame) (x y a b : List ℕ) → IsFrame f x → IsFrame g y → x ++ a ≡ y ++ b → x ≡ y }
 {}
 
-/// However a stream is cut, its frames are the same: those of a piece and then those of what it left and the next piece
-/// are those of both; and one stream has one list of frames and one rest.
+/// However a stream is cut, its frames are of the same octets: those of a piece and then those of what it left and the next
+/// piece are those of both; one stream has one rest, and any two lists of its frames have the same octets, frame by frame.
 pub fn cutting()
     ensures joined { (max : ℕ) (x y r s : List ℕ) (fs gs : List Frame) → AreFrames max x fs r → AreFrames max (r ++ y) gs s → AreFrames max (x ++ y) (fs ++ gs) s }
     ensures unique { (max : ℕ) (x r s : List ℕ) (fs gs : List Frame) → AreFrames max x fs r → IsUnfinished max r → AreFrames max x gs s → IsUnfinished max s → (r ≡ s) × AreAlike fs gs }
