@@ -327,6 +327,18 @@ fn frames_of_a_session(rt: HostRuntime) -> Result<(), Fail> {
 }
 
 #[test]
+fn frames_of_a_connection(rt: HostRuntime) -> Result<(), Fail> {
+    let alloc = rt.alloc();
+    let open = "0000001a02000000 005310c00d04 a10161 40 7000010000 600000";
+    assert!(rt; is_written_back(alloc, open)?);
+    let begin = "0000001a02000000 005311c00d04 40 43 7000000800 707fffffff";
+    assert!(rt; is_written_back(alloc, begin)?);
+    let receiver = "0000001302000000 005312c00603 a10171 43 41";
+    assert!(rt; is_written_back(alloc, receiver)?);
+    Ok(())
+}
+
+#[test]
 fn frames_of_endings(rt: HostRuntime) -> Result<(), Fail> {
     let alloc = rt.alloc();
     assert!(rt; is_written_back(alloc, "00000010 02000000 005315c0030241 43")?);

@@ -517,3 +517,53 @@ refused 20
     assert!(rt; answers_from(rt.alloc(), 0, LONGEST, script, wanted)?);
     Ok(())
 }
+
+#[test]
+fn frames_in_pieces(rt: HostRuntime) -> Result<(), Fail> {
+    let alloc = rt.alloc();
+    let named = b"channel=0 name=transfer fields=4 payload=7\ntotal transfer 1\n";
+    let octet_by_octet = b"00
+00
+00
+1b
+02
+00
+00
+00
+00
+53
+14
+c0
+07
+04
+43
+43
+a0
+01
+00
+43
+00
+53
+75
+a0
+02
+68
+69
+";
+    assert_eq!(rt;
+        framed(alloc, octet_by_octet.as_slice(), named.as_slice())?,
+        ALL_GOOD
+    );
+    let short = framed(
+        alloc,
+        b"0000001b02000000005314c007044343a0010043005375a00268",
+        b"rest 26\n",
+    )?;
+    assert_eq!(rt; short.octets, Octets::Unfinished);
+    let empty = b"channel=0 name=empty fields=0 payload=0\ntotal empty 1\n";
+    assert_eq!(rt;
+        framed(alloc, b"0000000c03000000aabbccdd", empty.as_slice())?,
+        ALL_GOOD
+    );
+    Ok(())
+}
