@@ -1,6 +1,6 @@
 -- A performative is read by its descriptor.
-use Rattle.std.proofs.Common.{◌≡◌, ◌≤◌, ℕ, List, ◌∷◌, ◌++◌, length, take, drop, refl, sym, arith, codes}
-use Rattle.std.specs.Prelude.{IsTrue, IfOk, Result, Ok, Err}
+use Rattle.std.proofs.Common.{◌≡◌, ◌≤◌, ℕ, List, ◌++◌, length, take, drop, refl, sym}
+use Rattle.std.specs.Prelude.{IfOk, Result, Ok, Err, None}
 use Rattle.std.proofs.lemmas.List.{take-append-drop}
 use Rattle.amqp_types.specs.Datum.{Datum}
 use Rattle.amqp_decoder.specs.declared.fields.Fields.{Fields as Cursor}
@@ -8,152 +8,115 @@ use Rattle.amqp_performatives.specs.declared.performative.Performative.{Performa
 use Rattle.amqp_performatives.specs.declared.performative.Performative.TheVariants.{Open, Begin, Attach, Flow, Transfer, Disposition, Detach, End, Close}
 use Rattle.amqp_decoder.specs.declared.reading.BodyFault.{BodyFault}
 use Rattle.amqp_decoder.specs.declared.reading.BodyFault.TheVariants.{NoBody, NoMemory}
-use Rattle.amqp_performatives.specs.Part.{Part, Fields, composite, Fits, IsDescriptor}
-use Rattle.amqp_performatives.specs.Bodies.{part_of, descriptor_of, fields_of, open_fields, begin_fields, attach_fields, flow_fields, transfer_fields, disposition_fields, detach_fields, end_fields, close_fields}
+use Rattle.amqp_performatives.specs.Part.{IsDescriptor}
+use Rattle.amqp_performatives.specs.Bodies.{descriptor_of, fields_of, open_fields, begin_fields, attach_fields, flow_fields, transfer_fields, disposition_fields, detach_fields, end_fields, close_fields}
 use Rattle.amqp_performatives.specs.Fair.{is_fair, is_fair_open, is_fair_begin, is_fair_attach}
 use Rattle.amqp_performatives.specs.Spelling.{IsPerformative}
-use Rattle.amqp_decoder.specs.Opening.{SpellsPart, Opens, NotOpened}
-use Rattle.amqp_decoder.specs.Reading.{AreFields}
-use Rattle.amqp_decoder.specs.ReadBodies.{ReadsBody}
-use Rattle.amqp_decoder.specs.ReadPerformatives.{IsDescribed, ReadsDescribed, ReadsFront}
+use Rattle.amqp_decoder.specs.Opening.{Opens, NotOpened}
+use Rattle.amqp_decoder.specs.Parts.{ReadsAll}
+use Rattle.amqp_decoder.specs.ReadPerformatives.{open_type, begin_type, attach_type, flow_type, transfer_type, disposition_type, detach_type, end_type, close_type, IsDescribed, ReadsDescribed, ReadsFront}
 use Rattle.amqp_decoder.proofs.StateTypes.{apart}
 
-none_transfer : (d : Datum) (from : Cursor) → IsDescriptor (0x14, codes "amqp:transfer:list") d → ReadsBody transfer_fields (λ b. is_fair (Transfer b)) from (Err NoBody) → (p : Performative) → IsDescribed d from p → ⊥
-none_transfer d from is h (Open b) p = apart (0x10, codes "amqp:open:list") (0x14, codes "amqp:transfer:list") d refl p.1 is
-none_transfer d from is h (Begin b) p = apart (0x11, codes "amqp:begin:list") (0x14, codes "amqp:transfer:list") d refl p.1 is
-none_transfer d from is h (Attach b) p = apart (0x12, codes "amqp:attach:list") (0x14, codes "amqp:transfer:list") d refl p.1 is
-none_transfer d from is h (Flow b) p = apart (0x13, codes "amqp:flow:list") (0x14, codes "amqp:transfer:list") d refl p.1 is
+pub none_transfer : (d : Datum) (from : Cursor) → IsDescriptor transfer_type d → ReadsAll transfer_fields (λ b. is_fair (Transfer b)) from None → (p : Performative) → IsDescribed d from p → ⊥
+none_transfer d from is h (Open b) p = apart open_type transfer_type d refl p.1 is
+none_transfer d from is h (Begin b) p = apart begin_type transfer_type d refl p.1 is
+none_transfer d from is h (Attach b) p = apart attach_type transfer_type d refl p.1 is
+none_transfer d from is h (Flow b) p = apart flow_type transfer_type d refl p.1 is
 none_transfer d from is h (Transfer b) p = h b p.0 p.2
-none_transfer d from is h (Disposition b) p = apart (0x15, codes "amqp:disposition:list") (0x14, codes "amqp:transfer:list") d refl p.1 is
-none_transfer d from is h (Detach b) p = apart (0x16, codes "amqp:detach:list") (0x14, codes "amqp:transfer:list") d refl p.1 is
-none_transfer d from is h (End b) p = apart (0x17, codes "amqp:end:list") (0x14, codes "amqp:transfer:list") d refl p.1 is
-none_transfer d from is h (Close b) p = apart (0x18, codes "amqp:close:list") (0x14, codes "amqp:transfer:list") d refl p.1 is
+none_transfer d from is h (Disposition b) p = apart disposition_type transfer_type d refl p.1 is
+none_transfer d from is h (Detach b) p = apart detach_type transfer_type d refl p.1 is
+none_transfer d from is h (End b) p = apart end_type transfer_type d refl p.1 is
+none_transfer d from is h (Close b) p = apart close_type transfer_type d refl p.1 is
 
-pub fault_transfer : (d : Datum) (from : Cursor) (fault : BodyFault) → IsDescriptor (0x14, codes "amqp:transfer:list") d → ReadsBody transfer_fields (λ b. is_fair (Transfer b)) from (Err fault) → ReadsDescribed d from (Err fault)
-fault_transfer d from NoBody is h = none_transfer d from is h
-fault_transfer d from NoMemory is h = (Transfer h.0, (h.1, is, h.2))
-
-none_flow : (d : Datum) (from : Cursor) → IsDescriptor (0x13, codes "amqp:flow:list") d → ReadsBody flow_fields (λ b. is_fair (Flow b)) from (Err NoBody) → (p : Performative) → IsDescribed d from p → ⊥
-none_flow d from is h (Open b) p = apart (0x10, codes "amqp:open:list") (0x13, codes "amqp:flow:list") d refl p.1 is
-none_flow d from is h (Begin b) p = apart (0x11, codes "amqp:begin:list") (0x13, codes "amqp:flow:list") d refl p.1 is
-none_flow d from is h (Attach b) p = apart (0x12, codes "amqp:attach:list") (0x13, codes "amqp:flow:list") d refl p.1 is
+pub none_flow : (d : Datum) (from : Cursor) → IsDescriptor flow_type d → ReadsAll flow_fields (λ b. is_fair (Flow b)) from None → (p : Performative) → IsDescribed d from p → ⊥
+none_flow d from is h (Open b) p = apart open_type flow_type d refl p.1 is
+none_flow d from is h (Begin b) p = apart begin_type flow_type d refl p.1 is
+none_flow d from is h (Attach b) p = apart attach_type flow_type d refl p.1 is
 none_flow d from is h (Flow b) p = h b p.0 p.2
-none_flow d from is h (Transfer b) p = apart (0x14, codes "amqp:transfer:list") (0x13, codes "amqp:flow:list") d refl p.1 is
-none_flow d from is h (Disposition b) p = apart (0x15, codes "amqp:disposition:list") (0x13, codes "amqp:flow:list") d refl p.1 is
-none_flow d from is h (Detach b) p = apart (0x16, codes "amqp:detach:list") (0x13, codes "amqp:flow:list") d refl p.1 is
-none_flow d from is h (End b) p = apart (0x17, codes "amqp:end:list") (0x13, codes "amqp:flow:list") d refl p.1 is
-none_flow d from is h (Close b) p = apart (0x18, codes "amqp:close:list") (0x13, codes "amqp:flow:list") d refl p.1 is
+none_flow d from is h (Transfer b) p = apart transfer_type flow_type d refl p.1 is
+none_flow d from is h (Disposition b) p = apart disposition_type flow_type d refl p.1 is
+none_flow d from is h (Detach b) p = apart detach_type flow_type d refl p.1 is
+none_flow d from is h (End b) p = apart end_type flow_type d refl p.1 is
+none_flow d from is h (Close b) p = apart close_type flow_type d refl p.1 is
 
-pub fault_flow : (d : Datum) (from : Cursor) (fault : BodyFault) → IsDescriptor (0x13, codes "amqp:flow:list") d → ReadsBody flow_fields (λ b. is_fair (Flow b)) from (Err fault) → ReadsDescribed d from (Err fault)
-fault_flow d from NoBody is h = none_flow d from is h
-fault_flow d from NoMemory is h = (Flow h.0, (h.1, is, h.2))
-
-none_disposition : (d : Datum) (from : Cursor) → IsDescriptor (0x15, codes "amqp:disposition:list") d → ReadsBody disposition_fields (λ b. is_fair (Disposition b)) from (Err NoBody) → (p : Performative) → IsDescribed d from p → ⊥
-none_disposition d from is h (Open b) p = apart (0x10, codes "amqp:open:list") (0x15, codes "amqp:disposition:list") d refl p.1 is
-none_disposition d from is h (Begin b) p = apart (0x11, codes "amqp:begin:list") (0x15, codes "amqp:disposition:list") d refl p.1 is
-none_disposition d from is h (Attach b) p = apart (0x12, codes "amqp:attach:list") (0x15, codes "amqp:disposition:list") d refl p.1 is
-none_disposition d from is h (Flow b) p = apart (0x13, codes "amqp:flow:list") (0x15, codes "amqp:disposition:list") d refl p.1 is
-none_disposition d from is h (Transfer b) p = apart (0x14, codes "amqp:transfer:list") (0x15, codes "amqp:disposition:list") d refl p.1 is
+pub none_disposition : (d : Datum) (from : Cursor) → IsDescriptor disposition_type d → ReadsAll disposition_fields (λ b. is_fair (Disposition b)) from None → (p : Performative) → IsDescribed d from p → ⊥
+none_disposition d from is h (Open b) p = apart open_type disposition_type d refl p.1 is
+none_disposition d from is h (Begin b) p = apart begin_type disposition_type d refl p.1 is
+none_disposition d from is h (Attach b) p = apart attach_type disposition_type d refl p.1 is
+none_disposition d from is h (Flow b) p = apart flow_type disposition_type d refl p.1 is
+none_disposition d from is h (Transfer b) p = apart transfer_type disposition_type d refl p.1 is
 none_disposition d from is h (Disposition b) p = h b p.0 p.2
-none_disposition d from is h (Detach b) p = apart (0x16, codes "amqp:detach:list") (0x15, codes "amqp:disposition:list") d refl p.1 is
-none_disposition d from is h (End b) p = apart (0x17, codes "amqp:end:list") (0x15, codes "amqp:disposition:list") d refl p.1 is
-none_disposition d from is h (Close b) p = apart (0x18, codes "amqp:close:list") (0x15, codes "amqp:disposition:list") d refl p.1 is
+none_disposition d from is h (Detach b) p = apart detach_type disposition_type d refl p.1 is
+none_disposition d from is h (End b) p = apart end_type disposition_type d refl p.1 is
+none_disposition d from is h (Close b) p = apart close_type disposition_type d refl p.1 is
 
-pub fault_disposition : (d : Datum) (from : Cursor) (fault : BodyFault) → IsDescriptor (0x15, codes "amqp:disposition:list") d → ReadsBody disposition_fields (λ b. is_fair (Disposition b)) from (Err fault) → ReadsDescribed d from (Err fault)
-fault_disposition d from NoBody is h = none_disposition d from is h
-fault_disposition d from NoMemory is h = (Disposition h.0, (h.1, is, h.2))
-
-none_open : (d : Datum) (from : Cursor) → IsDescriptor (0x10, codes "amqp:open:list") d → ReadsBody open_fields (is_fair_open) from (Err NoBody) → (p : Performative) → IsDescribed d from p → ⊥
+pub none_open : (d : Datum) (from : Cursor) → IsDescriptor open_type d → ReadsAll open_fields (is_fair_open) from None → (p : Performative) → IsDescribed d from p → ⊥
 none_open d from is h (Open b) p = h b p.0 p.2
-none_open d from is h (Begin b) p = apart (0x11, codes "amqp:begin:list") (0x10, codes "amqp:open:list") d refl p.1 is
-none_open d from is h (Attach b) p = apart (0x12, codes "amqp:attach:list") (0x10, codes "amqp:open:list") d refl p.1 is
-none_open d from is h (Flow b) p = apart (0x13, codes "amqp:flow:list") (0x10, codes "amqp:open:list") d refl p.1 is
-none_open d from is h (Transfer b) p = apart (0x14, codes "amqp:transfer:list") (0x10, codes "amqp:open:list") d refl p.1 is
-none_open d from is h (Disposition b) p = apart (0x15, codes "amqp:disposition:list") (0x10, codes "amqp:open:list") d refl p.1 is
-none_open d from is h (Detach b) p = apart (0x16, codes "amqp:detach:list") (0x10, codes "amqp:open:list") d refl p.1 is
-none_open d from is h (End b) p = apart (0x17, codes "amqp:end:list") (0x10, codes "amqp:open:list") d refl p.1 is
-none_open d from is h (Close b) p = apart (0x18, codes "amqp:close:list") (0x10, codes "amqp:open:list") d refl p.1 is
+none_open d from is h (Begin b) p = apart begin_type open_type d refl p.1 is
+none_open d from is h (Attach b) p = apart attach_type open_type d refl p.1 is
+none_open d from is h (Flow b) p = apart flow_type open_type d refl p.1 is
+none_open d from is h (Transfer b) p = apart transfer_type open_type d refl p.1 is
+none_open d from is h (Disposition b) p = apart disposition_type open_type d refl p.1 is
+none_open d from is h (Detach b) p = apart detach_type open_type d refl p.1 is
+none_open d from is h (End b) p = apart end_type open_type d refl p.1 is
+none_open d from is h (Close b) p = apart close_type open_type d refl p.1 is
 
-pub fault_open : (d : Datum) (from : Cursor) (fault : BodyFault) → IsDescriptor (0x10, codes "amqp:open:list") d → ReadsBody open_fields (is_fair_open) from (Err fault) → ReadsDescribed d from (Err fault)
-fault_open d from NoBody is h = none_open d from is h
-fault_open d from NoMemory is h = (Open h.0, (h.1, is, h.2))
-
-none_begin : (d : Datum) (from : Cursor) → IsDescriptor (0x11, codes "amqp:begin:list") d → ReadsBody begin_fields (is_fair_begin) from (Err NoBody) → (p : Performative) → IsDescribed d from p → ⊥
-none_begin d from is h (Open b) p = apart (0x10, codes "amqp:open:list") (0x11, codes "amqp:begin:list") d refl p.1 is
+pub none_begin : (d : Datum) (from : Cursor) → IsDescriptor begin_type d → ReadsAll begin_fields (is_fair_begin) from None → (p : Performative) → IsDescribed d from p → ⊥
+none_begin d from is h (Open b) p = apart open_type begin_type d refl p.1 is
 none_begin d from is h (Begin b) p = h b p.0 p.2
-none_begin d from is h (Attach b) p = apart (0x12, codes "amqp:attach:list") (0x11, codes "amqp:begin:list") d refl p.1 is
-none_begin d from is h (Flow b) p = apart (0x13, codes "amqp:flow:list") (0x11, codes "amqp:begin:list") d refl p.1 is
-none_begin d from is h (Transfer b) p = apart (0x14, codes "amqp:transfer:list") (0x11, codes "amqp:begin:list") d refl p.1 is
-none_begin d from is h (Disposition b) p = apart (0x15, codes "amqp:disposition:list") (0x11, codes "amqp:begin:list") d refl p.1 is
-none_begin d from is h (Detach b) p = apart (0x16, codes "amqp:detach:list") (0x11, codes "amqp:begin:list") d refl p.1 is
-none_begin d from is h (End b) p = apart (0x17, codes "amqp:end:list") (0x11, codes "amqp:begin:list") d refl p.1 is
-none_begin d from is h (Close b) p = apart (0x18, codes "amqp:close:list") (0x11, codes "amqp:begin:list") d refl p.1 is
+none_begin d from is h (Attach b) p = apart attach_type begin_type d refl p.1 is
+none_begin d from is h (Flow b) p = apart flow_type begin_type d refl p.1 is
+none_begin d from is h (Transfer b) p = apart transfer_type begin_type d refl p.1 is
+none_begin d from is h (Disposition b) p = apart disposition_type begin_type d refl p.1 is
+none_begin d from is h (Detach b) p = apart detach_type begin_type d refl p.1 is
+none_begin d from is h (End b) p = apart end_type begin_type d refl p.1 is
+none_begin d from is h (Close b) p = apart close_type begin_type d refl p.1 is
 
-pub fault_begin : (d : Datum) (from : Cursor) (fault : BodyFault) → IsDescriptor (0x11, codes "amqp:begin:list") d → ReadsBody begin_fields (is_fair_begin) from (Err fault) → ReadsDescribed d from (Err fault)
-fault_begin d from NoBody is h = none_begin d from is h
-fault_begin d from NoMemory is h = (Begin h.0, (h.1, is, h.2))
-
-none_attach : (d : Datum) (from : Cursor) → IsDescriptor (0x12, codes "amqp:attach:list") d → ReadsBody attach_fields (is_fair_attach) from (Err NoBody) → (p : Performative) → IsDescribed d from p → ⊥
-none_attach d from is h (Open b) p = apart (0x10, codes "amqp:open:list") (0x12, codes "amqp:attach:list") d refl p.1 is
-none_attach d from is h (Begin b) p = apart (0x11, codes "amqp:begin:list") (0x12, codes "amqp:attach:list") d refl p.1 is
+pub none_attach : (d : Datum) (from : Cursor) → IsDescriptor attach_type d → ReadsAll attach_fields (is_fair_attach) from None → (p : Performative) → IsDescribed d from p → ⊥
+none_attach d from is h (Open b) p = apart open_type attach_type d refl p.1 is
+none_attach d from is h (Begin b) p = apart begin_type attach_type d refl p.1 is
 none_attach d from is h (Attach b) p = h b p.0 p.2
-none_attach d from is h (Flow b) p = apart (0x13, codes "amqp:flow:list") (0x12, codes "amqp:attach:list") d refl p.1 is
-none_attach d from is h (Transfer b) p = apart (0x14, codes "amqp:transfer:list") (0x12, codes "amqp:attach:list") d refl p.1 is
-none_attach d from is h (Disposition b) p = apart (0x15, codes "amqp:disposition:list") (0x12, codes "amqp:attach:list") d refl p.1 is
-none_attach d from is h (Detach b) p = apart (0x16, codes "amqp:detach:list") (0x12, codes "amqp:attach:list") d refl p.1 is
-none_attach d from is h (End b) p = apart (0x17, codes "amqp:end:list") (0x12, codes "amqp:attach:list") d refl p.1 is
-none_attach d from is h (Close b) p = apart (0x18, codes "amqp:close:list") (0x12, codes "amqp:attach:list") d refl p.1 is
+none_attach d from is h (Flow b) p = apart flow_type attach_type d refl p.1 is
+none_attach d from is h (Transfer b) p = apart transfer_type attach_type d refl p.1 is
+none_attach d from is h (Disposition b) p = apart disposition_type attach_type d refl p.1 is
+none_attach d from is h (Detach b) p = apart detach_type attach_type d refl p.1 is
+none_attach d from is h (End b) p = apart end_type attach_type d refl p.1 is
+none_attach d from is h (Close b) p = apart close_type attach_type d refl p.1 is
 
-pub fault_attach : (d : Datum) (from : Cursor) (fault : BodyFault) → IsDescriptor (0x12, codes "amqp:attach:list") d → ReadsBody attach_fields (is_fair_attach) from (Err fault) → ReadsDescribed d from (Err fault)
-fault_attach d from NoBody is h = none_attach d from is h
-fault_attach d from NoMemory is h = (Attach h.0, (h.1, is, h.2))
-
-none_detach : (d : Datum) (from : Cursor) → IsDescriptor (0x16, codes "amqp:detach:list") d → ReadsBody detach_fields (λ b. is_fair (Detach b)) from (Err NoBody) → (p : Performative) → IsDescribed d from p → ⊥
-none_detach d from is h (Open b) p = apart (0x10, codes "amqp:open:list") (0x16, codes "amqp:detach:list") d refl p.1 is
-none_detach d from is h (Begin b) p = apart (0x11, codes "amqp:begin:list") (0x16, codes "amqp:detach:list") d refl p.1 is
-none_detach d from is h (Attach b) p = apart (0x12, codes "amqp:attach:list") (0x16, codes "amqp:detach:list") d refl p.1 is
-none_detach d from is h (Flow b) p = apart (0x13, codes "amqp:flow:list") (0x16, codes "amqp:detach:list") d refl p.1 is
-none_detach d from is h (Transfer b) p = apart (0x14, codes "amqp:transfer:list") (0x16, codes "amqp:detach:list") d refl p.1 is
-none_detach d from is h (Disposition b) p = apart (0x15, codes "amqp:disposition:list") (0x16, codes "amqp:detach:list") d refl p.1 is
+pub none_detach : (d : Datum) (from : Cursor) → IsDescriptor detach_type d → ReadsAll detach_fields (λ b. is_fair (Detach b)) from None → (p : Performative) → IsDescribed d from p → ⊥
+none_detach d from is h (Open b) p = apart open_type detach_type d refl p.1 is
+none_detach d from is h (Begin b) p = apart begin_type detach_type d refl p.1 is
+none_detach d from is h (Attach b) p = apart attach_type detach_type d refl p.1 is
+none_detach d from is h (Flow b) p = apart flow_type detach_type d refl p.1 is
+none_detach d from is h (Transfer b) p = apart transfer_type detach_type d refl p.1 is
+none_detach d from is h (Disposition b) p = apart disposition_type detach_type d refl p.1 is
 none_detach d from is h (Detach b) p = h b p.0 p.2
-none_detach d from is h (End b) p = apart (0x17, codes "amqp:end:list") (0x16, codes "amqp:detach:list") d refl p.1 is
-none_detach d from is h (Close b) p = apart (0x18, codes "amqp:close:list") (0x16, codes "amqp:detach:list") d refl p.1 is
+none_detach d from is h (End b) p = apart end_type detach_type d refl p.1 is
+none_detach d from is h (Close b) p = apart close_type detach_type d refl p.1 is
 
-pub fault_detach : (d : Datum) (from : Cursor) (fault : BodyFault) → IsDescriptor (0x16, codes "amqp:detach:list") d → ReadsBody detach_fields (λ b. is_fair (Detach b)) from (Err fault) → ReadsDescribed d from (Err fault)
-fault_detach d from NoBody is h = none_detach d from is h
-fault_detach d from NoMemory is h = (Detach h.0, (h.1, is, h.2))
-
-none_end : (d : Datum) (from : Cursor) → IsDescriptor (0x17, codes "amqp:end:list") d → ReadsBody end_fields (λ b. is_fair (End b)) from (Err NoBody) → (p : Performative) → IsDescribed d from p → ⊥
-none_end d from is h (Open b) p = apart (0x10, codes "amqp:open:list") (0x17, codes "amqp:end:list") d refl p.1 is
-none_end d from is h (Begin b) p = apart (0x11, codes "amqp:begin:list") (0x17, codes "amqp:end:list") d refl p.1 is
-none_end d from is h (Attach b) p = apart (0x12, codes "amqp:attach:list") (0x17, codes "amqp:end:list") d refl p.1 is
-none_end d from is h (Flow b) p = apart (0x13, codes "amqp:flow:list") (0x17, codes "amqp:end:list") d refl p.1 is
-none_end d from is h (Transfer b) p = apart (0x14, codes "amqp:transfer:list") (0x17, codes "amqp:end:list") d refl p.1 is
-none_end d from is h (Disposition b) p = apart (0x15, codes "amqp:disposition:list") (0x17, codes "amqp:end:list") d refl p.1 is
-none_end d from is h (Detach b) p = apart (0x16, codes "amqp:detach:list") (0x17, codes "amqp:end:list") d refl p.1 is
+pub none_end : (d : Datum) (from : Cursor) → IsDescriptor end_type d → ReadsAll end_fields (λ b. is_fair (End b)) from None → (p : Performative) → IsDescribed d from p → ⊥
+none_end d from is h (Open b) p = apart open_type end_type d refl p.1 is
+none_end d from is h (Begin b) p = apart begin_type end_type d refl p.1 is
+none_end d from is h (Attach b) p = apart attach_type end_type d refl p.1 is
+none_end d from is h (Flow b) p = apart flow_type end_type d refl p.1 is
+none_end d from is h (Transfer b) p = apart transfer_type end_type d refl p.1 is
+none_end d from is h (Disposition b) p = apart disposition_type end_type d refl p.1 is
+none_end d from is h (Detach b) p = apart detach_type end_type d refl p.1 is
 none_end d from is h (End b) p = h b p.0 p.2
-none_end d from is h (Close b) p = apart (0x18, codes "amqp:close:list") (0x17, codes "amqp:end:list") d refl p.1 is
+none_end d from is h (Close b) p = apart close_type end_type d refl p.1 is
 
-pub fault_end : (d : Datum) (from : Cursor) (fault : BodyFault) → IsDescriptor (0x17, codes "amqp:end:list") d → ReadsBody end_fields (λ b. is_fair (End b)) from (Err fault) → ReadsDescribed d from (Err fault)
-fault_end d from NoBody is h = none_end d from is h
-fault_end d from NoMemory is h = (End h.0, (h.1, is, h.2))
-
-none_close : (d : Datum) (from : Cursor) → IsDescriptor (0x18, codes "amqp:close:list") d → ReadsBody close_fields (λ b. is_fair (Close b)) from (Err NoBody) → (p : Performative) → IsDescribed d from p → ⊥
-none_close d from is h (Open b) p = apart (0x10, codes "amqp:open:list") (0x18, codes "amqp:close:list") d refl p.1 is
-none_close d from is h (Begin b) p = apart (0x11, codes "amqp:begin:list") (0x18, codes "amqp:close:list") d refl p.1 is
-none_close d from is h (Attach b) p = apart (0x12, codes "amqp:attach:list") (0x18, codes "amqp:close:list") d refl p.1 is
-none_close d from is h (Flow b) p = apart (0x13, codes "amqp:flow:list") (0x18, codes "amqp:close:list") d refl p.1 is
-none_close d from is h (Transfer b) p = apart (0x14, codes "amqp:transfer:list") (0x18, codes "amqp:close:list") d refl p.1 is
-none_close d from is h (Disposition b) p = apart (0x15, codes "amqp:disposition:list") (0x18, codes "amqp:close:list") d refl p.1 is
-none_close d from is h (Detach b) p = apart (0x16, codes "amqp:detach:list") (0x18, codes "amqp:close:list") d refl p.1 is
-none_close d from is h (End b) p = apart (0x17, codes "amqp:end:list") (0x18, codes "amqp:close:list") d refl p.1 is
+pub none_close : (d : Datum) (from : Cursor) → IsDescriptor close_type d → ReadsAll close_fields (λ b. is_fair (Close b)) from None → (p : Performative) → IsDescribed d from p → ⊥
+none_close d from is h (Open b) p = apart open_type close_type d refl p.1 is
+none_close d from is h (Begin b) p = apart begin_type close_type d refl p.1 is
+none_close d from is h (Attach b) p = apart attach_type close_type d refl p.1 is
+none_close d from is h (Flow b) p = apart flow_type close_type d refl p.1 is
+none_close d from is h (Transfer b) p = apart transfer_type close_type d refl p.1 is
+none_close d from is h (Disposition b) p = apart disposition_type close_type d refl p.1 is
+none_close d from is h (Detach b) p = apart detach_type close_type d refl p.1 is
+none_close d from is h (End b) p = apart end_type close_type d refl p.1 is
 none_close d from is h (Close b) p = h b p.0 p.2
 
-pub fault_close : (d : Datum) (from : Cursor) (fault : BodyFault) → IsDescriptor (0x18, codes "amqp:close:list") d → ReadsBody close_fields (λ b. is_fair (Close b)) from (Err fault) → ReadsDescribed d from (Err fault)
-fault_close d from NoBody is h = none_close d from is h
-fault_close d from NoMemory is h = (Close h.0, (h.1, is, h.2))
-
-pub unnamed : (d : Datum) (from : Cursor) → (IsDescriptor (0x10, codes "amqp:open:list") d → ⊥) → (IsDescriptor (0x11, codes "amqp:begin:list") d → ⊥) → (IsDescriptor (0x12, codes "amqp:attach:list") d → ⊥) → (IsDescriptor (0x13, codes "amqp:flow:list") d → ⊥) → (IsDescriptor (0x14, codes "amqp:transfer:list") d → ⊥) → (IsDescriptor (0x15, codes "amqp:disposition:list") d → ⊥) → (IsDescriptor (0x16, codes "amqp:detach:list") d → ⊥) → (IsDescriptor (0x17, codes "amqp:end:list") d → ⊥) → (IsDescriptor (0x18, codes "amqp:close:list") d → ⊥) → (p : Performative) → IsDescribed d from p → ⊥
+pub unnamed : (d : Datum) (from : Cursor) → (IsDescriptor open_type d → ⊥) → (IsDescriptor begin_type d → ⊥) → (IsDescriptor attach_type d → ⊥) → (IsDescriptor flow_type d → ⊥) → (IsDescriptor transfer_type d → ⊥) → (IsDescriptor disposition_type d → ⊥) → (IsDescriptor detach_type d → ⊥) → (IsDescriptor end_type d → ⊥) → (IsDescriptor close_type d → ⊥) → (p : Performative) → IsDescribed d from p → ⊥
 unnamed d from o b a f t s d2 e c2 (Open x) p = o p.1
 unnamed d from o b a f t s d2 e c2 (Begin x) p = b p.1
 unnamed d from o b a f t s d2 e c2 (Attach x) p = a p.1

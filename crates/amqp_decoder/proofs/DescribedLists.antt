@@ -1,7 +1,6 @@
 -- A described list is a descriptor, a list's head and the list's items.
-use Rattle.std.proofs.Common.{◌≡◌, ℕ, zero, suc, ◌+◌, ◌-◌, ◌≤◌, ◌<◌, ◌||◌, ◌↔◌, ◌⊎◌, inl, inr, Bool, true, false, eqb, List, [], ◌∷◌, ◌++◌, length, take, drop, Option, Some, None, refl, sym, ap, subst, ◌∙◌, arith, append_assoc}
+use Rattle.std.proofs.Common.{◌≡◌, ℕ, suc, ◌+◌, ◌-◌, ◌≤◌, ◌||◌, ◌↔◌, inl, inr, Bool, true, false, eqb, List, [], ◌∷◌, ◌++◌, length, take, drop, Option, Some, None, refl, sym, ap, subst, ◌∙◌, arith, append_assoc}
 use Rattle.std.specs.Prelude.{IsTrue}
-use Rattle.std.specs.Borrow.{Bor}
 use Rattle.std.proofs.lemmas.Bool.{eqb-true}
 use Rattle.std.proofs.lemmas.List.{nil_from_length, length-append, length-take-le, take_all, drop-drop, take-append-drop}
 use Rattle.std.proofs.Math.Seq.{take-add}
@@ -23,11 +22,11 @@ use Rattle.amqp_types.specs.Reading.{frame_at}
 use Rattle.amqp_types.proofs.Frames.{frame_again}
 use Rattle.amqp_types.proofs.Fronts.{is_code, class_listed}
 use Rattle.amqp_types.proofs.ListHeads.{head_of_list, described_from_parts}
-use Rattle.amqp_performatives.specs.Part.{Part, Fields, field, composite, Fits, FitInOrder, IsDescriptor}
-use Rattle.amqp_decoder.specs.Reading.{AreFields, Takes, Misses, Passes}
+use Rattle.amqp_performatives.specs.Part.{Part, Fields, field, composite, FitInOrder, IsDescriptor}
+use Rattle.amqp_decoder.specs.Reading.{AreFields, Takes, Misses}
 use Rattle.amqp_performatives.specs.Fair.{names_state}
 use Rattle.amqp_decoder.specs.Opening.{DescribedBy, NoStateNamed, FindsItems, NoItems, SpellsPart, Opens, NotOpened}
-use Rattle.amqp_decoder.proofs.FirstField.{same_front, deeper, passes, pass_found, pass_only, front_of}
+use Rattle.amqp_decoder.proofs.FirstField.{same_front, passes, pass_found, pass_only, front_of}
 
 -- ---- a list's head
 

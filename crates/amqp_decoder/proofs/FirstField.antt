@@ -1,6 +1,6 @@
 -- Fields that are read one by one are the fields.
-use Rattle.std.proofs.Common.{◌≡◌, ℕ, zero, suc, ◌+◌, ◌-◌, ◌≤◌, ◌<◌, Bool, true, false, not, List, [], ◌∷◌, ◌++◌, length, take, drop, Option, Some, None, refl, sym, ap, subst, ◌∙◌, ◌↔◌, arith, rules, tests}
-use Rattle.std.specs.Prelude.{IsTrue, option_map, nat_le}
+use Rattle.std.proofs.Common.{◌≡◌, ℕ, zero, suc, ◌+◌, ◌≤◌, ◌<◌, Bool, true, false, not, List, [], ◌∷◌, ◌++◌, length, take, drop, Option, Some, None, refl, sym, ap, subst, ◌∙◌, ◌↔◌, arith, rules, tests}
+use Rattle.std.specs.Prelude.{IsTrue, nat_le}
 use Rattle.std.specs.Borrow.{Bor}
 use Rattle.std.proofs.lemmas.Bool.{eqb-true}
 use Rattle.std.proofs.lemmas.List.{append-nil}
@@ -15,16 +15,14 @@ use Rattle.amqp_types.specs.View.{view, views_of_pairs}
 use Rattle.amqp_types.specs.Grammar.{fits, AreParts, IsPart, IsBody, IsNumberBody, SpellsWithin, Spells, IsFront}
 use Rattle.amqp_types.specs.Reading.{part_at}
 use Rattle.amqp_types.proofs.Laws.{spelled_is_read}
-use Rattle.amqp_performatives.specs.Part.{Part, Fields, absent, value, composite, no_field, field, null, Fits, FitInOrder}
+use Rattle.amqp_performatives.specs.Part.{Part, Fields, absent, value, no_field, field, null, Fits, FitInOrder}
 use Rattle.amqp_performatives.specs.Bodies.{optional, any, mapping, boolean, role}
 use Rattle.amqp_performatives.specs.declared.bodies.Role.{Role}
 use Rattle.amqp_performatives.specs.declared.bodies.Role.TheVariants.{Sender, Receiver}
 use Rattle.amqp_performatives.specs.Fair.{where_present, is_tag, is_present, is_null}
-use Rattle.amqp_decoder.specs.Borrowed.{value_of, value_pairs_of, is_whole, datum_in, value_in, pairs_in, is_mapping, pairs_of_datum, all_read, datum_read}
+use Rattle.amqp_decoder.specs.Borrowed.{value_pairs_of, is_whole, datum_in, value_in, pairs_in, is_mapping, pairs_of_datum}
 use Rattle.amqp_decoder.proofs.SeenValues.{spelled_seen, map_seen, whole_spelled}
 use Rattle.amqp_types.specs.declared.value.Value.{Value}
-use Rattle.amqp_types.specs.declared.value.Value.TheViews as V
-use Rattle.amqp_types.proofs.Views.{view_map}
 use Rattle.amqp_decoder.specs.Reading.{AreFields, every, Takes, Misses, TakesAbsent, MissesAbsent, Passes}
 
 -- ---- the first field

@@ -1,5 +1,5 @@
 -- A state of a kind is made of that kind's fields, behind its descriptor.
-use Rattle.std.proofs.Common.{◌≡◌, ℕ, ◌⊎◌, inl, inr, Bool, true, false, not, ◌&&◌, List, Option, refl}
+use Rattle.std.proofs.Common.{◌≡◌, ℕ, ◌⊎◌, inl, inr, Bool, true, false, not, ◌&&◌, Option, refl}
 use Rattle.std.specs.Prelude.{IsTrue}
 use Rattle.amqp_types.specs.Datum.{Datum, number, octets, list, map, array, described}
 use Rattle.amqp_types.specs.declared.value.Value.{Value}

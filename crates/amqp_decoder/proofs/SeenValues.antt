@@ -1,7 +1,7 @@
 -- A value that is spelled is seen as what is spelled.
-use Rattle.std.proofs.Common.{◌≡◌, ℕ, ℤ, pos, negsuc, zero, suc, ◌+◌, ◌-◌, ◌≤◌, ◌<◌, ◌^◌, ◌⊎◌, inl, inr, Bool, true, false, not, cond, ltb, eqb, List, [], ◌∷◌, ◌++◌, length, take, drop, Option, Some, None, refl, sym, ap, subst, ◌∙◌, arith, append_assoc}
+use Rattle.std.proofs.Common.{◌≡◌, ℕ, zero, suc, ◌+◌, ◌-◌, ◌≤◌, ◌<◌, ◌^◌, ◌⊎◌, inl, inr, Bool, true, false, not, cond, ltb, eqb, List, [], ◌∷◌, ◌++◌, length, Option, Some, None, refl, sym, ap, subst, ◌∙◌, arith}
 use Rattle.std.specs.Prelude.{IsTrue}
-use Rattle.std.proofs.lemmas.Bool.{eqb-true, ltb-true, ltb-false, le-ltb, lt-ltb}
+use Rattle.std.proofs.lemmas.Bool.{eqb-true, ltb-true, ltb-false, lt-ltb}
 use Rattle.std.proofs.lemmas.List.{append-nil, nil_from_length}
 use Rattle.amqp_types.specs.declared.class.Class.{Class}
 use Rattle.amqp_types.specs.declared.class.Width.{Width}
@@ -10,7 +10,6 @@ use Rattle.amqp_types.specs.declared.class.Kind.TheVariants as kind
 use Rattle.amqp_types.specs.declared.class.Run.{Run}
 use Rattle.amqp_types.specs.declared.class.Run.TheVariants as run
 use Rattle.amqp_types.specs.declared.value.Value.{Value}
-use Rattle.amqp_types.specs.declared.value.Value.TheVariants as W
 use Rattle.amqp_types.specs.declared.value.Value.TheVariants.{rolls-Described}
 use Rattle.amqp_types.specs.declared.value.Value.TheOpen.{Value-F}
 use Rattle.amqp_types.specs.declared.value.Value.TheFolds.{fold-roll-Value}

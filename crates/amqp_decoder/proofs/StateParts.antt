@@ -1,13 +1,13 @@
 -- A field that is a delivery state.
-use Rattle.std.proofs.Common.{◌≡◌, ℕ, ◌+◌, ◌≤◌, ◌⊎◌, inl, inr, Bool, true, false, not, ◌&&◌, List, ◌∷◌, ◌++◌, take, drop, refl, sym, subst, ◌∙◌}
+use Rattle.std.proofs.Common.{◌≡◌, ℕ, ◌+◌, ◌≤◌, ◌⊎◌, inl, inr, true, not, ◌&&◌, List, ◌∷◌, ◌++◌, take, drop, sym, subst, ◌∙◌}
 use Rattle.std.specs.Prelude.{IsTrue}
-use Rattle.amqp_types.specs.Datum.{Datum, described}
+use Rattle.amqp_types.specs.Datum.{Datum}
 use Rattle.amqp_types.specs.declared.value.Value.{Value}
 use Rattle.amqp_types.specs.Grammar.{SpellsWithin, Spells}
 use Rattle.amqp_types.specs.View.{view}
 use Rattle.amqp_performatives.specs.declared.state.DeliveryState.{DeliveryState}
 use Rattle.amqp_performatives.specs.declared.state.DeliveryState.TheVariants.{Other}
-use Rattle.amqp_performatives.specs.Part.{Part, Fields, composite, Fits, IsDescriptor}
+use Rattle.amqp_performatives.specs.Part.{Part, composite, Fits, IsDescriptor}
 use Rattle.amqp_performatives.specs.Bodies.{any, state}
 use Rattle.amqp_performatives.specs.Fair.{is_null, is_fair_state, is_other_state, names_state}
 use Rattle.amqp_decoder.specs.Borrowed.{datum_in, value_in}

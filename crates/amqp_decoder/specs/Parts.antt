@@ -1,5 +1,5 @@
 -- What the private readers of all the fields of a list promise, and what the borrowed parts are.
-use Rattle.std.specs.Prelude.{ℕ, ◌≡◌, Bool, IsTrue, Option, Some, None, List, option_map}
+use Rattle.std.specs.Prelude.{Bool, IsTrue, Option, Some, None, option_map}
 use Rattle.amqp_types.specs.declared.value.Value.{Value}
 use Rattle.amqp_decoder.specs.declared.borrowed.ValueRef.{ValueRef}
 use Rattle.amqp_decoder.specs.declared.borrowed.ErrorRef.{ErrorRef}
@@ -9,7 +9,7 @@ use Rattle.amqp_performatives.specs.declared.error.AmqpError.{AmqpError}
 use Rattle.amqp_decoder.specs.declared.fields.Fields.{Fields as Cursor}
 use Rattle.amqp_performatives.specs.declared.state.DeliveryState.{DeliveryState}
 use Rattle.amqp_performatives.specs.declared.state.DeliveryState.TheVariants.{Received, Accepted, Rejected, Released, Modified, Other}
-use Rattle.amqp_performatives.specs.Part.{Part, Fields, no_field}
+use Rattle.amqp_performatives.specs.Part.{Fields, no_field}
 use Rattle.amqp_performatives.specs.Bodies.{symbol, string, any, error, optional, ◌▸◌}
 use Rattle.amqp_decoder.specs.Borrowed.{value_in}
 use Rattle.amqp_decoder.specs.Reading.{AreFields}

@@ -1,12 +1,10 @@
 -- What the private readers of fields promise to one another.
-use Rattle.std.specs.Prelude.{ℕ, ◌≡◌, ◌+◌, ◌≤◌, Bool, true, IsTrue, Option, Some, None, List, ◌++◌, length, take, drop, if◌then◌else◌}
+use Rattle.std.specs.Prelude.{ℕ, ◌≡◌, ◌+◌, ◌≤◌, Bool, true, IsTrue, Option, Some, None, List, ◌++◌}
 use Rattle.amqp_types.specs.Datum.{Datum, Data, count_of, greatest_depth_of}
 use Rattle.amqp_types.specs.Grammar.{AreParts, SpellsWithin, Spells}
-use Rattle.amqp_types.specs.declared.heads.Descriptor.{Descriptor}
-use Rattle.amqp_types.specs.Heads.{datum_of}
 use Rattle.amqp_decoder.specs.declared.fields.Fields.{Fields as Cursor}
 use Rattle.amqp_decoder.specs.Borrowed.{datum_in}
-use Rattle.amqp_performatives.specs.Part.{Part, Fields, absent, composite, field, null, Fits, FitInOrder, IsDescriptor}
+use Rattle.amqp_performatives.specs.Part.{Part, Fields, absent, field, null, Fits, FitInOrder}
 
 -- the octets are so many values, nested at most so deep, and these are the fields in their order
 pub record AreFields (depth left : ℕ) (fields : Fields) (octets : List ℕ) : Type 0 where

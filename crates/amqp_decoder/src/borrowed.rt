@@ -2,7 +2,7 @@
 ghost use Rattle.std.specs.Prelude.{◌≡◌, IsTrue, IfOk, ◌↔◌};
 ghost use Rattle.amqp_decoder.specs.Borrowed.{is_whole};
 
-use amqp_types::{Class, Items, ReadFault, Value, class_of, read_value};
+use amqp_types::{Boxed, Class, Items, ReadFault, Value, class_of, read_value};
 use std::alloc::{AllocError, Global};
 
 /// A value.
@@ -37,6 +37,14 @@ impl<'a> ValueRef<'a> {
             Ok((value, _)) => Ok(value),
             Err(_) => Err(AllocError),
         }
+    }
+
+    /// The same, behind a pointer.
+    pub(crate) fn boxed(self, alloc: Global) -> Result<Boxed<Value>, AllocError>
+        ensures { IfOk result (λ value. view value ≡ datum_in self.entry.octets.now) }
+    {
+        let value = self.owned(alloc)?;
+        Boxed::new(alloc, value)
     }
 }
 

@@ -25,58 +25,31 @@ fn read_described(
     ensures { ReadsDescribed (datum_of descriptor.entry) fields.entry result }
 {
     if names(descriptor, 0x14, "amqp:transfer:list") {
-        return match read_transfer(alloc, fields) {
-            Ok(body) => Ok(Performative::Transfer(body)),
-            Err(fault) => Err(fault),
-        };
+        return read_transfer(alloc, fields);
     }
     if names(descriptor, 0x13, "amqp:flow:list") {
-        return match read_flow(alloc, fields) {
-            Ok(body) => Ok(Performative::Flow(body)),
-            Err(fault) => Err(fault),
-        };
+        return read_flow(alloc, fields);
     }
     if names(descriptor, 0x15, "amqp:disposition:list") {
-        return match read_disposition(alloc, fields) {
-            Ok(body) => Ok(Performative::Disposition(body)),
-            Err(fault) => Err(fault),
-        };
+        return read_disposition(alloc, fields);
     }
     if names(descriptor, 0x10, "amqp:open:list") {
-        return match read_open(alloc, fields) {
-            Ok(body) => Ok(Performative::Open(body)),
-            Err(fault) => Err(fault),
-        };
+        return read_open(alloc, fields);
     }
     if names(descriptor, 0x11, "amqp:begin:list") {
-        return match read_begin(alloc, fields) {
-            Ok(body) => Ok(Performative::Begin(body)),
-            Err(fault) => Err(fault),
-        };
+        return read_begin(alloc, fields);
     }
     if names(descriptor, 0x12, "amqp:attach:list") {
-        return match read_attach(alloc, fields) {
-            Ok(body) => Ok(Performative::Attach(body)),
-            Err(fault) => Err(fault),
-        };
+        return read_attach(alloc, fields);
     }
     if names(descriptor, 0x16, "amqp:detach:list") {
-        return match read_detach(alloc, fields) {
-            Ok(body) => Ok(Performative::Detach(body)),
-            Err(fault) => Err(fault),
-        };
+        return read_detach(alloc, fields);
     }
     if names(descriptor, 0x17, "amqp:end:list") {
-        return match read_end(alloc, fields) {
-            Ok(body) => Ok(Performative::End(body)),
-            Err(fault) => Err(fault),
-        };
+        return read_end(alloc, fields);
     }
     if names(descriptor, 0x18, "amqp:close:list") {
-        return match read_close(alloc, fields) {
-            Ok(body) => Ok(Performative::Close(body)),
-            Err(fault) => Err(fault),
-        };
+        return read_close(alloc, fields);
     }
     Err(BodyFault::NoBody)
 }

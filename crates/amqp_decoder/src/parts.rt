@@ -12,7 +12,7 @@ use crate::borrowed::{ErrorRef, ValueRef};
 use crate::fields::Fields;
 use crate::opening::{names, open};
 use amqp_performatives::AmqpError;
-use amqp_types::{Items, Text, Value, read_null};
+use amqp_types::{Boxed, Items, Text, Value, read_null};
 use std::alloc::{AllocError, Global};
 
 impl<'a> Fields<'a> {
@@ -103,13 +103,13 @@ pub(crate) fn lone_error(fields: Fields<'_>) -> Option<Option<ErrorRef<'_>>>
 pub(crate) fn owned_value(
     alloc: Global,
     value: Option<ValueRef<'_>>,
-) -> Result<Option<Value>, AllocError>
+) -> Result<Option<Boxed<Value>>, AllocError>
     ensures part { IfOk result (λ v. optional any v ≡ optional any (values_in value.entry)) }
     ensures fair { IfOk result (λ v. where_present is_present v ≡ where_present is_present (values_in value.entry)) }
 {
     match value {
         Some(borrowed) => {
-            let value = borrowed.owned(alloc)?;
+            let value = borrowed.boxed(alloc)?;
             Ok(Some(value))
         }
         None => Ok(None),
@@ -133,7 +133,7 @@ pub(crate) fn owned_text(alloc: Global, text: Option<&str>) -> Result<Option<Tex
 pub(crate) fn owned_error(
     alloc: Global,
     error: Option<ErrorRef<'_>>,
-) -> Result<Option<AmqpError>, AllocError>
+) -> Result<Option<Boxed<AmqpError>>, AllocError>
     ensures part { IfOk result (λ e. optional error_part e ≡ optional error_part (option_map error_in error.entry)) }
     ensures fair { IfOk result (λ e. where_present is_fair_error e ≡ where_present is_fair_error (option_map error_in error.entry)) }
 {
@@ -142,11 +142,13 @@ pub(crate) fn owned_error(
             let condition = Text::new(alloc, borrowed.condition)?;
             let description = owned_text(alloc, borrowed.description)?;
             let info = owned_value(alloc, borrowed.info)?;
-            Ok(Some(AmqpError {
+            let error = AmqpError {
                 condition,
                 description,
                 info,
-            }))
+            };
+            let error = Boxed::new(alloc, error)?;
+            Ok(Some(error))
         }
         None => Ok(None),
     }

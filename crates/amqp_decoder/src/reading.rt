@@ -4,13 +4,16 @@ ghost use Rattle.std.specs.Prelude.{◌≡◌, ◌≤◌, ◌&&◌, ℕ, option_
 ghost use Rattle.amqp_performatives.specs.Bodies.{flow_fields, transfer_fields, disposition_fields, detach_fields, end_fields, close_fields};
 ghost use Rattle.amqp_performatives.specs.Fair.{where_present, is_present, is_tag, is_receiver_mode, is_fair_error, is_fair_state};
 ghost use Rattle.amqp_decoder.specs.Parts.{ReadsAll};
-ghost use Rattle.amqp_decoder.specs.ReadBodies.{ReadsBody, flow_in, transfer_in, disposition_in, detach_in};
+ghost use Rattle.amqp_decoder.specs.ReadPerformatives.{ReadsKind, flow_type, transfer_type, disposition_type, detach_type, end_type, close_type};
+ghost use Rattle.amqp_decoder.specs.ReadBodies.{flow_in, transfer_in, disposition_in, detach_in};
 
 use crate::borrowed::{ErrorRef, StateRef, ValueRef};
 use crate::fields::Fields;
 use crate::parts::{lone_error, owned_error, owned_value};
 use crate::states::owned_state;
-use amqp_performatives::{CloseBody, DetachBody, DispositionBody, EndBody, FlowBody, TransferBody};
+use amqp_performatives::{
+    CloseBody, DetachBody, DispositionBody, EndBody, FlowBody, Performative, TransferBody,
+};
 use std::alloc::Global;
 
 /// Why no body is read.
@@ -59,14 +62,14 @@ fn flow_fields(fields: Fields<'_>) -> Option<(FlowBody, Option<ValueRef<'_>>)>
 }
 
 /// Flow.
-pub(crate) fn read_flow(alloc: Global, fields: Fields<'_>) -> Result<FlowBody, BodyFault>
-    ensures { ReadsBody flow_fields (λ b. where_present is_present b.properties) fields.entry result }
+pub(crate) fn read_flow(alloc: Global, fields: Fields<'_>) -> Result<Performative, BodyFault>
+    ensures { ReadsKind flow_type fields.entry result }
 {
     match flow_fields(fields) {
         Some((mut body, properties)) => match owned_value(alloc, properties) {
             Ok(owned) => {
                 body.properties = owned;
-                Ok(body)
+                Ok(Performative::Flow(body))
             }
             Err(_) => Err(BodyFault::NoMemory),
         },
@@ -114,15 +117,15 @@ fn transfer_fields(fields: Fields<'_>) -> Option<(TransferBody, Option<StateRef<
 }
 
 /// Transfer.
-pub(crate) fn read_transfer(alloc: Global, fields: Fields<'_>) -> Result<TransferBody, BodyFault>
+pub(crate) fn read_transfer(alloc: Global, fields: Fields<'_>) -> Result<Performative, BodyFault>
     requires { 5 ≤ fields.depth }
-    ensures { ReadsBody transfer_fields (λ b. where_present is_tag b.delivery_tag && where_present is_receiver_mode b.rcv_settle_mode && where_present is_fair_state b.state) fields.entry result }
+    ensures { ReadsKind transfer_type fields.entry result }
 {
     match transfer_fields(fields) {
         Some((mut body, state)) => match owned_state(alloc, state) {
             Ok(owned) => {
                 body.state = owned;
-                Ok(body)
+                Ok(Performative::Transfer(body))
             }
             Err(_) => Err(BodyFault::NoMemory),
         },
@@ -161,15 +164,15 @@ fn disposition_fields(fields: Fields<'_>) -> Option<(DispositionBody, Option<Sta
 pub(crate) fn read_disposition(
     alloc: Global,
     fields: Fields<'_>,
-) -> Result<DispositionBody, BodyFault>
+) -> Result<Performative, BodyFault>
     requires { 5 ≤ fields.depth }
-    ensures { ReadsBody disposition_fields (λ b. where_present is_fair_state b.state) fields.entry result }
+    ensures { ReadsKind disposition_type fields.entry result }
 {
     match disposition_fields(fields) {
         Some((mut body, state)) => match owned_state(alloc, state) {
             Ok(owned) => {
                 body.state = owned;
-                Ok(body)
+                Ok(Performative::Disposition(body))
             }
             Err(_) => Err(BodyFault::NoMemory),
         },
@@ -199,15 +202,15 @@ fn detach_fields(fields: Fields<'_>) -> Option<(DetachBody, Option<ErrorRef<'_>>
 }
 
 /// Detach.
-pub(crate) fn read_detach(alloc: Global, fields: Fields<'_>) -> Result<DetachBody, BodyFault>
+pub(crate) fn read_detach(alloc: Global, fields: Fields<'_>) -> Result<Performative, BodyFault>
     requires { 3 ≤ fields.depth }
-    ensures { ReadsBody detach_fields (λ b. where_present is_fair_error b.error) fields.entry result }
+    ensures { ReadsKind detach_type fields.entry result }
 {
     match detach_fields(fields) {
         Some((mut body, error)) => match owned_error(alloc, error) {
             Ok(owned) => {
                 body.error = owned;
-                Ok(body)
+                Ok(Performative::Detach(body))
             }
             Err(_) => Err(BodyFault::NoMemory),
         },
@@ -216,13 +219,13 @@ pub(crate) fn read_detach(alloc: Global, fields: Fields<'_>) -> Result<DetachBod
 }
 
 /// End.
-pub(crate) fn read_end(alloc: Global, fields: Fields<'_>) -> Result<EndBody, BodyFault>
+pub(crate) fn read_end(alloc: Global, fields: Fields<'_>) -> Result<Performative, BodyFault>
     requires { 3 ≤ fields.depth }
-    ensures { ReadsBody end_fields (λ b. where_present is_fair_error b.error) fields.entry result }
+    ensures { ReadsKind end_type fields.entry result }
 {
     match lone_error(fields) {
         Some(error) => match owned_error(alloc, error) {
-            Ok(owned) => Ok(EndBody { error: owned }),
+            Ok(owned) => Ok(Performative::End(EndBody { error: owned })),
             Err(_) => Err(BodyFault::NoMemory),
         },
         None => Err(BodyFault::NoBody),
@@ -230,13 +233,13 @@ pub(crate) fn read_end(alloc: Global, fields: Fields<'_>) -> Result<EndBody, Bod
 }
 
 /// Close.
-pub(crate) fn read_close(alloc: Global, fields: Fields<'_>) -> Result<CloseBody, BodyFault>
+pub(crate) fn read_close(alloc: Global, fields: Fields<'_>) -> Result<Performative, BodyFault>
     requires { 3 ≤ fields.depth }
-    ensures { ReadsBody close_fields (λ b. where_present is_fair_error b.error) fields.entry result }
+    ensures { ReadsKind close_type fields.entry result }
 {
     match lone_error(fields) {
         Some(error) => match owned_error(alloc, error) {
-            Ok(owned) => Ok(CloseBody { error: owned }),
+            Ok(owned) => Ok(Performative::Close(CloseBody { error: owned })),
             Err(_) => Err(BodyFault::NoMemory),
         },
         None => Err(BodyFault::NoBody),

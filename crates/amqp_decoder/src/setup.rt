@@ -3,15 +3,15 @@ ghost use Rattle.std.specs.Prelude.{◌≡◌, IfOk, option_map};
 ghost use Rattle.amqp_performatives.specs.Bodies.{open_fields, begin_fields, attach_fields};
 ghost use Rattle.amqp_performatives.specs.Fair.{is_fair_open, is_fair_begin, is_fair_attach};
 ghost use Rattle.amqp_decoder.specs.Parts.{ReadsAll};
-ghost use Rattle.amqp_decoder.specs.ReadBodies.{ReadsBody};
+ghost use Rattle.amqp_decoder.specs.ReadPerformatives.{ReadsKind, open_type, begin_type, attach_type};
 ghost use Rattle.amqp_decoder.specs.ReadSetup.{open_in, begin_in, attach_in};
 
 use crate::borrowed::ValueRef;
 use crate::fields::Fields;
 use crate::parts::{owned_map, owned_text, owned_value};
 use crate::reading::BodyFault;
-use amqp_performatives::{AttachBody, BeginBody, OpenBody, Role};
-use amqp_types::Text;
+use amqp_performatives::{AttachBody, BeginBody, OpenBody, Performative, Role};
+use amqp_types::{Boxed, Text};
 use std::alloc::{AllocError, Global};
 
 /// Open, with what wants memory still in octets.
@@ -61,8 +61,8 @@ fn open_fields(fields: Fields<'_>) -> Option<OpenRef<'_>>
 }
 
 impl<'a> OpenRef<'a> {
-    /// The body in memory of its own.
-    fn owned(self, alloc: Global) -> Result<OpenBody, AllocError>
+    /// The body in memory of its own, behind a pointer.
+    fn owned(self, alloc: Global) -> Result<Boxed<OpenBody>, AllocError>
         ensures part { IfOk result (λ b. open_fields b ≡ open_fields (open_in self.entry)) }
         ensures fair { IfOk result (λ b. is_fair_open b ≡ is_fair_open (open_in self.entry)) }
     {
@@ -73,7 +73,7 @@ impl<'a> OpenRef<'a> {
         let offered_capabilities = owned_value(alloc, self.offered_capabilities)?;
         let desired_capabilities = owned_value(alloc, self.desired_capabilities)?;
         let properties = owned_value(alloc, self.properties)?;
-        Ok(OpenBody {
+        let body = OpenBody {
             container_id,
             hostname,
             max_frame_size: self.max_frame_size,
@@ -84,17 +84,19 @@ impl<'a> OpenRef<'a> {
             offered_capabilities,
             desired_capabilities,
             properties,
-        })
+        };
+        let boxed = Boxed::new(alloc, body)?;
+        Ok(boxed)
     }
 }
 
 /// Open.
-pub(crate) fn read_open(alloc: Global, fields: Fields<'_>) -> Result<OpenBody, BodyFault>
-    ensures { ReadsBody open_fields is_fair_open fields.entry result }
+pub(crate) fn read_open(alloc: Global, fields: Fields<'_>) -> Result<Performative, BodyFault>
+    ensures { ReadsKind open_type fields.entry result }
 {
     match open_fields(fields) {
         Some(borrowed) => match borrowed.owned(alloc) {
-            Ok(body) => Ok(body),
+            Ok(body) => Ok(Performative::Open(body)),
             Err(_) => Err(BodyFault::NoMemory),
         },
         None => Err(BodyFault::NoBody),
@@ -142,15 +144,15 @@ fn begin_fields(fields: Fields<'_>) -> Option<BeginRef<'_>>
 }
 
 impl<'a> BeginRef<'a> {
-    /// The body in memory of its own.
-    fn owned(self, alloc: Global) -> Result<BeginBody, AllocError>
+    /// The body in memory of its own, behind a pointer.
+    fn owned(self, alloc: Global) -> Result<Boxed<BeginBody>, AllocError>
         ensures part { IfOk result (λ b. begin_fields b ≡ begin_fields (begin_in self.entry)) }
         ensures fair { IfOk result (λ b. is_fair_begin b ≡ is_fair_begin (begin_in self.entry)) }
     {
         let offered_capabilities = owned_value(alloc, self.offered_capabilities)?;
         let desired_capabilities = owned_value(alloc, self.desired_capabilities)?;
         let properties = owned_value(alloc, self.properties)?;
-        Ok(BeginBody {
+        let body = BeginBody {
             remote_channel: self.remote_channel,
             next_outgoing_id: self.next_outgoing_id,
             incoming_window: self.incoming_window,
@@ -159,17 +161,19 @@ impl<'a> BeginRef<'a> {
             offered_capabilities,
             desired_capabilities,
             properties,
-        })
+        };
+        let boxed = Boxed::new(alloc, body)?;
+        Ok(boxed)
     }
 }
 
 /// Begin.
-pub(crate) fn read_begin(alloc: Global, fields: Fields<'_>) -> Result<BeginBody, BodyFault>
-    ensures { ReadsBody begin_fields is_fair_begin fields.entry result }
+pub(crate) fn read_begin(alloc: Global, fields: Fields<'_>) -> Result<Performative, BodyFault>
+    ensures { ReadsKind begin_type fields.entry result }
 {
     match begin_fields(fields) {
         Some(borrowed) => match borrowed.owned(alloc) {
-            Ok(body) => Ok(body),
+            Ok(body) => Ok(Performative::Begin(body)),
             Err(_) => Err(BodyFault::NoMemory),
         },
         None => Err(BodyFault::NoBody),
@@ -235,8 +239,8 @@ fn attach_fields(fields: Fields<'_>) -> Option<AttachRef<'_>>
 }
 
 impl<'a> AttachRef<'a> {
-    /// The body in memory of its own.
-    fn owned(self, alloc: Global) -> Result<AttachBody, AllocError>
+    /// The body in memory of its own, behind a pointer.
+    fn owned(self, alloc: Global) -> Result<Boxed<AttachBody>, AllocError>
         ensures part { IfOk result (λ b. attach_fields b ≡ attach_fields (attach_in self.entry)) }
         ensures fair { IfOk result (λ b. is_fair_attach b ≡ is_fair_attach (attach_in self.entry)) }
     {
@@ -247,7 +251,7 @@ impl<'a> AttachRef<'a> {
         let offered_capabilities = owned_value(alloc, self.offered_capabilities)?;
         let desired_capabilities = owned_value(alloc, self.desired_capabilities)?;
         let properties = owned_value(alloc, self.properties)?;
-        Ok(AttachBody {
+        let body = AttachBody {
             name,
             handle: self.handle,
             role: self.role,
@@ -262,17 +266,19 @@ impl<'a> AttachRef<'a> {
             offered_capabilities,
             desired_capabilities,
             properties,
-        })
+        };
+        let boxed = Boxed::new(alloc, body)?;
+        Ok(boxed)
     }
 }
 
 /// Attach.
-pub(crate) fn read_attach(alloc: Global, fields: Fields<'_>) -> Result<AttachBody, BodyFault>
-    ensures { ReadsBody attach_fields is_fair_attach fields.entry result }
+pub(crate) fn read_attach(alloc: Global, fields: Fields<'_>) -> Result<Performative, BodyFault>
+    ensures { ReadsKind attach_type fields.entry result }
 {
     match attach_fields(fields) {
         Some(borrowed) => match borrowed.owned(alloc) {
-            Ok(body) => Ok(body),
+            Ok(body) => Ok(Performative::Attach(body)),
             Err(_) => Err(BodyFault::NoMemory),
         },
         None => Err(BodyFault::NoBody),

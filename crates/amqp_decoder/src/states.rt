@@ -201,7 +201,7 @@ fn owned_present(alloc: Global, state: StateRef<'_>) -> Result<DeliveryState, Al
             })
         }
         StateRef::Other(borrowed) => {
-            let value = borrowed.owned(alloc)?;
+            let value = borrowed.boxed(alloc)?;
             Ok(DeliveryState::Other(value))
         }
     }

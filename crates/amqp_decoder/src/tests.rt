@@ -29,10 +29,10 @@ fn seen(alloc: Global, octets: &[u8], text: &str) -> Option<Seen> {
 // Its container, its name or its error's condition.
 fn text_of(performative: &Performative) -> &str {
     match performative {
-        Performative::Open(body) => body.container_id.as_str(),
-        Performative::Attach(body) => body.name.as_str(),
+        Performative::Open(body) => body.get().container_id.as_str(),
+        Performative::Attach(body) => body.get().name.as_str(),
         Performative::End(body) => match &body.error {
-            Some(error) => error.condition.as_str(),
+            Some(error) => error.get().condition.as_str(),
             None => "",
         },
         _ => "",
@@ -43,21 +43,21 @@ fn summary(performative: &Performative) -> Seen {
     match performative {
         Performative::Open(body) => (
             0x10,
-            body.max_frame_size,
-            short(body.channel_max),
-            body.idle_time_out,
+            body.get().max_frame_size,
+            short(body.get().channel_max),
+            body.get().idle_time_out,
         ),
         Performative::Begin(body) => (
             0x11,
-            short(body.remote_channel),
-            Some(body.incoming_window),
-            Some(body.outgoing_window),
+            short(body.get().remote_channel),
+            Some(body.get().incoming_window),
+            Some(body.get().outgoing_window),
         ),
         Performative::Attach(body) => (
             0x12,
-            Some(role_number(body.role)),
-            octet(body.snd_settle_mode),
-            body.initial_delivery_count,
+            Some(role_number(body.get().role)),
+            octet(body.get().snd_settle_mode),
+            body.get().initial_delivery_count,
         ),
         Performative::Flow(body) => (
             0x13,

@@ -1,14 +1,12 @@
 -- The canonical spelling of a composite value.
-use Rattle.std.proofs.Common.{◌≡◌, ◌≢◌, ℕ, suc, ◌+◌, ◌-◌, ◌^◌, ◌<◌, ◌≤◌, Bool, true, false, leb, ltb, eqb, min, max, List, [], ◌∷◌, ◌++◌, length, Option, Some, None, refl, sym, ap, ◌∙◌, arith, append_assoc}
-use Rattle.std.proofs.lemmas.Bool.{leb-true, leb-false, le-leb, lt-leb, ltb-true, ltb-false, lt-ltb, le-ltb, eqb-true, eqb-false, ne_eqb}
-use Rattle.std.proofs.lemmas.List.{length-append}
-use Rattle.amqp_types.specs.declared.class.Kind.TheVariants as Kind
+use Rattle.std.proofs.Common.{◌≡◌, ℕ, ◌+◌, ◌-◌, ◌^◌, ◌<◌, ◌≤◌, Bool, true, false, leb, ltb, eqb, min, List, [], ◌∷◌, ◌++◌, length, Option, Some, None, refl, sym, ap, arith}
+use Rattle.std.proofs.lemmas.Bool.{leb-true, leb-false, le-leb, lt-leb, ltb-true, ltb-false, le-ltb, eqb-true}
 use Rattle.amqp_types.specs.Codes.{class_of}
-use Rattle.amqp_types.specs.Datum.{Datum, number, list, described, Data, none, item, count_of, depth_of, greatest_depth_of}
+use Rattle.amqp_types.specs.Datum.{Data, none, item, count_of, depth_of, greatest_depth_of}
 use Rattle.amqp_types.specs.Reading.{◌>>=◌}
 use Rattle.amqp_types.specs.Canon.{part_form, parts_form, capped, spelled, described_draft}
 use Rattle.amqp_types.proofs.Choice.{spelled_with}
-use Rattle.amqp_frames.specs.Field.{form_within, forms_within, measured, added, list_octets, list_size, composite_datum}
+use Rattle.amqp_frames.specs.Field.{form_within, forms_within, measured, list_octets, list_size, composite_datum}
 use Rattle.amqp_frames.proofs.Leaves.{ulong_small, list_form, before}
 
 described_form : (content : List ℕ) → spelled None (described_draft content) ≡ Some (0x00 ∷ content)

@@ -1,5 +1,5 @@
 -- What a framer holds after a piece, and that it is what the piece makes of it.
-use Rattle.std.proofs.Common.{◌≡◌, ◌≢◌, ◌≤◌, ◌<◌, ◌^◌, ◌+◌, ◌-◌, ◌*◌, ◌⊎◌, ℕ, zero, suc, min, Bool, true, false, cond, Option, Some, None, Result, Ok, List, [], ◌∷◌, ◌++◌, length, take, drop, refl, sym, ap, ◌∙◌, subst, inl, inr, arith, rules, length-append, length-drop, append_assoc, append-nil, ⊎_elim}
+use Rattle.std.proofs.Common.{◌≡◌, ◌≤◌, ◌<◌, ◌+◌, ◌-◌, ◌*◌, ◌⊎◌, ℕ, min, Bool, true, false, Option, Some, Result, Ok, List, [], ◌++◌, length, take, drop, refl, sym, ap, ◌∙◌, subst, inl, arith, length-append, length-drop, append_assoc, append-nil, ⊎_elim}
 use Rattle.std.specs.Prelude.{is_ok, option_map, if◌then◌else◌}
 use Rattle.std.proofs.lemmas.List.{take_at, take_all, take_min, take-append-drop, take-append-le, length-take-le}
 use Rattle.std.proofs.Math.Seq.{take-append-add, drop-append-add, take-length}
@@ -14,7 +14,7 @@ use Rattle.amqp_frames.specs.Framing.{size_of, IsFrame, IsUnfinished, AreContent
 use Rattle.amqp_frames.specs.Header.{header_octets, BeginsWith}
 use Rattle.amqp_frames.specs.Contents.{AreNoContents}
 use Rattle.amqp_frames.specs.Framer.{FramerState, HasRoom, IsSound, Faulty}
-use Rattle.amqp_frames.proofs.Framing.{begins_size, begins_len, begins_header, is_frame, frame_contents}
+use Rattle.amqp_frames.proofs.Framing.{begins_size, begins_header, is_frame, frame_contents}
 
 -- ---- what is held
 

@@ -1,16 +1,15 @@
 -- Fields one after the other: which are written, and how many octets they take.
-use Rattle.std.proofs.Common.{◌≡◌, ◌≢◌, ℕ, suc, ◌+◌, ◌-◌, ◌^◌, ◌<◌, ◌≤◌, zero, append_assoc, Bool, true, false, leb, ltb, eqb, min, max, List, [], ◌∷◌, ◌++◌, length, get_or, drop, Option, Some, None, refl, sym, ap, ◌∙◌, arith, add-one, drop-cons}
-use Rattle.std.specs.Prelude.{option_map}
-use Rattle.std.proofs.lemmas.Bool.{ltb-true, ltb-false, leb-true, leb-false, le-leb, lt-leb}
-use Rattle.std.proofs.lemmas.List.{length-append, drop_all, append-nil}
+use Rattle.std.proofs.Common.{◌≡◌, ◌≢◌, ℕ, ◌+◌, ◌-◌, ◌^◌, ◌≤◌, append_assoc, Bool, true, false, leb, min, max, List, [], ◌++◌, length, drop, Option, Some, None, refl, sym, ap, ◌∙◌, arith}
+use Rattle.std.proofs.lemmas.Bool.{leb-true, leb-false, le-leb, lt-leb}
+use Rattle.std.proofs.lemmas.List.{length-append, append-nil}
 use Rattle.amqp_types.specs.Datum.{Datum, number, octets, list, map, array, described, Data, none, item, count_of, depth_of, greatest_depth_of}
 use Rattle.amqp_types.specs.Reading.{◌>>=◌}
 use Rattle.amqp_types.specs.Canon.{part_form, parts_form, capped}
 use Rattle.amqp_performatives.specs.declared.field.Field.{Field}
-use Rattle.amqp_performatives.specs.Part.{Part, Fields, absent, value, composite, shown, canonical, canonical_fields}
+use Rattle.amqp_performatives.specs.Part.{canonical}
 use Rattle.amqp_performatives.proofs.Shown.{IsNext, none_counted}
 use Rattle.amqp_frames.specs.Field.{form_within, forms_within, measured, added}
-use Rattle.amqp_performatives.specs.Listed.{part_at, fields_at, is_absent, shown_fields}
+use Rattle.amqp_performatives.specs.Listed.{part_at, shown_fields}
 
 -- ---- depth
 

@@ -1,25 +1,23 @@
 -- A frame's size and octets, and that they are a frame.
-use Rattle.std.proofs.Common.{◌≡◌, ◌≢◌, ℕ, ◌+◌, ◌-◌, ◌*◌, ◌^◌, ◌<◌, ◌≤◌, Bool, true, false, cond, ltb, leb, min, List, [], ◌∷◌, ◌++◌, length, Option, Some, None, refl, sym, ap, subst, ◌∙◌, arith, append_assoc, IsTrue, inl, inr}
+use Rattle.std.proofs.Common.{◌≡◌, ℕ, ◌+◌, ◌-◌, ◌^◌, ◌<◌, Bool, true, false, cond, ltb, leb, min, List, [], ◌∷◌, ◌++◌, length, Option, Some, None, refl, sym, ap, subst, ◌∙◌, arith, inl, inr}
 use Rattle.std.specs.Prelude.{Result, Ok, Err, MatchResult, ◌&&◌}
 use Rattle.std.specs.Result.{result_err}
-use Rattle.std.specs.Int.{to_be_bytes, w16, w32}
-use Rattle.std.proofs.lemmas.Bool.{ltb-true, ltb-false, lt-ltb, le-ltb, leb-true, leb-false, le-leb, lt-leb}
+use Rattle.std.proofs.lemmas.Bool.{ltb-true, ltb-false, le-ltb}
 use Rattle.std.proofs.lemmas.List.{length-append}
 use Rattle.amqp_types.specs.declared.class.Kind.TheVariants as Kind
-use Rattle.amqp_types.specs.Datum.{Datum, Data, none, item, number, list, described, count_of}
+use Rattle.amqp_types.specs.Datum.{Data, none, item, number, count_of}
 use Rattle.amqp_types.specs.Reading.{◌>>=◌}
-use Rattle.amqp_types.specs.Canon.{part_form, parts_form, canon, capped}
+use Rattle.amqp_types.specs.Canon.{canon, capped}
 use Rattle.amqp_types.proofs.Frames.{guard_some, bind_some}
 use Rattle.amqp_types.proofs.Canonical.{canon_spells}
 use Rattle.amqp_frames.specs.declared.fault.FrameRefusal.{FrameRefusal}
 use Rattle.amqp_frames.specs.declared.fault.FrameRefusal.TheVariants as refusal
 use Rattle.amqp_frames.specs.declared.frame.Frame.{Frame}
 use Rattle.amqp_performatives.specs.declared.performative.Performative.{Performative}
-use Rattle.amqp_performatives.specs.Part.{Part, Fields, absent, value, composite, no_field, field, null, Fits, FitInOrder, shown, canonical, canonical_fields}
+use Rattle.amqp_performatives.specs.Part.{Part, Fields, absent, value, composite, no_field, field, Fits, FitInOrder, shown, canonical, canonical_fields}
 use Rattle.amqp_performatives.specs.Bodies.{part_of}
 use Rattle.amqp_performatives.specs.Fair.{is_fair}
-use Rattle.amqp_frames.specs.Framing.{is_transfer, MayFollow, AreContents, IsFrame}
-use Rattle.amqp_performatives.specs.Spelling.{IsPerformative}
+use Rattle.amqp_frames.specs.Framing.{MayFollow, AreContents, IsFrame}
 use Rattle.amqp_frames.specs.Written.{Answers, may_follow, contents_octets, framed, frame_octets, within_size}
 use Rattle.amqp_frames.specs.Field.{measured, forms_within, composite_datum, with_payload, body_answer, size_answer, header}
 use Rattle.amqp_frames.proofs.Composites.{composite_within, size_from}

@@ -1,7 +1,7 @@
 -- The canonical spelling of a value without parts.
-use Rattle.std.proofs.Common.{◌≡◌, ℕ, ◌+◌, ◌%◌, ◌-◌, ◌^◌, ◌<◌, ◌≤◌, ◌≢◌, Bool, true, false, ltb, eqb, List, [], ◌∷◌, ◌++◌, length, Option, Some, None, refl, sym, ap, ◌∙◌, arith, IsTrue}
-use Rattle.std.specs.Int.{to_be_bytes, w8, w16, w32, w64}
-use Rattle.std.proofs.lemmas.Bool.{eqb-true, ltb-true, lt-ltb, le-ltb, ne_eqb}
+use Rattle.std.proofs.Common.{◌≡◌, ℕ, ◌+◌, ◌%◌, ◌^◌, ◌<◌, ◌≤◌, ◌≢◌, Bool, true, false, ltb, eqb, List, [], ◌∷◌, ◌++◌, length, Option, Some, None, refl, ◌∙◌, arith}
+use Rattle.std.specs.Int.{to_be_bytes, w16, w32, w64}
+use Rattle.std.proofs.lemmas.Bool.{ltb-true, lt-ltb, le-ltb, ne_eqb}
 use Rattle.amqp_types.specs.declared.class.Kind.{Kind}
 use Rattle.amqp_types.specs.declared.class.Run.{Run}
 use Rattle.amqp_types.specs.Codes.{class_of}

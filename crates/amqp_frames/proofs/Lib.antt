@@ -1,4 +1,5 @@
 pub mod Progress
+pub mod Taken
 pub mod Leaves
 pub mod Composites
 pub mod Sizes

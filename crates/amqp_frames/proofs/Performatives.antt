@@ -1,15 +1,14 @@
 -- What a frame's contents determine: a performative's octets, and whether it is a transfer.
-use Rattle.std.proofs.Common.{◌≡◌, ◌≢◌, ◌≤◌, ◌<◌, ◌+◌, ◌⊎◌, Bool, true, false, IsTrue, Option, Some, None, List, [], ◌∷◌, ◌++◌, length, refl, sym, ap, ◌∙◌, subst, inl, inr, ⊎_elim, arith, rules, length-append}
+use Rattle.std.proofs.Common.{◌≡◌, ◌≢◌, ◌≤◌, ◌<◌, ◌+◌, ◌⊎◌, Bool, true, false, IsTrue, Option, Some, None, List, [], ◌∷◌, ◌++◌, length, refl, sym, ap, ◌∙◌, subst, inl, inr, arith, length-append}
 use Rattle.amqp_types.specs.declared.class.Kind.TheVariants as Kind
 use Rattle.amqp_types.specs.declared.class.Run.TheVariants as Run
-use Rattle.amqp_types.specs.Datum.{Datum, number, octets, list, described, Data}
+use Rattle.amqp_types.specs.Datum.{Datum, number, octets, list, described}
 use Rattle.amqp_types.specs.Grammar.{Spells}
 use Rattle.amqp_types.proofs.Laws.{one_spelling}
 use Rattle.amqp_performatives.specs.declared.performative.Performative.{Performative}
 use Rattle.amqp_performatives.specs.declared.performative.Performative.TheVariants.{Open, Begin, Attach, Flow, Transfer, Disposition, Detach, End, Close}
-use Rattle.amqp_frames.specs.declared.frame.Frame.{Frame}
-use Rattle.amqp_performatives.specs.Part.{Fits, FitInOrder, IsDescriptor}
-use Rattle.amqp_performatives.specs.Bodies.{part_of, fields_of, descriptor_of}
+use Rattle.amqp_performatives.specs.Part.{Fits, IsDescriptor}
+use Rattle.amqp_performatives.specs.Bodies.{part_of, descriptor_of}
 use Rattle.amqp_performatives.specs.Fair.{is_descriptor}
 use Rattle.amqp_frames.specs.Framing.{is_transfer, MayFollow, AreContents}
 use Rattle.amqp_performatives.specs.Spelling.{IsPerformative}

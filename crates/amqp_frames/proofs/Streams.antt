@@ -1,5 +1,5 @@
 -- What octets in a frame's place are, and that cutting does not matter.
-use Rattle.std.proofs.Common.{◌≡◌, ◌≢◌, ◌≤◌, ◌<◌, ◌^◌, ◌+◌, ◌-◌, ◌*◌, ◌⊎◌, ℕ, Option, Some, None, List, [], ◌∷◌, ◌++◌, length, take, drop, refl, sym, ap, ◌∙◌, subst, inl, inr, arith, rules, length-append, append_assoc}
+use Rattle.std.proofs.Common.{◌≡◌, ◌≤◌, ◌<◌, ◌+◌, ◌*◌, ℕ, List, [], ◌∷◌, ◌++◌, length, take, refl, sym, ap, ◌∙◌, subst, inl, inr, arith, length-append, append_assoc}
 use Rattle.std.proofs.lemmas.List.{take_at}
 use Rattle.std.specs.Prelude.{◌==◌, nat_lt, ◌||◌, if◌then◌else◌}
 use Rattle.std.proofs.lemmas.Bool.Decides.{nat_tests}
@@ -7,9 +7,8 @@ use Rattle.amqp_frames.specs.declared.fault.FrameFault.{FrameFault}
 use Rattle.amqp_frames.specs.declared.fault.FrameFault.TheVariants.{ShortSize, BadDoff, TooBig, BadKind, BadBody, NoMemory}
 use Rattle.amqp_frames.specs.declared.frame.Frame.{Frame}
 use Rattle.amqp_frames.specs.Framing.{size_of, doff_of, type_of, IsHeader, IsFrame, Shows, IsUnfinished, AreFrames}
-use Rattle.amqp_frames.specs.Header.{BeginsWith}
 use Rattle.amqp_frames.specs.Framer.{AreAlike}
-use Rattle.amqp_frames.proofs.Framing.{begins_size, begins_doff, begins_header, begins_append, begins_len, header_of_frame}
+use Rattle.amqp_frames.proofs.Framing.{begins_size, begins_header, begins_append, header_of_frame}
 
 -- ---- one answer
 

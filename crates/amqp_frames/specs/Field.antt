@@ -1,17 +1,13 @@
 -- The fields of a composite as the writer goes over them, and the sizes of what it writes.
-use Rattle.std.specs.Prelude.{ℕ, ◌≡◌, ◌+◌, ◌^◌, ◌-◌, ◌==◌, ◌&&◌, nat_lt, nat_le, Bool, true, false, Option, Some, None, Result, Ok, Err, List, [], ◌∷◌, ◌++◌, length, min, if◌then◌else◌}
+use Rattle.std.specs.Prelude.{ℕ, ◌+◌, ◌^◌, ◌-◌, ◌==◌, ◌&&◌, nat_lt, nat_le, Option, Some, None, Result, Ok, Err, List, [], ◌∷◌, ◌++◌, length, min, if◌then◌else◌}
 use Rattle.std.specs.Int.{to_be_bytes, w16, w32}
 use Rattle.amqp_types.specs.declared.class.Kind.TheVariants as Kind
-use Rattle.amqp_types.specs.Datum.{Datum, Data, number, list, described, count_of, depth_of, greatest_depth_of}
+use Rattle.amqp_types.specs.Datum.{Datum, Data, number, list, described, depth_of, greatest_depth_of}
 use Rattle.amqp_types.specs.Reading.{◌>>=◌}
 use Rattle.amqp_types.specs.Canon.{part_form, parts_form}
 use Rattle.amqp_frames.specs.declared.fault.FrameRefusal.{FrameRefusal}
 use Rattle.amqp_frames.specs.declared.fault.FrameRefusal.TheVariants as refusal
 use Rattle.amqp_frames.specs.Written.{within_size, framed}
-use Rattle.amqp_performatives.specs.declared.field.Field.{Field}
-use Rattle.amqp_performatives.specs.declared.field.Field.TheVariants as field
-use Rattle.amqp_performatives.specs.Part.{Part, Fields, absent, value, composite, no_field, canonical_fields}
-use Rattle.amqp_performatives.specs.Bodies.{boolean, ubyte, ushort, uint, ulong, binary, string, symbol, mapping, any, error, state, ◌▸◌}
 
 -- the canonical spelling of a value nested at most so deep, and of values one after the other
 abbrev pub form_within : ℕ → Datum → Option (List ℕ)

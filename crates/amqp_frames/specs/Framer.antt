@@ -3,7 +3,7 @@ use Rattle.std.specs.Prelude.{ℕ, ◌≡◌, ◌≤◌, ◌⊎◌, List, [], �
 use Rattle.amqp_frames.specs.declared.fault.FrameFault.{FrameFault}
 use Rattle.amqp_frames.specs.declared.fault.FrameFault.TheVariants.{ShortSize, BadDoff, TooBig, BadKind, BadBody, NoMemory}
 use Rattle.amqp_frames.specs.declared.frame.Frame.{Frame}
-use Rattle.amqp_frames.specs.Framing.{IsFrame, Shows, IsUnfinished, AreFrames, size_of}
+use Rattle.amqp_frames.specs.Framing.{IsFrame, Shows, IsUnfinished, size_of}
 
 -- the most octets that a frame may have, the octets of the next frame that are here, and those that unread puts back in their place
 pub record FramerState : Type 0 where

@@ -1,10 +1,10 @@
 -- A frame's header (part 2, 2.3.1), as its numbers.
-use Rattle.std.specs.Prelude.{ℕ, ◌≡◌, ◌≢◌, ◌+◌, ◌*◌, ◌^◌, ◌<◌, ◌≤◌, List, [], ◌∷◌, ◌++◌, length, take, drop, ◌⊎◌}
+use Rattle.std.specs.Prelude.{ℕ, ◌≡◌, ◌*◌, ◌^◌, ◌<◌, ◌≤◌, List, [], ◌∷◌, ◌++◌, length, ◌⊎◌}
 use Rattle.std.specs.Int.{w16, w32, to_be_bytes}
 use Rattle.amqp_frames.specs.declared.fault.FrameFault.{FrameFault}
 use Rattle.amqp_frames.specs.declared.fault.FrameFault.TheVariants.{ShortSize, BadDoff, TooBig, BadKind, BadBody, NoMemory}
 use Rattle.amqp_frames.specs.declared.header.Header.{Header}
-use Rattle.amqp_frames.specs.Framing.{Shows, IsHeader, size_of, doff_of, type_of}
+use Rattle.amqp_frames.specs.Framing.{Shows, size_of}
 
 -- size, data offset, type 0, channel
 abbrev pub header_octets : Header → List ℕ

@@ -4,4 +4,5 @@ pub mod Written
 pub mod Field
 pub mod Header
 pub mod Framer
+pub mod Stream
 pub mod Contents

@@ -1,5 +1,5 @@
 -- The frame that is written, and what is answered where there is none (part 2, 2.3).
-use Rattle.std.specs.Prelude.{ℕ, ◌≡◌, ◌+◌, ◌^◌, ◌<◌, ◌&&◌, nat_lt, nat_le, Bool, true, Option, Some, None, Result, Ok, Err, List, [], ◌∷◌, ◌++◌, length, if◌then◌else◌, ◌==◌}
+use Rattle.std.specs.Prelude.{ℕ, ◌≡◌, ◌+◌, ◌^◌, ◌<◌, ◌&&◌, nat_lt, nat_le, Bool, true, Option, Some, None, Result, Ok, Err, List, [], ◌∷◌, ◌++◌, length, if◌then◌else◌}
 use Rattle.std.specs.Int.{w16, w32, to_be_bytes}
 use Rattle.amqp_types.specs.Canon.{canon}
 use Rattle.amqp_types.specs.Reading.{◌>>=◌}
@@ -7,13 +7,10 @@ use Rattle.amqp_frames.specs.declared.fault.FrameRefusal.{FrameRefusal}
 use Rattle.amqp_frames.specs.declared.fault.FrameRefusal.TheVariants as refusal
 use Rattle.amqp_frames.specs.declared.frame.Frame.{Frame}
 use Rattle.amqp_performatives.specs.declared.performative.Performative.{Performative}
-use Rattle.amqp_performatives.specs.declared.performative.Performative.TheVariants.{Open, Begin, Attach, Flow, Transfer, Disposition, Detach, End, Close}
-use Rattle.amqp_performatives.specs.Part.{canonical, canonical_fields}
-use Rattle.amqp_performatives.specs.Bodies.{part_of, fields_of}
+use Rattle.amqp_performatives.specs.Part.{canonical}
+use Rattle.amqp_performatives.specs.Bodies.{part_of}
 use Rattle.amqp_performatives.specs.Fair.{is_fair}
 use Rattle.amqp_frames.specs.Framing.{is_transfer, IsFrame}
-use Rattle.amqp_types.specs.Datum.{count_of}
-use Rattle.std.specs.Prelude.{codes}
 
 -- a payload follows a transfer alone
 abbrev pub may_follow : List ℕ → Performative → Bool

@@ -6,24 +6,26 @@ ghost use Rattle.amqp_performatives.specs.Spelling.{IsPerformative};
 ghost use Rattle.amqp_frames.specs.Contents.{AreNoContents, BeginsWithPerformative};
 
 use crate::fault::FrameFault;
+use crate::frame::Frame;
 use amqp_decoder::{BodyFault, read_performative};
 use amqp_performatives::Performative;
 use amqp_types::{Descriptor, read_descriptor, skip_value};
 use bytes::Bytes;
 use std::alloc::Global;
 
-/// The performative and the payload. An octet after a performative that is no transfer is a fault, also where memory is refused.
-pub(crate) fn read_contents(
-    alloc: Global,
-    octets: &[u8],
-) -> Result<(Option<Performative>, Bytes), FrameFault>
-    ensures { MatchResult result (λ found. AreContents found.0 found.1 octets.now) (λ fault. AreNoContents fault octets.now) }
+/// The frame of these contents on the channel. An octet after a performative that is no transfer is a fault, also where memory is refused.
+pub(crate) fn read_contents(alloc: Global, channel: u16, octets: &[u8]) -> Result<Frame, FrameFault>
+    ensures { MatchResult result (λ frame. (frame.channel ≡ channel) × AreContents frame.body frame.payload octets.now) (λ fault. AreNoContents fault octets.now) }
 {
     if octets.is_empty() {
-        return Ok((None, Bytes::new()));
+        return Ok(Frame {
+            channel,
+            body: None,
+            payload: Bytes::new(),
+        });
     }
     match read_performative(alloc, octets) {
-        Ok((performative, size)) => read_payload(alloc, performative, octets, size),
+        Ok((performative, size)) => read_payload(alloc, channel, performative, octets, size),
         Err(BodyFault::NoBody) => Err(FrameFault::BadBody),
         Err(BodyFault::NoMemory) => Err(if may_follow(octets) {
             FrameFault::NoMemory
@@ -33,26 +35,35 @@ pub(crate) fn read_contents(
     }
 }
 
-/// The payload after a performative that the first octets spell.
+/// The frame of a performative that the first octets spell, and of the payload after it.
 fn read_payload(
     alloc: Global,
+    channel: u16,
     performative: Performative,
     octets: &[u8],
     size: usize,
-) -> Result<(Option<Performative>, Bytes), FrameFault>
+) -> Result<Frame, FrameFault>
     requires within { size ≤ length octets.now }
     requires spelled { IsPerformative performative (take size octets.now) }
-    ensures { MatchResult result (λ found. AreContents found.0 found.1 octets.now) (λ fault. AreNoContents fault octets.now) }
+    ensures { MatchResult result (λ frame. (frame.channel ≡ channel) × AreContents frame.body frame.payload octets.now) (λ fault. AreNoContents fault octets.now) }
 {
     let payload = &octets[size..];
     if payload.is_empty() {
-        return Ok((Some(performative), Bytes::new()));
+        return Ok(Frame {
+            channel,
+            body: Some(performative),
+            payload: Bytes::new(),
+        });
     }
     if !is_transfer(&performative) {
         return Err(FrameFault::BadBody);
     }
     match Bytes::copy_from_slice(alloc, payload) {
-        Ok(payload) => Ok((Some(performative), payload)),
+        Ok(payload) => Ok(Frame {
+            channel,
+            body: Some(performative),
+            payload,
+        }),
         Err(_) => Err(FrameFault::NoMemory),
     }
 }

@@ -4,7 +4,7 @@ ghost use Rattle.amqp_types.specs.View.{view};
 ghost use Rattle.amqp_performatives.specs.Fair.{where_present, is_present, names_state, is_other_state, is_sender_mode, is_receiver_mode, is_tag, is_fair_error, is_fair_state, is_fair_open, is_fair_begin, is_fair_attach, is_fair};
 
 use amqp_performatives::{AmqpError, AttachBody, BeginBody, DeliveryState, OpenBody, Performative};
-use amqp_types::{Tag, Value};
+use amqp_types::{Boxed, Tag, Value};
 
 fn is_present(value: &Value) -> bool
     ensures { result ≡ is_present value.now }
@@ -42,11 +42,11 @@ fn is_other_state(value: &Value) -> bool
     }
 }
 
-fn any_present(value: &Option<Value>) -> bool
+fn any_present(value: &Option<Boxed<Value>>) -> bool
     ensures { result ≡ where_present is_present value.now }
 {
     match value {
-        Some(value) => is_present(value),
+        Some(value) => is_present(value.get()),
         None => true,
     }
 }
@@ -78,11 +78,11 @@ fn is_tag(tag: &Option<Tag>) -> bool
     }
 }
 
-fn is_fair_error(failed: &Option<AmqpError>) -> bool
+fn is_fair_error(failed: &Option<Boxed<AmqpError>>) -> bool
     ensures { result ≡ where_present is_fair_error failed.now }
 {
     match failed {
-        Some(failed) => any_present(&failed.info),
+        Some(failed) => any_present(&failed.get().info),
         None => true,
     }
 }
@@ -108,7 +108,7 @@ fn is_fair_state(reached: &Option<DeliveryState>) -> bool
                 message_annotations,
             },
         ) => { any_present(message_annotations) }
-        Some(DeliveryState::Other(value)) => is_other_state(value),
+        Some(DeliveryState::Other(value)) => is_other_state(value.get()),
     }
 }
 
@@ -148,9 +148,9 @@ pub(crate) fn is_fair(performative: &Performative) -> bool
     ensures { result ≡ is_fair performative.now }
 {
     match performative {
-        Performative::Open(body) => is_fair_open(body),
-        Performative::Begin(body) => is_fair_begin(body),
-        Performative::Attach(body) => is_fair_attach(body),
+        Performative::Open(body) => is_fair_open(body.get()),
+        Performative::Begin(body) => is_fair_begin(body.get()),
+        Performative::Attach(body) => is_fair_attach(body.get()),
         Performative::Flow(body) => any_present(&body.properties),
         Performative::Transfer(body) => is_tag(&body.delivery_tag)
             && is_receiver_mode(body.rcv_settle_mode)

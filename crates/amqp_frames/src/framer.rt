@@ -1,7 +1,7 @@
 //! Frames out of octets that come in pieces (part 2, 2.3).
-ghost use Rattle.std.specs.Prelude.{◌≡◌, ◌≢◌, ◌≤◌, ◌<◌, ◌*◌, ◌++◌, [], ℕ, List, Some, None, MatchResult, IsOk, IsSome, IfOk, IfSome, ◌+◌, length, take};
+ghost use Rattle.std.specs.Prelude.{◌≡◌, ◌≢◌, ◌≤◌, ◌<◌, ◌*◌, ◌++◌, [], ℕ, List, Some, None, MatchOption, MatchResult, IsOk, IsSome, IfOk, IfSome, ◌+◌, length, take};
 ghost use Rattle.amqp_frames.specs.Framing.{IsUnfinished, AreContents, size_of};
-ghost use Rattle.amqp_frames.specs.Header.{BeginsWith};
+ghost use Rattle.amqp_frames.specs.Header.{BeginsWith, IsHeaderPart, IsHeaderFault};
 ghost use Rattle.amqp_frames.specs.Contents.{AreNoContents};
 ghost use Rattle.amqp_frames.specs.Framer.{Feeds};
 
@@ -62,8 +62,7 @@ impl Framer {
             self.before = Some(self.kept().len());
             return Ok((0, None));
         }
-        let (head, count) = first_octets(self.kept(), piece);
-        match examine(self.max_size, &head[..count]) {
+        match examine_front(self.max_size, self.kept(), piece) {
             Err(fault) => Err(fault),
             Ok(None) => self.keep(piece, 8),
             Ok(Some(header)) => self.take(header, piece),
@@ -140,7 +139,7 @@ impl Framer {
     {
         let count = self.kept().len();
         let contents = &piece[header.start() - count..missing];
-        match read_frame(*self.buffer.allocator(), header, contents) {
+        match read_contents(*self.buffer.allocator(), header.channel, contents) {
             Ok(frame) => {
                 self.before = Some(count);
                 self.is_done = true;
@@ -151,6 +150,7 @@ impl Framer {
     }
 
     /// Gives the frame that the piece makes whole, where contents are kept.
+    #[inline(never)]
     fn finish(
         &mut self,
         header: Header,
@@ -165,9 +165,9 @@ impl Framer {
     {
         let count = self.kept().len();
         self.buffer.extend_from_slice(&piece[..missing]).unwrap();
-        match read_frame(
+        match read_contents(
             *self.buffer.allocator(),
-            header,
+            header.channel,
             &self.buffer[header.start()..],
         ) {
             Ok(frame) => {
@@ -195,6 +195,21 @@ impl Framer {
     }
 }
 
+/// What the header of the octets that are kept and then come says. Nothing is copied where none are kept.
+fn examine_front(max: u32, kept: &[u8], piece: &[u8]) -> Result<Option<Header>, FrameFault>
+    ensures { MatchResult result (λ found. MatchOption found (IsHeaderPart (kept.now ++ piece.now)) (λ header. BeginsWith header max (kept.now ++ piece.now))) (λ fault. IsHeaderFault fault max (kept.now ++ piece.now)) }
+{
+    if kept.is_empty() {
+        return examine(max, piece);
+    }
+    let (head, count) = first_octets(kept, piece);
+    match examine(max, &head[..count]) {
+        Ok(Some(header)) => Ok(Some(header)),
+        Ok(None) => Ok(None),
+        Err(fault) => Err(fault),
+    }
+}
+
 /// The first eight of the octets that are kept and then come, or all of them where they are fewer.
 fn first_octets(kept: &[u8], piece: &[u8]) -> ([u8; 8], usize)
     ensures octets { take result.1 result.0 ≡ take 8 (kept.now ++ piece.now) }
@@ -206,16 +221,4 @@ fn first_octets(kept: &[u8], piece: &[u8]) -> ([u8; 8], usize)
     head[..from_kept].copy_from_slice(&kept[..from_kept]);
     head[from_kept..from_kept + from_piece].copy_from_slice(&piece[..from_piece]);
     (head, from_kept + from_piece)
-}
-
-/// The frame of a header and its contents.
-fn read_frame(alloc: Global, header: Header, contents: &[u8]) -> Result<Frame, FrameFault>
-    ensures { MatchResult result (λ frame. (frame.channel ≡ header.channel) × AreContents frame.body frame.payload contents.now) (λ fault. AreNoContents fault contents.now) }
-{
-    let (body, payload) = read_contents(alloc, contents)?;
-    Ok(Frame {
-        channel: header.channel,
-        body,
-        payload,
-    })
 }

@@ -7,10 +7,12 @@ mod fault;
 mod frame;
 mod framer;
 mod header;
+mod kinds;
 mod laws;
 mod leaf;
 mod measure;
 mod refused;
+mod stream;
 mod writing;
 mod written;
 
@@ -23,6 +25,7 @@ pub use frame::Frame;
 pub use framer::Framer;
 pub use laws::{cutting, one_answer};
 pub use refused::frame_refusal;
+pub use stream::Stopped;
 pub use written::{write_frame, written_is_framed};
 
 #[cfg(test)]

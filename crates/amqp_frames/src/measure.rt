@@ -1,17 +1,17 @@
 //! How many octets fields take, without memory. A size of `u64::MAX` stands for all from there on.
-ghost use Rattle.std.specs.Prelude.{◌≡◌, ◌≤◌, ◌<◌, ℕ, length, option_map};
-ghost use Rattle.amqp_types.specs.Canon.{capped};
+ghost use Rattle.std.specs.Prelude.{◌≡◌, ◌≤◌, ◌<◌, ℕ, None, length, option_map};
+ghost use Rattle.amqp_types.specs.Canon.{capped, part_form};
 ghost use Rattle.amqp_types.specs.Datum.{count_of};
 ghost use Rattle.amqp_performatives.specs.Part.{canonical};
-ghost use Rattle.amqp_performatives.specs.Bodies.{state};
+ghost use Rattle.amqp_performatives.specs.Bodies.{symbol, mapping, any, error, state};
 ghost use Rattle.amqp_frames.specs.Field.{form_within, forms_within, measured, composite_datum};
 ghost use Rattle.amqp_performatives.specs.Listed.{part_at, is_absent, shown_fields};
 
 use crate::leaf::{list_len, run_len, ubyte_size, ushort_size};
-use amqp_performatives::DeliveryState;
 use amqp_performatives::field::{Field, any, boolean, failure};
 use amqp_performatives::listed::{error_fields, shown_count};
-use amqp_types::{is_symbol, map_size_within, size_within, uint_size, ulong_size};
+use amqp_performatives::{AmqpError, DeliveryState};
+use amqp_types::{Value, is_symbol, map_size_within, size_within, uint_size, ulong_size};
 
 /// The count of fields and how many octets they take together.
 #[derive(Clone, Copy)]
@@ -37,18 +37,49 @@ fn field_len(field: &Field<'_>, depth: u8) -> Option<u64>
         Field::Ulong(n) => Some(ulong_size(*n) as u64),
         Field::Binary(octets) => run_len(octets.len()),
         Field::Str(text) => run_len(text.as_bytes().len()),
-        Field::Symbol(text) => if is_symbol(text) {
-            run_len(text.as_bytes().len())
-        } else {
-            None
-        },
-        Field::Mapping(pairs) => map_size_within(depth, pairs),
-        Field::Any(value) => size_within(depth, value),
+        Field::Symbol(text) => symbol_len(text),
+        Field::Mapping(pairs) => map_len(pairs, depth),
+        Field::Any(value) => any_len(value, depth),
         Field::State(reached) => state_len(reached, depth),
-        Field::Failure(failed) => composite_len(&error_fields(failed), depth),
+        Field::Failure(failed) => error_len(failed, depth),
     }
 }
 
+/// Of a symbol; this and the next out of line, so that the common fields are measured without what these need.
+#[inline(never)]
+fn symbol_len(text: &str) -> Option<u64>
+    ensures { result ≡ capped (part_form None (canonical (symbol text.now))) }
+{
+    if is_symbol(text) {
+        run_len(text.as_bytes().len())
+    } else {
+        None
+    }
+}
+
+#[inline(never)]
+fn map_len(pairs: &[(Value, Value)], depth: u8) -> Option<u64>
+    ensures { result ≡ capped (form_within depth (canonical (mapping pairs.now))) }
+{
+    map_size_within(depth, pairs)
+}
+
+#[inline(never)]
+fn any_len(value: &Value, depth: u8) -> Option<u64>
+    ensures { result ≡ capped (form_within depth (canonical (any value.now))) }
+{
+    size_within(depth, value)
+}
+
+#[inline(never)]
+#[cycle(measuring)]
+fn error_len(failed: &AmqpError, depth: u8) -> Option<u64>
+    ensures { result ≡ capped (form_within depth (canonical (error failed.now))) }
+{
+    composite_len(&error_fields(failed), depth)
+}
+
+#[inline(never)]
 #[cycle(measuring)]
 fn state_len(reached: &DeliveryState, depth: u8) -> Option<u64>
     ensures { result ≡ capped (form_within depth (canonical (state reached.now))) }
@@ -80,7 +111,7 @@ fn state_len(reached: &DeliveryState, depth: u8) -> Option<u64>
                 depth,
             )
         }
-        DeliveryState::Other(value) => size_within(depth, value),
+        DeliveryState::Other(value) => size_within(depth, value.get()),
     }
 }
 

@@ -8,15 +8,15 @@ ghost use Rattle.amqp_frames.specs.Written.{write_answer};
 
 use crate::fair::is_fair;
 use crate::fault::FrameRefusal;
+use crate::kinds::{
+    refuse_attach, refuse_begin, refuse_close, refuse_detach, refuse_disposition, refuse_end,
+    refuse_flow, refuse_open, refuse_transfer,
+};
 use crate::leaf::list_len;
 use crate::measure::fields_len;
 use crate::written::{frame_size, may_follow};
 use amqp_performatives::Performative;
 use amqp_performatives::field::Field;
-use amqp_performatives::listed::{
-    attach_fields, begin_fields, close_fields, detach_fields, disposition_fields, end_fields,
-    flow_fields, open_fields, transfer_fields,
-};
 
 /// The refusal that `write_frame` would answer to a frame of these parts, want of memory aside; none where it would write it. It asks for
 /// no memory, and costs what the fields' sizes cost: the payload's octets are not looked at.
@@ -35,15 +35,15 @@ pub fn frame_refusal(
         return Some(FrameRefusal::NotWritable);
     }
     match performative {
-        Performative::Open(body) => body_refusal(&open_fields(body), payload, max),
-        Performative::Begin(body) => body_refusal(&begin_fields(body), payload, max),
-        Performative::Attach(body) => body_refusal(&attach_fields(body), payload, max),
-        Performative::Flow(body) => body_refusal(&flow_fields(body), payload, max),
-        Performative::Transfer(body) => body_refusal(&transfer_fields(body), payload, max),
-        Performative::Disposition(body) => body_refusal(&disposition_fields(body), payload, max),
-        Performative::Detach(body) => body_refusal(&detach_fields(body), payload, max),
-        Performative::End(body) => body_refusal(&end_fields(body), payload, max),
-        Performative::Close(body) => body_refusal(&close_fields(body), payload, max),
+        Performative::Open(body) => refuse_open(body.get(), payload, max),
+        Performative::Begin(body) => refuse_begin(body.get(), payload, max),
+        Performative::Attach(body) => refuse_attach(body.get(), payload, max),
+        Performative::Flow(body) => refuse_flow(body, payload, max),
+        Performative::Transfer(body) => refuse_transfer(body, payload, max),
+        Performative::Disposition(body) => refuse_disposition(body, payload, max),
+        Performative::Detach(body) => refuse_detach(body, payload, max),
+        Performative::End(body) => refuse_end(body, payload, max),
+        Performative::Close(body) => refuse_close(body, payload, max),
     }
 }
 
@@ -58,7 +58,7 @@ fn empty_refusal(channel: u16, payload: &[u8], max: u32) -> Option<FrameRefusal>
 }
 
 /// Of a frame with a described list of these fields.
-fn body_refusal(fields: &[Field<'_>], payload: &[u8], max: u32) -> Option<FrameRefusal>
+pub(crate) fn body_refusal(fields: &[Field<'_>], payload: &[u8], max: u32) -> Option<FrameRefusal>
     ensures { (code channel : ℕ) → 0 < code → code < 256 → result ≡ result_err (body_answer channel max (canon (composite_datum code (shown_fields fields.now))) payload.now) }
 {
     let Some(measure) = fields_len(fields, 30) else {

@@ -101,7 +101,11 @@ fn refusal(alloc: Global, body: Performative, payload: Bytes) -> Option<FrameRef
     if told == answered { answered } else { None }
 }
 
-fn flow(payload: &'static [u8], properties: Option<Value>, alloc: Global) -> Option<FrameRefusal> {
+fn flow(
+    payload: &'static [u8],
+    properties: Option<Boxed<Value>>,
+    alloc: Global,
+) -> Option<FrameRefusal> {
     let body = FlowBody {
         next_incoming_id: None,
         incoming_window: 0,
@@ -159,10 +163,11 @@ fn disposition(alloc: Global, state: Option<DeliveryState>) -> Option<FrameRefus
 fn described(alloc: Global, descriptor: Value) -> Result<DeliveryState, AllocError> {
     let descriptor = Boxed::new(alloc, descriptor)?;
     let list = Boxed::new(alloc, Value::List(Items::new(alloc)))?;
-    Ok(DeliveryState::Other(Value::Described(descriptor, list)))
+    let value = Boxed::new(alloc, Value::Described(descriptor, list))?;
+    Ok(DeliveryState::Other(value))
 }
 
-fn begin(alloc: Global, properties: Option<Value>) -> Option<FrameRefusal> {
+fn begin(alloc: Global, properties: Option<Boxed<Value>>) -> Option<FrameRefusal> {
     let body = BeginBody {
         remote_channel: None,
         next_outgoing_id: 0,
@@ -173,6 +178,9 @@ fn begin(alloc: Global, properties: Option<Value>) -> Option<FrameRefusal> {
         desired_capabilities: None,
         properties,
     };
+    let Ok(body) = Boxed::new(alloc, body) else {
+        return None;
+    };
     refusal(alloc, Performative::Begin(body), Bytes::from_static(b""))
 }
 
@@ -180,7 +188,7 @@ fn attach(
     alloc: Global,
     name: Text,
     snd_settle_mode: Option<u8>,
-    target: Option<Value>,
+    target: Option<Boxed<Value>>,
 ) -> Option<FrameRefusal> {
     let body = AttachBody {
         name,
@@ -198,10 +206,17 @@ fn attach(
         desired_capabilities: None,
         properties: None,
     };
+    let Ok(body) = Boxed::new(alloc, body) else {
+        return None;
+    };
     refusal(alloc, Performative::Attach(body), Bytes::from_static(b""))
 }
 
-fn open(alloc: Global, container_id: Text, properties: Option<Value>) -> Option<FrameRefusal> {
+fn open(
+    alloc: Global,
+    container_id: Text,
+    properties: Option<Boxed<Value>>,
+) -> Option<FrameRefusal> {
     let body = OpenBody {
         container_id,
         hostname: None,
@@ -214,28 +229,42 @@ fn open(alloc: Global, container_id: Text, properties: Option<Value>) -> Option<
         desired_capabilities: None,
         properties,
     };
+    let Ok(body) = Boxed::new(alloc, body) else {
+        return None;
+    };
     refusal(alloc, Performative::Open(body), Bytes::from_static(b""))
 }
 
-fn failure(condition: Text, info: Option<Value>) -> AmqpError {
-    AmqpError {
+/// A field that is there and null.
+fn null(alloc: Global) -> Result<Option<Boxed<Value>>, AllocError> {
+    Ok(Some(Boxed::new(alloc, Value::Null)?))
+}
+
+fn failure(
+    alloc: Global,
+    condition: &str,
+    info: Option<Boxed<Value>>,
+) -> Result<Option<Boxed<AmqpError>>, AllocError> {
+    let condition = Text::new(alloc, condition)?;
+    let error = AmqpError {
         condition,
         description: None,
         info,
-    }
+    };
+    Ok(Some(Boxed::new(alloc, error)?))
 }
 
-fn end(alloc: Global, error: AmqpError) -> Option<FrameRefusal> {
-    let body = EndBody { error: Some(error) };
+fn end(alloc: Global, error: Option<Boxed<AmqpError>>) -> Option<FrameRefusal> {
+    let body = EndBody { error };
     refusal(alloc, Performative::End(body), Bytes::from_static(b""))
 }
 
-fn close(alloc: Global, error: Option<AmqpError>) -> Option<FrameRefusal> {
+fn close(alloc: Global, error: Option<Boxed<AmqpError>>) -> Option<FrameRefusal> {
     let body = CloseBody { error };
     refusal(alloc, Performative::Close(body), Bytes::from_static(b""))
 }
 
-fn detach(alloc: Global, error: Option<AmqpError>) -> Option<FrameRefusal> {
+fn detach(alloc: Global, error: Option<Boxed<AmqpError>>) -> Option<FrameRefusal> {
     let body = DetachBody {
         handle: 0,
         closed: None,
@@ -368,7 +397,7 @@ fn unfair_flows_and_deliveries(rt: HostRuntime) -> Result<(), Fail> {
     let alloc = rt.alloc();
     assert_eq!(rt; flow(b"", None, alloc), None);
     assert_eq!(rt; flow(b"x", None, alloc), UNFAIR);
-    assert_eq!(rt; flow(b"", Some(Value::Null), alloc), UNFAIR);
+    assert_eq!(rt; flow(b"", null(alloc)?, alloc), UNFAIR);
     assert_eq!(rt; transfer(alloc, Some(1)), None);
     assert_eq!(rt; transfer(alloc, Some(2)), UNFAIR);
     Ok(())
@@ -378,10 +407,8 @@ fn unfair_flows_and_deliveries(rt: HostRuntime) -> Result<(), Fail> {
 fn unfair_states(rt: HostRuntime) -> Result<(), Fail> {
     let alloc = rt.alloc();
     assert_eq!(rt; disposition(alloc, Some(DeliveryState::Accepted)), None);
-    assert_eq!(rt;
-        disposition(alloc, Some(DeliveryState::Other(Value::Null))),
-        UNFAIR
-    );
+    let null = DeliveryState::Other(Boxed::new(alloc, Value::Null)?);
+    assert_eq!(rt; disposition(alloc, Some(null)), UNFAIR);
     let declared = described(alloc, Value::Ulong(0x33))?;
     assert_eq!(rt; disposition(alloc, Some(declared)), None);
     let accepted = described(alloc, Value::Ulong(0x24))?;
@@ -393,14 +420,14 @@ fn unfair_states(rt: HostRuntime) -> Result<(), Fail> {
 fn unfair_links(rt: HostRuntime) -> Result<(), Fail> {
     let alloc = rt.alloc();
     assert_eq!(rt; begin(alloc, None), None);
-    assert_eq!(rt; begin(alloc, Some(Value::Null)), UNFAIR);
+    assert_eq!(rt; begin(alloc, null(alloc)?), UNFAIR);
     assert_eq!(rt; attach(alloc, Text::new(alloc, "q")?, Some(2), None), None);
     assert_eq!(rt;
         attach(alloc, Text::new(alloc, "q")?, Some(3), None),
         UNFAIR
     );
     assert_eq!(rt;
-        attach(alloc, Text::new(alloc, "q")?, None, Some(Value::Null)),
+        attach(alloc, Text::new(alloc, "q")?, None, null(alloc)?),
         UNFAIR
     );
     Ok(())
@@ -410,26 +437,60 @@ fn unfair_links(rt: HostRuntime) -> Result<(), Fail> {
 fn unfair_endings(rt: HostRuntime) -> Result<(), Fail> {
     let alloc = rt.alloc();
     assert_eq!(rt; open(alloc, Text::new(alloc, "a")?, None), None);
-    assert_eq!(rt;
-        open(alloc, Text::new(alloc, "a")?, Some(Value::Null)),
-        UNFAIR
-    );
+    assert_eq!(rt; open(alloc, Text::new(alloc, "a")?, null(alloc)?), UNFAIR);
     assert_eq!(rt; close(alloc, None), None);
-    let error = failure(Text::new(alloc, "x")?, Some(Value::Null));
-    assert_eq!(rt; close(alloc, Some(error)), UNFAIR);
+    let error = failure(alloc, "x", null(alloc)?)?;
+    assert_eq!(rt; close(alloc, error), UNFAIR);
     Ok(())
 }
 
 #[test]
 fn unfair_errors(rt: HostRuntime) -> Result<(), Fail> {
     let alloc = rt.alloc();
-    assert_eq!(rt; end(alloc, failure(Text::new(alloc, "x")?, None)), None);
-    assert_eq!(rt;
-        end(alloc, failure(Text::new(alloc, "\u{e9}")?, None)),
-        UNFAIR
-    );
+    assert_eq!(rt; end(alloc, failure(alloc, "x", None)?), None);
+    assert_eq!(rt; end(alloc, failure(alloc, "\u{e9}", None)?), UNFAIR);
     assert_eq!(rt; detach(alloc, None), None);
-    let error = failure(Text::new(alloc, "x")?, Some(Value::Null));
-    assert_eq!(rt; detach(alloc, Some(error)), UNFAIR);
+    let error = failure(alloc, "x", null(alloc)?)?;
+    assert_eq!(rt; detach(alloc, error), UNFAIR);
+    Ok(())
+}
+
+/// How many frames a piece gives, and what stops it.
+fn counted(alloc: Global, framer: &mut Framer, piece: &[u8]) -> (usize, Result<(), Stopped>) {
+    let mut frames = Vec::new(alloc);
+    let stopped = framer.feed_all(piece, &mut frames);
+    let count = frames.len();
+    drop(frames);
+    (count, stopped)
+}
+
+#[test]
+fn all_frames_of_a_piece(rt: HostRuntime) -> Result<(), Fail> {
+    let alloc = rt.alloc();
+    let piece = octets(
+        alloc,
+        "0000000c02000000 00531745 0000000802000000 0000000c0200",
+    )?;
+    let mut framer = Framer::new(alloc, 65536);
+    assert!(rt; counted(alloc, &mut framer, piece.as_slice()) == (2, Ok(())));
+    assert_eq!(rt; framer.pending(), 6);
+    let rest = octets(alloc, "0000 00531845")?;
+    assert!(rt; counted(alloc, &mut framer, rest.as_slice()) == (1, Ok(())));
+    assert_eq!(rt; framer.pending(), 0);
+    assert!(rt; counted(alloc, &mut framer, &[]) == (0, Ok(())));
+    Ok(())
+}
+
+#[test]
+fn a_fault_behind_a_frame(rt: HostRuntime) -> Result<(), Fail> {
+    let alloc = rt.alloc();
+    let piece = octets(alloc, "0000000802000000 00000007 02000000")?;
+    let mut framer = Framer::new(alloc, 65536);
+    let stopped = Stopped {
+        fault: FrameFault::ShortSize,
+        used: 8,
+    };
+    assert!(rt; counted(alloc, &mut framer, piece.as_slice()) == (1, Err(stopped)));
+    assert_eq!(rt; framer.pending(), 0);
     Ok(())
 }

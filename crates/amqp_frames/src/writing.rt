@@ -3,17 +3,17 @@ ghost use Rattle.std.specs.Prelude.{◌≡◌, ◌<◌, Some, None, OnOk};
 ghost use Rattle.amqp_types.specs.Canon.{part_form, parts_form};
 ghost use Rattle.amqp_types.specs.Datum.{count_of};
 ghost use Rattle.amqp_performatives.specs.Part.{canonical};
-ghost use Rattle.amqp_performatives.specs.Bodies.{state};
+ghost use Rattle.amqp_performatives.specs.Bodies.{symbol, mapping, any, error, state};
 ghost use Rattle.amqp_frames.specs.Field.{forms_within, measured, composite_datum, added};
 ghost use Rattle.amqp_performatives.specs.Listed.{part_at, shown_fields};
 
 use crate::leaf::{put_list_head, put_run};
 use crate::measure::{Measure, fields_len};
-use amqp_performatives::DeliveryState;
 use amqp_performatives::field::{Field, any, boolean, failure};
 use amqp_performatives::listed::error_fields;
+use amqp_performatives::{AmqpError, DeliveryState};
 use amqp_types::{
-    WriteFault, append_map, append_value, is_symbol, write_boolean, write_null, write_ubyte,
+    Value, WriteFault, append_map, append_value, is_symbol, write_boolean, write_null, write_ubyte,
     write_uint, write_ulong, write_ushort,
 };
 
@@ -31,20 +31,49 @@ fn put_field(field: &Field<'_>, depth: u8, out: &mut Vec<u8>) -> Result<(), Writ
         Field::Ulong(n) => Ok(write_ulong(out, *n)?),
         Field::Binary(octets) => put_run(0xa0, 0xb0, octets, out),
         Field::Str(text) => put_run(0xa1, 0xb1, text.as_bytes(), out),
-        Field::Symbol(text) => {
-            if is_symbol(text) {
-                put_run(0xa3, 0xb3, text.as_bytes(), out)
-            } else {
-                Err(WriteFault::NotWritable)
-            }
-        }
-        Field::Mapping(pairs) => append_map(pairs, out),
-        Field::Any(value) => append_value(value, out),
+        Field::Symbol(text) => put_symbol(text, out),
+        Field::Mapping(pairs) => put_map(pairs, out),
+        Field::Any(value) => put_any(value, out),
         Field::State(reached) => put_state(reached, depth, out),
-        Field::Failure(failed) => put_composite(0x1d, &error_fields(failed), depth, out),
+        Field::Failure(failed) => put_error(failed, depth, out),
     }
 }
 
+/// Writes the symbol; this and the next out of line, so that the common fields are written without what these need.
+#[inline(never)]
+fn put_symbol(text: &str, out: &mut Vec<u8>) -> Result<(), WriteFault>
+    ensures { OnOk result (added out.old.items (part_form None (canonical (symbol text.now))) ≡ Some out.new.items) }
+{
+    if is_symbol(text) {
+        put_run(0xa3, 0xb3, text.as_bytes(), out)
+    } else {
+        Err(WriteFault::NotWritable)
+    }
+}
+
+#[inline(never)]
+fn put_map(pairs: &[(Value, Value)], out: &mut Vec<u8>) -> Result<(), WriteFault>
+    ensures { OnOk result (added out.old.items (part_form None (canonical (mapping pairs.now))) ≡ Some out.new.items) }
+{
+    append_map(pairs, out)
+}
+
+#[inline(never)]
+fn put_any(value: &Value, out: &mut Vec<u8>) -> Result<(), WriteFault>
+    ensures { OnOk result (added out.old.items (part_form None (canonical (any value.now))) ≡ Some out.new.items) }
+{
+    append_value(value, out)
+}
+
+#[inline(never)]
+#[cycle(writing)]
+fn put_error(failed: &AmqpError, depth: u8, out: &mut Vec<u8>) -> Result<(), WriteFault>
+    ensures { OnOk result (added out.old.items (part_form None (canonical (error failed.now))) ≡ Some out.new.items) }
+{
+    put_composite(0x1d, &error_fields(failed), depth, out)
+}
+
+#[inline(never)]
 #[cycle(writing)]
 fn put_state(reached: &DeliveryState, depth: u8, out: &mut Vec<u8>) -> Result<(), WriteFault>
     ensures { OnOk result (added out.old.items (part_form None (canonical (state reached.now))) ≡ Some out.new.items) }
@@ -76,7 +105,7 @@ fn put_state(reached: &DeliveryState, depth: u8, out: &mut Vec<u8>) -> Result<()
             ];
             put_composite(0x27, &fields, depth, out)
         }
-        DeliveryState::Other(value) => append_value(value, out),
+        DeliveryState::Other(value) => append_value(value.get(), out),
     }
 }
 

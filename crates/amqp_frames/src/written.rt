@@ -9,26 +9,26 @@ ghost use Rattle.amqp_frames.specs.Written.{Answers, write_answer, within_size, 
 use crate::fair::is_fair;
 use crate::fault::FrameRefusal;
 use crate::frame::Frame;
+use crate::kinds::{
+    write_attach, write_begin, write_close, write_detach, write_disposition, write_end, write_flow,
+    write_open, write_transfer,
+};
 use crate::leaf::list_len;
 use crate::measure::{Measure, fields_len};
 use crate::writing::put_described;
 use amqp_performatives::Performative;
 use amqp_performatives::field::Field;
-use amqp_performatives::listed::{
-    attach_fields, begin_fields, close_fields, detach_fields, disposition_fields, end_fields,
-    flow_fields, open_fields, transfer_fields,
-};
 use amqp_types::WriteFault;
 use bytes::Bytes;
 use std::alloc::Global;
 
 /// What a frame has besides its performative, and where and how long it may be.
 #[derive(Clone, Copy)]
-struct Envelope<'a> {
-    alloc: Global,
-    channel: u16,
-    payload: &'a [u8],
-    max: u32,
+pub(crate) struct Envelope<'a> {
+    pub(crate) alloc: Global,
+    pub(crate) channel: u16,
+    pub(crate) payload: &'a [u8],
+    pub(crate) max: u32,
 }
 
 /// Writes the frame: its size, the data offset 2, the type 0, the channel, the canonical spelling of the performative without absent fields at
@@ -56,15 +56,15 @@ pub fn write_frame(alloc: Global, frame: &Frame, max: u32) -> Result<Bytes, Fram
         return Err(FrameRefusal::NotWritable);
     }
     match performative {
-        Performative::Open(body) => write_body(&envelope, 0x10, &open_fields(body)),
-        Performative::Begin(body) => write_body(&envelope, 0x11, &begin_fields(body)),
-        Performative::Attach(body) => write_body(&envelope, 0x12, &attach_fields(body)),
-        Performative::Flow(body) => write_body(&envelope, 0x13, &flow_fields(body)),
-        Performative::Transfer(body) => write_body(&envelope, 0x14, &transfer_fields(body)),
-        Performative::Disposition(body) => write_body(&envelope, 0x15, &disposition_fields(body)),
-        Performative::Detach(body) => write_body(&envelope, 0x16, &detach_fields(body)),
-        Performative::End(body) => write_body(&envelope, 0x17, &end_fields(body)),
-        Performative::Close(body) => write_body(&envelope, 0x18, &close_fields(body)),
+        Performative::Open(body) => write_open(&envelope, body.get()),
+        Performative::Begin(body) => write_begin(&envelope, body.get()),
+        Performative::Attach(body) => write_attach(&envelope, body.get()),
+        Performative::Flow(body) => write_flow(&envelope, body),
+        Performative::Transfer(body) => write_transfer(&envelope, body),
+        Performative::Disposition(body) => write_disposition(&envelope, body),
+        Performative::Detach(body) => write_detach(&envelope, body),
+        Performative::End(body) => write_end(&envelope, body),
+        Performative::Close(body) => write_close(&envelope, body),
     }
 }
 
@@ -104,7 +104,7 @@ fn write_empty(envelope: &Envelope<'_>) -> Result<Bytes, FrameRefusal>
 }
 
 /// A frame with a described list of these fields and the payload.
-fn write_body(
+pub(crate) fn write_body(
     envelope: &Envelope<'_>,
     code: u8,
     fields: &[Field<'_>],

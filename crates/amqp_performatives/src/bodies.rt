@@ -1,10 +1,11 @@
 //! The fields of the nine performatives (part 2, 2.7), in their order. A field that is not mandatory is an option; a default is not filled in.
+//! Values of any type and errors, which few frames have, stand behind a pointer, so that a frame is narrow where it is moved.
 ghost use Rattle.std.specs.Prelude.{◌≡◌};
 
 use crate::copying::{copy_error, copy_pairs, copy_state, copy_text, copy_value};
 use crate::error::AmqpError;
 use crate::state::DeliveryState;
-use amqp_types::{Items, Tag, Text, Value};
+use amqp_types::{Boxed, Items, Tag, Text, Value};
 use std::alloc::AllocError;
 
 /// An end of a link (part 2, 2.8.1): true on the wire where it receives.
@@ -25,11 +26,11 @@ pub struct OpenBody {
     pub channel_max: Option<u16>,
     /// In milliseconds.
     pub idle_time_out: Option<u32>,
-    pub outgoing_locales: Option<Value>,
-    pub incoming_locales: Option<Value>,
-    pub offered_capabilities: Option<Value>,
-    pub desired_capabilities: Option<Value>,
-    pub properties: Option<Value>,
+    pub outgoing_locales: Option<Boxed<Value>>,
+    pub incoming_locales: Option<Boxed<Value>>,
+    pub offered_capabilities: Option<Boxed<Value>>,
+    pub desired_capabilities: Option<Boxed<Value>>,
+    pub properties: Option<Boxed<Value>>,
 }
 
 impl Clone for OpenBody {
@@ -69,9 +70,9 @@ pub struct BeginBody {
     pub outgoing_window: u32,
     /// 4294967295 where absent.
     pub handle_max: Option<u32>,
-    pub offered_capabilities: Option<Value>,
-    pub desired_capabilities: Option<Value>,
-    pub properties: Option<Value>,
+    pub offered_capabilities: Option<Boxed<Value>>,
+    pub desired_capabilities: Option<Boxed<Value>>,
+    pub properties: Option<Boxed<Value>>,
 }
 
 impl Clone for BeginBody {
@@ -104,8 +105,8 @@ pub struct AttachBody {
     pub snd_settle_mode: Option<u8>,
     /// 0 first, 1 second (part 2, 2.8.3); 0 where absent.
     pub rcv_settle_mode: Option<u8>,
-    pub source: Option<Value>,
-    pub target: Option<Value>,
+    pub source: Option<Boxed<Value>>,
+    pub target: Option<Boxed<Value>>,
     /// Delivery tags with their states.
     pub unsettled: Option<Items<(Value, Value)>>,
     /// False where absent.
@@ -114,9 +115,9 @@ pub struct AttachBody {
     pub initial_delivery_count: Option<u32>,
     /// In octets; no limit where it is 0 or absent.
     pub max_message_size: Option<u64>,
-    pub offered_capabilities: Option<Value>,
-    pub desired_capabilities: Option<Value>,
-    pub properties: Option<Value>,
+    pub offered_capabilities: Option<Boxed<Value>>,
+    pub desired_capabilities: Option<Boxed<Value>>,
+    pub properties: Option<Boxed<Value>>,
 }
 
 impl Clone for AttachBody {
@@ -168,7 +169,7 @@ pub struct FlowBody {
     pub drain: Option<bool>,
     /// False where absent.
     pub echo: Option<bool>,
-    pub properties: Option<Value>,
+    pub properties: Option<Boxed<Value>>,
 }
 
 impl Clone for FlowBody {
@@ -269,7 +270,7 @@ pub struct DetachBody {
     pub handle: u32,
     /// False where absent.
     pub closed: Option<bool>,
-    pub error: Option<AmqpError>,
+    pub error: Option<Boxed<AmqpError>>,
 }
 
 impl Clone for DetachBody {
@@ -288,7 +289,7 @@ impl Clone for DetachBody {
 /// End (part 2, 2.7.8).
 #[derive(Debug, Drop)]
 pub struct EndBody {
-    pub error: Option<AmqpError>,
+    pub error: Option<Boxed<AmqpError>>,
 }
 
 impl Clone for EndBody {
@@ -303,7 +304,7 @@ impl Clone for EndBody {
 /// Close (part 2, 2.7.9).
 #[derive(Debug, Drop)]
 pub struct CloseBody {
-    pub error: Option<AmqpError>,
+    pub error: Option<Boxed<AmqpError>>,
 }
 
 impl Clone for CloseBody {

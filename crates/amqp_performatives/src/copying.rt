@@ -3,7 +3,7 @@ ghost use Rattle.std.specs.Prelude.{◌≡◌, IfOk};
 
 use crate::error::AmqpError;
 use crate::state::DeliveryState;
-use amqp_types::{Items, Text, Value};
+use amqp_types::{Boxed, Items, Text, Value};
 use std::alloc::AllocError;
 
 pub(crate) fn copy_text(text: &Option<Text>) -> Result<Option<Text>, AllocError>
@@ -15,7 +15,9 @@ pub(crate) fn copy_text(text: &Option<Text>) -> Result<Option<Text>, AllocError>
     }
 }
 
-pub(crate) fn copy_value(value: &Option<Value>) -> Result<Option<Value>, AllocError>
+pub(crate) fn copy_value(
+    value: &Option<Boxed<Value>>,
+) -> Result<Option<Boxed<Value>>, AllocError>
     ensures { IfOk result (λ copy. copy ≡ value.now) }
 {
     match value {
@@ -24,7 +26,9 @@ pub(crate) fn copy_value(value: &Option<Value>) -> Result<Option<Value>, AllocEr
     }
 }
 
-pub(crate) fn copy_error(error: &Option<AmqpError>) -> Result<Option<AmqpError>, AllocError>
+pub(crate) fn copy_error(
+    error: &Option<Boxed<AmqpError>>,
+) -> Result<Option<Boxed<AmqpError>>, AllocError>
     ensures { IfOk result (λ copy. copy ≡ error.now) }
 {
     match error {

@@ -1,7 +1,7 @@
 ghost use Rattle.std.specs.Prelude.{◌≡◌};
 
 use crate::copying::{copy_text, copy_value};
-use amqp_types::{Text, Value};
+use amqp_types::{Boxed, Text, Value};
 use std::alloc::AllocError;
 
 /// What went wrong, as a peer is told (part 2, 2.8.14).
@@ -10,7 +10,7 @@ pub struct AmqpError {
     /// A symbol, as `amqp:not-allowed`.
     pub condition: Text,
     pub description: Option<Text>,
-    pub info: Option<Value>,
+    pub info: Option<Boxed<Value>>,
 }
 
 impl Clone for AmqpError {

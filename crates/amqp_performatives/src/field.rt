@@ -7,7 +7,7 @@ ghost use Rattle.amqp_performatives.specs.Listed.{part_at};
 use crate::bodies::Role;
 use crate::error::AmqpError;
 use crate::state::DeliveryState;
-use amqp_types::{Items, Tag, Text, Value};
+use amqp_types::{Boxed, Items, Tag, Text, Value};
 
 /// A field, borrowed from its body.
 #[derive(Clone, Copy)]
@@ -108,11 +108,11 @@ pub fn mapping(pairs: &Option<Items<(Value, Value)>>) -> Field<'_>
 }
 
 #[inline]
-pub fn any(value: &Option<Value>) -> Field<'_>
+pub fn any(value: &Option<Boxed<Value>>) -> Field<'_>
     ensures { part_at result ≡ optional any value.now }
 {
     match value {
-        Some(value) => Field::Any(value),
+        Some(value) => Field::Any(value.get()),
         None => Field::Absent,
     }
 }
@@ -128,11 +128,11 @@ pub fn state(reached: &Option<DeliveryState>) -> Field<'_>
 }
 
 #[inline]
-pub fn failure(what: &Option<AmqpError>) -> Field<'_>
+pub fn failure(what: &Option<Boxed<AmqpError>>) -> Field<'_>
     ensures { part_at result ≡ optional error what.now }
 {
     match what {
-        Some(what) => Field::Failure(what),
+        Some(what) => Field::Failure(what.get()),
         None => Field::Absent,
     }
 }

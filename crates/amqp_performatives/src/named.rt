@@ -31,9 +31,9 @@ impl Performative {
         ensures { result ≡ field_count self.now }
     {
         let count = match self {
-            Performative::Open(body) => shown_count(&open_fields(body)),
-            Performative::Begin(body) => shown_count(&begin_fields(body)),
-            Performative::Attach(body) => shown_count(&attach_fields(body)),
+            Performative::Open(body) => shown_count(&open_fields(body.get())),
+            Performative::Begin(body) => shown_count(&begin_fields(body.get())),
+            Performative::Attach(body) => shown_count(&attach_fields(body.get())),
             Performative::Flow(body) => shown_count(&flow_fields(body)),
             Performative::Transfer(body) => shown_count(&transfer_fields(body)),
             Performative::Disposition(body) => shown_count(&disposition_fields(body)),

@@ -4,14 +4,16 @@ use crate::bodies::{
     AttachBody, BeginBody, CloseBody, DetachBody, DispositionBody, EndBody, FlowBody, OpenBody,
     TransferBody,
 };
+use amqp_types::Boxed;
 use std::alloc::AllocError;
 
-/// What a frame says (part 2, 2.7).
+/// What a frame says (part 2, 2.7). The three bodies that come once for a connection, a session or a link stand behind a pointer, so that the
+/// others, which come with each delivery, are narrow.
 #[derive(Debug, Drop)]
 pub enum Performative {
-    Open(OpenBody),
-    Begin(BeginBody),
-    Attach(AttachBody),
+    Open(Boxed<OpenBody>),
+    Begin(Boxed<BeginBody>),
+    Attach(Boxed<AttachBody>),
     Flow(FlowBody),
     Transfer(TransferBody),
     Disposition(DispositionBody),

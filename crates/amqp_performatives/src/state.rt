@@ -2,7 +2,7 @@ ghost use Rattle.std.specs.Prelude.{◌≡◌};
 
 use crate::copying::{copy_error, copy_value};
 use crate::error::AmqpError;
-use amqp_types::Value;
+use amqp_types::{Boxed, Value};
 use std::alloc::AllocError;
 
 /// The state of a delivery at one end (part 3, 3.4). All but `Received` and `Other` are outcomes.
@@ -13,15 +13,15 @@ pub enum DeliveryState {
         section_offset: u64,
     },
     Accepted,
-    Rejected(Option<AmqpError>),
+    Rejected(Option<Boxed<AmqpError>>),
     Released,
     Modified {
         delivery_failed: Option<bool>,
         undeliverable_here: Option<bool>,
-        message_annotations: Option<Value>,
+        message_annotations: Option<Boxed<Value>>,
     },
     /// A state that is none of these, as a transaction's.
-    Other(Value),
+    Other(Boxed<Value>),
 }
 
 impl Clone for DeliveryState {

@@ -50,3 +50,26 @@ impl<T: Drop> Boxed<T> {
         })
     }
 }
+
+impl<T: Clone> Clone for Boxed<T> {
+    ghost is_clone = { T.is_clone };
+
+    fn clone(&self) -> Result<Boxed<T>, AllocError> {
+        let copy = self.get().clone()?;
+        Boxed::new(self.allocator(), copy)
+    }
+}
+
+impl<T: PartialEq> PartialEq for Boxed<T> {
+    ghost eq = { T.eq };
+
+    ghost laws = { T.laws };
+
+    fn eq(&self, other: &Boxed<T>) -> bool {
+        *self.get() == *other.get()
+    }
+}
+
+impl<T: Eq> Eq for Boxed<T> {
+    ghost laws = { T.Eq.laws };
+}

@@ -2,6 +2,10 @@
 ghost use Rattle.std.specs.Prelude.{◌≡◌, ◌≤◌, ◌+◌, ℕ, List, length, Some, None, MatchOption};
 ghost use Rattle.amqp_types.specs.Heads.{IsListHead, HasNoList, IsDescriptor};
 ghost use Rattle.amqp_types.specs.Reading.{frame_at};
+ghost use Rattle.amqp_types.specs.Grammar.{IsFront};
+ghost use Rattle.amqp_types.specs.Datum.{octets};
+ghost use Rattle.amqp_types.specs.declared.class.Run.{Run};
+ghost use Rattle.amqp_types.specs.declared.class.Width.{Width};
 
 use crate::class::Width;
 use crate::fields::{read_symbol, read_ulong};
@@ -32,9 +36,19 @@ pub fn read_list_head(bytes: &[u8]) -> Option<ListHead>
             end: 1,
         }),
         0xc0 => framed_head(Width::One, rest, bytes.len()),
-        0xd0 => framed_head(Width::Four, rest, bytes.len()),
+        0xd0 => wide_head(rest, bytes.len()),
         _ => None,
     }
+}
+
+/// Of a list of many octets: rare, and so out of line.
+#[inline(never)]
+fn wide_head(body: &[u8], whole: usize) -> Option<ListHead>
+    requires { whole ≡ length body.now + 1 }
+    ensures { MatchOption result (frame_at Width.Four body.now ≡ None) (λ head. (content after : List ℕ) × (frame_at Width.Four body.now ≡ Some ((head.count, content), after))
+        × (head.end + length after ≡ whole) × (head.start + length content ≡ head.end)) }
+{
+    framed_head(Width::Four, body, whole)
 }
 
 /// The head whose size and count have this width, where the octets with the format code are so many.
@@ -76,9 +90,17 @@ pub fn read_descriptor(bytes: &[u8]) -> Option<(Descriptor<'_>, usize)>
     }
     match read_ulong(rest) {
         Some((number, used)) => Some((Descriptor::Number(number), 1 + used)),
-        None => match read_symbol(rest) {
+        None => match read_name(rest) {
             Some((name, used)) => Some((Descriptor::Name(name), 1 + used)),
             None => None,
         },
     }
+}
+
+/// A descriptor's name: rare, and so out of line.
+#[inline(never)]
+fn read_name(bytes: &[u8]) -> Option<(&str, usize)>
+    ensures { IsFront (λ text. octets Run.Symbol text.now) bytes.now result }
+{
+    read_symbol(bytes)
 }

@@ -213,6 +213,24 @@ fn copies(rt: HostRuntime) -> Result<(), Fail> {
     Ok(())
 }
 
+// Equal by what they are, however they were spelled.
+#[test]
+fn equal(rt: HostRuntime) -> Result<(), Fail> {
+    let (short, _) = read_value(rt.alloc(), &[0xc0, 4, 2, 0x52, 1, 0x41])?;
+    let (long, _) = read_value(
+        rt.alloc(),
+        &[0xd0, 0, 0, 0, 11, 0, 0, 0, 2, 0x70, 0, 0, 0, 1, 0x56, 1],
+    )?;
+    assert!(rt; short == long);
+    let (other, _) = read_value(rt.alloc(), &[0xc0, 4, 2, 0x52, 1, 0x42])?;
+    assert!(rt; short != other);
+    assert!(rt; Value::Uint(1) != Value::Ulong(1));
+    let text = Text::new(rt.alloc(), "q")?;
+    assert!(rt; text == text.clone()?);
+    assert!(rt; Value::Str(text) != Value::Str(Text::new(rt.alloc(), "p")?));
+    Ok(())
+}
+
 #[test]
 fn not_writable(rt: HostRuntime) -> Result<(), Fail> {
     let mut out = Vec::new(rt.alloc());

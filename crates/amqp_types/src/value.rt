@@ -11,7 +11,9 @@ use std::alloc::AllocError;
 ///
 /// Floating-point and decimal numbers are kept as bits, a timestamp in milliseconds since the Unix epoch, and a map's pairs as they lie, also
 /// where two have one key. An array has the format code of its elements, and is a value that can be written only where each is of that code.
-#[derive(Debug, Drop)]
+///
+/// Two values are equal where they are of one variant and their parts are: numbers of different types are not, nor are maps of another order.
+#[derive(Debug, PartialEq, Eq, Drop)]
 pub enum Value {
     Null,
     Bool(bool),

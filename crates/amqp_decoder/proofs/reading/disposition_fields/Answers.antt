@@ -3,7 +3,6 @@ use Rattle.amqp_performatives.specs.Part.{no_field}
 use Rattle.amqp_decoder.specs.Reading.{AreFields}
 use Rattle.amqp_decoder.proofs.DescribedLists.{not_named}
 use Rattle.amqp_decoder.proofs.FirstField.{always}
-use Rattle.amqp_decoder.proofs.Conjunctions.{and_left, and_right, and_both}
 use Rattle.amqp_decoder.proofs.reading.disposition_fields.Goals as goal
 
 pub returns-in_err-role : goal.returns-in_err-role

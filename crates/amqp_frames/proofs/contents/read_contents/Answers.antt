@@ -1,4 +1,4 @@
-use Rattle.std.proofs.Common.{Err, Some, sym, ap, ◌∙◌}
+use Rattle.std.proofs.Common.{Err, Some, ap}
 use Rattle.amqp_frames.proofs.Performatives.{none_there, may_not}
 use Rattle.amqp_frames.proofs.contents.read_contents.Goals as goal
 use Rattle.amqp_frames.proofs.contents.read_contents.Goals.{then-may_follow, else-may_follow}

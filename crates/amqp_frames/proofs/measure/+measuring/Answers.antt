@@ -1,13 +1,13 @@
-use Rattle.std.proofs.Common.{◌≡◌, ◌+◌, ℕ, [], ◌∷◌, Option, Some, None, length, refl, sym, ap, ◌∙◌, arith}
+use Rattle.std.proofs.Common.{◌+◌, ℕ, [], ◌∷◌, Option, Some, None, length, refl, sym, ap, ◌∙◌, arith}
 use Rattle.std.proofs.lemmas.Str.{is_utf8-from_IsUtf8}
 use Rattle.amqp_types.specs.declared.class.Kind.{Kind}
 use Rattle.amqp_types.specs.declared.class.Run.{Run}
-use Rattle.amqp_types.specs.Datum.{number, octets, count_of}
+use Rattle.amqp_types.specs.Datum.{number, octets}
 use Rattle.amqp_types.specs.Reading.{◌>>=◌}
-use Rattle.amqp_types.specs.Canon.{part_form, capped}
-use Rattle.amqp_frames.specs.Field.{run_octets, list_size, forms_within}
+use Rattle.amqp_types.specs.Canon.{part_form}
+use Rattle.amqp_frames.specs.Field.{run_octets}
 use Rattle.amqp_performatives.specs.Listed.{shown_fields}
-use Rattle.amqp_frames.proofs.Leaves.{null_form, binary_form, str_form, symbol_form, no_symbol}
+use Rattle.amqp_frames.proofs.Leaves.{null_form, binary_form, str_form}
 use Rattle.amqp_frames.proofs.Sizes.{form_size, boolean_size, number_size}
 use Rattle.amqp_frames.proofs.Composites.{composite_within, size_from}
 use Rattle.amqp_frames.proofs.Fields.{size_whole}
@@ -56,16 +56,10 @@ field_len-returns-in-Str t c =
     rw c.in-Str.is (c.run_len-in-Str.ensures 0xa1 0xb1 text (ap length (sym c.as_bytes.ensures.value))
     ∙ form_size c.args.depth (octets Run.Str text) (run_octets 0xa1 0xb1 text) refl c.if-depth-eq0.false (str_form text (rw (c.as_bytes.ensures.value) at (is_utf8-from_IsUtf8 c.as_bytes.result.now c.as_bytes.ensures.utf8))))
 
-pub field_len-returns-then-is_symbol : goal.field_len-returns-then-is_symbol
-field_len-returns-then-is_symbol t c =
-    let text = c.in-Symbol.text.now in
-    rw c.in-Symbol.is (c.run_len-then-is_symbol.ensures 0xa3 0xb3 text (ap length (sym c.as_bytes-then-is_symbol.ensures.value))
-    ∙ form_size c.args.depth (octets Run.Symbol text) (run_octets 0xa3 0xb3 text) refl c.if-depth-eq0.false (symbol_form text (sym c.is_symbol.ensures ∙ c.if-is_symbol.true)))
-
-pub field_len-returns-else-is_symbol : goal.field_len-returns-else-is_symbol
-field_len-returns-else-is_symbol t c =
-    let text = c.in-Symbol.text.now in
-    rw c.in-Symbol.is (form_size c.args.depth (octets Run.Symbol text) None refl c.if-depth-eq0.false (no_symbol text (sym c.is_symbol.ensures ∙ c.if-is_symbol.false)))
+pub field_len-returns-in-Symbol : goal.field_len-returns-in-Symbol
+field_len-returns-in-Symbol t c =
+    let d = octets Run.Symbol c.in-Symbol.text.now in
+    rw c.in-Symbol.is (c.symbol_len.ensures ∙ form_size c.args.depth d (part_form None d) refl c.if-depth-eq0.false refl)
 
 pub fields_len-returns : goal.fields_len-returns
 fields_len-returns t c =

@@ -12,6 +12,9 @@ decreases-composite_len l = 4 * l.depth
 abbrev pub decreases-state_len : goal.decreases-state_len
 decreases-state_len l = 4 * l.depth + 1
 
+abbrev pub decreases-error_len : goal.decreases-error_len
+decreases-error_len l = 4 * l.depth + 1
+
 abbrev pub decreases-field_len : goal.decreases-field_len
 decreases-field_len l = 4 * l.depth + 2
 

@@ -1,7 +1,7 @@
-use Rattle.std.proofs.Common.{◌≡◌, ◌+◌, ◌<◌, ℕ, Option, Some, None, sym, ap, ◌∙◌, arith}
+use Rattle.std.proofs.Common.{◌+◌, ℕ, Option, Some, sym, ap, ◌∙◌}
 use Rattle.std.specs.Result.{result_err}
 use Rattle.amqp_types.specs.Reading.{◌>>=◌}
-use Rattle.amqp_types.specs.Canon.{canon, capped}
+use Rattle.amqp_types.specs.Canon.{canon}
 use Rattle.amqp_performatives.specs.Listed.{shown_fields}
 use Rattle.amqp_frames.specs.Field.{composite_datum}
 use Rattle.amqp_frames.proofs.Composites.{size_from}

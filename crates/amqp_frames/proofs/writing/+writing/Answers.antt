@@ -1,11 +1,11 @@
-use Rattle.std.proofs.Common.{◌≡◌, ◌+◌, ◌-◌, ℕ, suc, [], ◌∷◌, drop, length, Option, Some, None, refl, sym, ap, ◌∙◌, arith}
+use Rattle.std.proofs.Common.{◌≡◌, ◌-◌, suc, drop, Some, None, refl, sym, ◌∙◌, arith}
 use Rattle.std.proofs.lemmas.Str.{is_utf8-from_IsUtf8}
 use Rattle.amqp_types.specs.declared.class.Kind.{Kind}
 use Rattle.amqp_types.specs.Datum.{number, count_of}
 use Rattle.amqp_types.specs.Canon.{part_form, parts_form}
 use Rattle.amqp_frames.specs.Field.{composite_datum, added}
 use Rattle.amqp_performatives.specs.Listed.{shown_fields}
-use Rattle.amqp_frames.proofs.Leaves.{binary_form, str_form, symbol_form}
+use Rattle.amqp_frames.proofs.Leaves.{binary_form, str_form}
 use Rattle.amqp_frames.proofs.Fields.{put_step, put_whole}
 use Rattle.amqp_performatives.proofs.Shown.{IsNext, index_inside, next_field}
 use Rattle.amqp_frames.proofs.Puts.{on_ok, canon_appended, described_put}
@@ -44,11 +44,6 @@ pub put_field-returns-in-Str : goal.put_field-returns-in-Str
 put_field-returns-in-Str t c =
     let e = c.as_bytes.ensures.value in
     rw (c.in-Str.is, str_form c.in-Str.text.now (rw e at (is_utf8-from_IsUtf8 c.as_bytes.result.now c.as_bytes.ensures.utf8)), ← e) c.put_run-in-Str.ensures
-
-pub put_field-returns-then-is_symbol : goal.put_field-returns-then-is_symbol
-put_field-returns-then-is_symbol t c =
-    let e = c.as_bytes-then-is_symbol.ensures.value in
-    rw (c.in-Symbol.is, symbol_form c.in-Symbol.text.now (sym c.is_symbol.ensures ∙ c.if-is_symbol.true), ← e) c.put_run-then-is_symbol.ensures
 
 pub put_fields-loop-i-preserved : goal.put_fields-loop-i-preserved
 put_fields-loop-i-preserved t c =

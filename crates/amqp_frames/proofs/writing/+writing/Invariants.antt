@@ -11,6 +11,9 @@ decreases-put_composite l = 6 * l.depth
 abbrev pub decreases-put_state : goal.decreases-put_state
 decreases-put_state l = 6 * l.depth + 1
 
+abbrev pub decreases-put_error : goal.decreases-put_error
+decreases-put_error l = 6 * l.depth + 1
+
 abbrev pub decreases-put_field : goal.decreases-put_field
 decreases-put_field l = 6 * l.depth + 2
 

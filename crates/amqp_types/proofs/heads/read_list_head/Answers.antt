@@ -15,7 +15,7 @@ returns-in-192 c = framed_answer c.in_ok-code.code.now 192 Width.One c.in_ok-cod
 
 pub returns-in-208 : goal.returns-in-208
 unfolding class_of
-returns-in-208 c = framed_answer c.in_ok-code.code.now 208 Width.Four c.in_ok-code.rest.now c.args.bytes.now c.in_ok-code.ensures.cases c.in-208.is refl _ (omega arith) c.framed_head-in-208.result c.framed_head-in-208.ensures
+returns-in-208 c = framed_answer c.in_ok-code.code.now 208 Width.Four c.in_ok-code.rest.now c.args.bytes.now c.in_ok-code.ensures.cases c.in-208.is refl _ (omega arith) c.wide_head.result c.wide_head.ensures
 
 pub returns-in_default : goal.returns-in_default
 returns-in_default c =

@@ -1,7 +1,6 @@
-use Rattle.std.proofs.Common.{◌≡◌, ◌∙◌, sym, ap, length, eq-eqb, arith, true, false, refl}
+use Rattle.std.proofs.Common.{◌≡◌, ◌∙◌, sym, ap, length, eq-eqb, arith, true, false}
 use Rattle.std.proofs.lemmas.Bool.{eqb-true}
 use Rattle.std.proofs.lemmas.List.{nil_from_length}
-use Rattle.std.specs.Prelude.{IsTrue}
 use Rattle.amqp_decoder.proofs.FirstField.{absent_takes, absent_misses, null_passed, no_null, at_end, only_end}
 use Rattle.amqp_decoder.proofs.fields.Fields.is_at_end.Goals as goal
 

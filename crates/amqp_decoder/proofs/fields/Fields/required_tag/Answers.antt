@@ -1,12 +1,9 @@
-use Rattle.std.proofs.Common.{Bool, cond, refl, arith}
-use Rattle.amqp_types.specs.declared.class.Kind.TheVariants as Kind
+use Rattle.std.proofs.Common.{arith}
 use Rattle.amqp_types.specs.declared.class.Run.TheVariants as Run
-use Rattle.amqp_types.specs.Datum.{number, octets}
-use Rattle.amqp_decoder.specs.Reading.{every}
-use Rattle.amqp_decoder.proofs.FirstField.{leaf_takes, leaf_misses, borrowed_misses}
-use Rattle.std.specs.Prelude.{nat_le, length}
+use Rattle.amqp_types.specs.Datum.{octets}
+use Rattle.amqp_decoder.proofs.FirstField.{leaf_misses, borrowed_misses}
 use Rattle.amqp_performatives.specs.Fair.{is_tag}
-use Rattle.amqp_decoder.proofs.FirstField.{leaf_unfit, tag_takes, tag_unfit}
+use Rattle.amqp_decoder.proofs.FirstField.{tag_takes, tag_unfit}
 use Rattle.amqp_decoder.proofs.fields.Fields.required_tag.Goals as goal
 
 pub returns-in-Some-new : goal.returns-in-Some-new

@@ -1,9 +1,8 @@
-use Rattle.std.proofs.Common.{Bool, cond, refl, arith}
+use Rattle.std.proofs.Common.{refl, arith}
 use Rattle.amqp_types.specs.declared.class.Kind.TheVariants as Kind
-use Rattle.amqp_types.specs.declared.class.Run.TheVariants as Run
-use Rattle.amqp_types.specs.Datum.{number, octets}
+use Rattle.amqp_types.specs.Datum.{number}
 use Rattle.amqp_decoder.specs.Reading.{every}
-use Rattle.amqp_decoder.proofs.FirstField.{leaf_takes, leaf_misses, borrowed_misses}
+use Rattle.amqp_decoder.proofs.FirstField.{leaf_takes, leaf_misses}
 use Rattle.amqp_decoder.proofs.fields.Fields.required_uint.Goals as goal
 
 pub returns-in-Some : goal.returns-in-Some

@@ -1,8 +1,5 @@
-use Rattle.amqp_performatives.specs.Bodies.{boolean, ubyte, ushort, uint, ulong, binary, string, mapping, any, optional}
-use Rattle.amqp_performatives.specs.Fair.{is_present, is_tag}
+use Rattle.amqp_performatives.specs.Bodies.{string}
 use Rattle.amqp_decoder.specs.Reading.{every}
-use Rattle.std.proofs.Common.{ℕ}
-use Rattle.std.specs.Prelude.{nat_le}
 use Rattle.amqp_decoder.proofs.FirstField.{optional_misses, optional_absent, optional_present}
 use Rattle.amqp_decoder.proofs.fields.Fields.string.Goals as goal
 

@@ -1,5 +1,5 @@
-use Rattle.std.proofs.Common.{◌≡◌, ◌<◌, ◌++◌, ◌*◌, List, ℕ, length, take, arith, refl, sym, ap, ◌∙◌}
-use Rattle.amqp_frames.proofs.Feeding.{kept_front, done_view, framed, refused, in_both, not_done, extended, room_of, sound_done, sound_again, same_view, front_taken, view_max, view_kept}
+use Rattle.std.proofs.Common.{◌<◌, ◌++◌, ◌*◌, List, ℕ, length, take, arith, refl, sym, ap, ◌∙◌}
+use Rattle.amqp_frames.proofs.Feeding.{done_view, framed, refused, in_both, not_done, extended, room_of, sound_done, sound_again, same_view, front_taken, view_max, view_kept}
 use Rattle.amqp_frames.proofs.framer.Framer.finish.Goals as goal
 
 pub invariant_of-self : goal.invariant_of-self

@@ -1,4 +1,4 @@
-use Rattle.std.proofs.Common.{◌≡◌, ◌*◌, List, ℕ, length, take, arith, refl, sym, ap, ◌∙◌}
+use Rattle.std.proofs.Common.{◌*◌, length, take, arith, refl, ap, ◌∙◌}
 use Rattle.amqp_frames.proofs.Feeding.{kept_front, done_view, framed, refused, in_piece, view_max, view_kept}
 use Rattle.amqp_frames.proofs.framer.Framer.finish_in_place.Goals as goal
 

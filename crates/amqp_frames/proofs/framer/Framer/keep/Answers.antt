@@ -1,4 +1,4 @@
-use Rattle.std.proofs.Common.{◌≡◌, ◌++◌, List, ℕ, length, take, arith, refl, sym, ap, ◌∙◌}
+use Rattle.std.proofs.Common.{◌≡◌, ◌++◌, List, ℕ, length, take, arith, refl, ap, ◌∙◌}
 use Rattle.amqp_frames.proofs.Feeding.{kept_front, kept_view, sound_kept, extended, room_of, unfinished_of, view_max, view_kept}
 use Rattle.amqp_frames.proofs.framer.Framer.keep.Goals as goal
 

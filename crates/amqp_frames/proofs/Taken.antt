@@ -1,0 +1,128 @@
+-- Frames out of a piece, feed by feed.
+use Rattle.std.proofs.Common.{◌≡◌, ◌≢◌, ◌≤◌, ◌<◌, ◌+◌, ◌-◌, ℕ, zero, suc, Option, Some, None, List, [], ◌∷◌, ◌++◌, length, take, drop, refl, sym, ap, subst, ◌∙◌, inl, arith, append_assoc, length-drop}
+use Rattle.std.specs.Prelude.{Ok, Err, IfSome}
+use Rattle.std.proofs.lemmas.List.{append-nil, take_all, take-append-drop}
+use Rattle.std.proofs.Math.Seq.{drop-nil, drop-length}
+use Rattle.amqp_frames.specs.declared.frame.Frame.{Frame}
+use Rattle.amqp_frames.specs.declared.fault.FrameFault.{FrameFault}
+use Rattle.amqp_frames.specs.declared.fault.FrameFault.TheVariants.{NoMemory}
+use Rattle.amqp_frames.specs.Framing.{IsUnfinished, AreFrames}
+use Rattle.amqp_frames.specs.Framer.{FramerState, keeping, Feeds, Faulty}
+use Rattle.amqp_frames.specs.Stream.{Takes, FeedsInto}
+
+abbrev kept_of : FramerState → List ℕ
+kept_of s = s.kept
+
+abbrev max_of : FramerState → ℕ
+max_of s = s.max_size
+
+abbrev before_of : FramerState → Option (List ℕ)
+before_of s = s.before
+
+drop_again : (m n : ℕ) (l : List ℕ) → drop n (drop m l) ≡ drop (m + n) l
+drop_again zero n l = let e : n ≡ 0 + n = omega arith in ap (λ (k : ℕ). drop k l) e
+drop_again (suc m) n [] = drop-nil n ∙ sym (drop-nil (suc m + n))
+drop_again (suc m) n (x ∷ l) = let e : suc (m + n) ≡ suc m + n = omega arith in drop_again m n l ∙ ap (λ (k : ℕ). drop k (x ∷ l)) e
+
+chained : (max : ℕ) (x r s : List ℕ) (fs gs : List Frame) → AreFrames max x fs r → AreFrames max r gs s → AreFrames max x (fs ++ gs) s
+chained max x r s [] gs e h = subst (λ (t : List ℕ). AreFrames max t gs s) (sym e) h
+chained max x r s (f ∷ fs) gs (front, back, p, n, e, t) h = (front, back, p, n, e, chained max back r s fs gs t h)
+
+none_unfinished : (max : ℕ) (x : List ℕ) → x ≡ [] → IsUnfinished max x
+none_unfinished max x e = inl (omega (arith, ap length e))
+
+-- ---- one feed
+
+pub took_frame : (old new : FramerState) (piece : List ℕ) (used : ℕ) (f : Frame) (before after : List Frame) → Feeds old piece (Ok (used, Some f)) new → after ≡ before ++ f ∷ [] → FeedsInto old piece before (Ok used) new after
+took_frame old new piece used f before after fed put =
+    let none : new.kept ≡ [] = ap kept_of fed.3 in
+    let parts : old.kept ++ piece ≡ (old.kept ++ take used piece) ++ drop used piece =
+    ap (λ (t : List ℕ). old.kept ++ t) (sym (take-append-drop used piece)) ∙ sym (append_assoc old.kept (take used piece) (drop used piece)) in (
+      record {
+        given = f ∷ [];
+        put = put;
+        frames = (old.kept ++ take used piece, drop used piece, fed.1, fed.2, parts, sym (ap (λ (t : List ℕ). t ++ drop used piece) none));
+        within = fed.0;
+        max = ap max_of fed.3;
+      },
+      none_unfinished old.max_size new.kept none,
+    )
+
+pub took_all : (old new : FramerState) (piece : List ℕ) (used : ℕ) (before : List Frame) → Feeds old piece (Ok (used, None)) new → FeedsInto old piece before (Ok used) new before
+took_all old new piece used before fed =
+    let all : new.kept ≡ old.kept ++ piece = ap kept_of fed.2 in
+    let rest : drop used piece ≡ [] = ap (λ (n : ℕ). drop n piece) fed.0 ∙ drop-length piece in (
+      record {
+        given = [];
+        put = sym (append-nil before);
+        frames = sym (ap (λ (t : List ℕ). new.kept ++ t) rest ∙ append-nil new.kept ∙ all);
+        within = omega (arith, fed.0);
+        max = ap max_of fed.2;
+      },
+      subst (λ (t : List ℕ). IsUnfinished old.max_size t) (sym all) fed.1,
+    )
+
+put_back : (old mid new : FramerState) → mid ≡ keeping old [] → (octets : Option (List ℕ)) → octets ≡ mid.before → IfSome octets (λ os. new ≡ record { max_size = mid.max_size; kept = os; before = None }) → (new.kept ≡ old.kept) × (new.max_size ≡ old.max_size)
+put_back old mid new e None o h = let c : None ≡ Some old.kept = o ∙ ap before_of e in absurd cc
+put_back old mid new e (Some os) o h = let c : Some os ≡ Some old.kept = o ∙ ap before_of e in let same : os ≡ old.kept = cc in (ap kept_of h ∙ same, ap max_of h ∙ ap max_of e)
+
+pub no_room : (old mid new : FramerState) (piece : List ℕ) (used : ℕ) (f : Frame) (before after : List Frame) → Feeds old piece (Ok (used, Some f)) mid → after ≡ before → IfSome mid.before (λ os. new ≡ record { max_size = mid.max_size; kept = os; before = None })
+    → FeedsInto old piece before (Err NoMemory) new after
+no_room old mid new piece used f before after fed same h =
+    let parts : old.kept ++ piece ≡ (old.kept ++ take used piece) ++ drop used piece =
+    ap (λ (t : List ℕ). old.kept ++ t) (sym (take-append-drop used piece)) ∙ sym (append_assoc old.kept (take used piece) (drop used piece)) in
+    let back = put_back old mid new fed.3 mid.before refl h in
+    (inl (f, old.kept ++ take used piece, drop used piece, fed.1, fed.2, parts), same, back.0, back.1)
+
+-- ---- one after the other
+
+-- what a slice from there on has
+abbrev tail : List ℕ → ℕ → List ℕ
+tail piece used = take (length piece - used) (drop used piece)
+
+tail_is : (piece : List ℕ) (used : ℕ) → tail piece used ≡ drop used piece
+tail_is piece used = take_all (length piece - used) (drop used piece) (omega (arith, length-drop used piece))
+
+pub took_none : (old : FramerState) (piece : List ℕ) (before : List Frame) → Takes old piece before 0 old before
+took_none old piece before = record { given = []; put = sym (append-nil before); frames = refl; within = omega arith; max = refl }
+
+pub took_more : (old mid new : FramerState) (piece : List ℕ) (used more : ℕ) (before between after : List Frame) → Takes old piece before used mid between → FeedsInto mid (tail piece used) between (Ok more) new after
+    → Takes old piece before (used + more) new after × IsUnfinished old.max_size new.kept
+took_more old mid new piece used more before between after a fed =
+    let b = subst (λ (r : List ℕ). FeedsInto mid r between (Ok more) new after) (tail_is piece used) fed in
+    let t = b.0 in
+    let n : more ≤ length (drop used piece) = t.within in
+    let w : used ≤ length piece = a.within in
+    let next : AreFrames old.max_size (mid.kept ++ drop used piece) t.given (new.kept ++ drop (used + more) piece) =
+    subst (λ (r : List ℕ). AreFrames old.max_size (mid.kept ++ drop used piece) t.given (new.kept ++ r)) (drop_again used more piece)
+    (subst (λ (m : ℕ). AreFrames m (mid.kept ++ drop used piece) t.given (new.kept ++ drop more (drop used piece))) a.max t.frames) in (
+      record {
+        given = a.given ++ t.given;
+        put = t.put ∙ ap (λ (fs : List Frame). fs ++ t.given) a.put ∙ append_assoc before a.given t.given;
+        frames = chained old.max_size (old.kept ++ piece) (mid.kept ++ drop used piece) (new.kept ++ drop (used + more) piece) a.given t.given a.frames next;
+        within = omega (arith, length-drop used piece);
+        max = t.max ∙ a.max;
+      },
+      subst (λ (m : ℕ). IsUnfinished m new.kept) a.max b.1,
+    )
+
+pub stopped : (old mid new : FramerState) (piece : List ℕ) (used : ℕ) (fault : FrameFault) (before between after : List Frame) → Takes old piece before used mid between → FeedsInto mid (tail piece used) between (Err fault) new after
+    → Takes old piece before used new after × Faulty fault old.max_size (new.kept ++ drop used piece)
+stopped old mid new piece used fault before between after a fed =
+    let b = subst (λ (r : List ℕ). FeedsInto mid r between (Err fault) new after) (tail_is piece used) fed in (
+      record {
+        given = a.given;
+        put = b.1 ∙ a.put;
+        frames = subst (λ (k : List ℕ). AreFrames old.max_size (old.kept ++ piece) a.given (k ++ drop used piece)) (sym b.2) a.frames;
+        within = a.within;
+        max = b.3 ∙ a.max;
+      },
+      subst (λ (k : List ℕ). Faulty fault old.max_size (k ++ drop used piece)) (sym b.2) (subst (λ (m : ℕ). Faulty fault m (mid.kept ++ drop used piece)) a.max b.0),
+    )
+
+-- what is left of a piece that is not used up grows shorter
+pub shorter : (piece : List ℕ) (used more : ℕ) → used + more ≤ length piece → used + more ≢ length piece → (tail piece used ≢ [] → 0 < more) → length piece - (used + more) < length piece - used
+shorter piece used more within not_all progress =
+    let some : tail piece used ≢ [] = λ e. let n : length piece - used ≡ 0 = sym (length-drop used piece) ∙ ap length (sym (tail_is piece used) ∙ e) in not_all (omega arith) in
+    let p : 0 < more = progress some in
+    omega (arith, not_all)
