@@ -4,6 +4,7 @@ pub mod Runs
 pub mod Even
 pub mod Loop
 pub mod Views
+pub mod Equal
 pub mod Bodies
 pub mod Frames
 pub mod Laws

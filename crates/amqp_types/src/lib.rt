@@ -30,11 +30,13 @@
 //! - [`write_value`], [`value_size`]: whole values, written behind octets
 //! - [`write_uint`] and its like, [`write_list_head`], [`uint_size`], [`ulong_size`]: fields of one type, written
 //! - [`one_spelling`], [`canon_spells`], [`read_back`], [`canon_is_shortest`]: the laws of spellings
+//! - [`equal_is_same`]: `==` of values is `≡` in contracts
 #![tactic(auto)]
 
 mod append;
 mod boxed;
 mod class;
+mod equality;
 mod fault;
 mod fields;
 mod forms;
@@ -56,6 +58,7 @@ pub use append::{
 };
 pub use boxed::Boxed;
 pub use class::{Class, Kind, Reading, Run, Width, class_of};
+pub use equality::equal_is_same;
 pub use fault::{ReadFault, WriteFault};
 pub use fields::{
     read_binary, read_boolean, read_null, read_string, read_symbol, read_ubyte, read_uint,
