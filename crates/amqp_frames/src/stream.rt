@@ -5,9 +5,11 @@ ghost use Rattle.amqp_frames.specs.Stream.{FeedsInto, FeedsAll};
 use crate::fault::FrameFault;
 use crate::frame::Frame;
 use crate::framer::Framer;
+use thiserror::Error;
 
 /// The fault that stopped a piece.
-#[derive(Clone, Copy, Debug, PartialEq, Eq)]
+#[derive(Clone, Copy, Debug, PartialEq, Eq, Error)]
+#[error("{fault}")]
 pub struct Stopped {
     pub fault: FrameFault,
     /// How many octets of the piece were used before.

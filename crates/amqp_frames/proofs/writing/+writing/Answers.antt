@@ -1,4 +1,4 @@
-use Rattle.std.proofs.Common.{◌≡◌, ◌-◌, suc, drop, Some, None, refl, sym, ◌∙◌, arith}
+use Rattle.std.proofs.Common.{◌≡◌, ◌-◌, suc, drop, Some, None, refl, arith}
 use Rattle.std.proofs.lemmas.Str.{is_utf8-from_IsUtf8}
 use Rattle.amqp_types.specs.declared.class.Kind.{Kind}
 use Rattle.amqp_types.specs.Datum.{number, count_of}
