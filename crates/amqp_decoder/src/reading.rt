@@ -161,10 +161,7 @@ fn disposition_fields(fields: Fields<'_>) -> Option<(DispositionBody, Option<Sta
 }
 
 /// Disposition.
-pub(crate) fn read_disposition(
-    alloc: Global,
-    fields: Fields<'_>,
-) -> Result<Performative, BodyFault>
+pub(crate) fn read_disposition(alloc: Global, fields: Fields<'_>) -> Result<Performative, BodyFault>
     requires { 5 ≤ fields.depth }
     ensures { ReadsKind disposition_type fields.entry result }
 {

@@ -15,9 +15,7 @@ pub(crate) fn copy_text(text: &Option<Text>) -> Result<Option<Text>, AllocError>
     }
 }
 
-pub(crate) fn copy_value(
-    value: &Option<Boxed<Value>>,
-) -> Result<Option<Boxed<Value>>, AllocError>
+pub(crate) fn copy_value(value: &Option<Boxed<Value>>) -> Result<Option<Boxed<Value>>, AllocError>
     ensures { IfOk result (λ copy. copy ≡ value.now) }
 {
     match value {
