@@ -71,7 +71,7 @@ fn read_front(alloc: Global, octets: &[u8]) -> Result<(Performative, usize), Bod
 ///
 /// # Errors
 ///
-/// `NoBody` where no performative is in front, and `NoMemory` where one is and there is no memory for its fields of any type.
+/// `NoBody` where no performative is in front, and `NoMemory` where one is and there is no memory for what it owns.
 pub fn read_performative(alloc: Global, octets: &[u8]) -> Result<(Performative, usize), BodyFault>
     ensures found { IfOk result (λ found. (found.1 ≤ length octets.now) × IsPerformative found.0 (take found.1 octets.now)) }
     ensures none { result ≡ Err BodyFault.NoBody → (p : Performative) (x rest : List ℕ) → IsPerformative p x → octets.now ≡ x ++ rest → ⊥ }

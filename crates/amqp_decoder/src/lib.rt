@@ -1,5 +1,5 @@
 //! Reads performatives where they lie (OASIS AMQP 1.0 part 1, 1.4; part 2, 2.7): typed fields in place, by the number or the name of their
-//! descriptor; only fields of any type become a `Value`.
+//! descriptor; only fields of any type, and the pairs of a map, become a `Value`.
 #![tactic(auto)]
 
 mod borrowed;

@@ -1,5 +1,5 @@
 //! Reading performatives (part 2, 2.7), each by the table of its fields. A body is read where it lies, and memory is asked for last, so that a transfer,
-//! a flow or a disposition without untyped fields takes none.
+//! a flow or a disposition without errors and fields of any type takes none.
 ghost use Rattle.std.specs.Prelude.{◌≡◌, ◌≤◌, ◌&&◌, ℕ, option_map};
 ghost use Rattle.amqp_performatives.specs.Bodies.{flow_fields, transfer_fields, disposition_fields, detach_fields, end_fields, close_fields};
 ghost use Rattle.amqp_performatives.specs.Fair.{where_present, is_present, is_tag, is_receiver_mode, is_fair_error, is_fair_state};
@@ -17,11 +17,11 @@ use amqp_performatives::{
 use std::alloc::Global;
 
 /// Why no body is read.
-#[derive(Clone, Copy)]
+#[derive(Clone, Copy, Debug, PartialEq, Eq)]
 pub enum BodyFault {
     /// No performative is in front of the octets.
     NoBody,
-    /// One is, and there is no memory for its fields of any type.
+    /// One is, and there is no memory for what it owns: texts, errors, values of any type, bodies behind pointers.
     NoMemory,
 }
 

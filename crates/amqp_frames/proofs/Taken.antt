@@ -1,5 +1,5 @@
 -- Frames out of a piece, feed by feed.
-use Rattle.std.proofs.Common.{◌≡◌, ◌≢◌, ◌≤◌, ◌<◌, ◌+◌, ◌-◌, ℕ, zero, suc, Option, Some, None, List, [], ◌∷◌, ◌++◌, length, take, drop, refl, sym, ap, subst, ◌∙◌, inl, arith, append_assoc, length-drop}
+use Rattle.std.proofs.Common.{◌≡◌, ◌≢◌, ◌≤◌, ◌<◌, ◌+◌, ◌-◌, ◌⊎◌, ℕ, zero, suc, Option, Some, None, List, [], ◌∷◌, ◌++◌, length, take, drop, refl, sym, ap, subst, ◌∙◌, inl, inr, arith, append_assoc, length-drop}
 use Rattle.std.specs.Prelude.{Ok, Err, IfSome}
 use Rattle.std.proofs.lemmas.List.{append-nil, take_all, take-append-drop}
 use Rattle.std.proofs.Math.Seq.{drop-nil, drop-length}
@@ -8,7 +8,7 @@ use Rattle.amqp_frames.specs.declared.fault.FrameFault.{FrameFault}
 use Rattle.amqp_frames.specs.declared.fault.FrameFault.TheVariants.{NoMemory}
 use Rattle.amqp_frames.specs.Framing.{IsUnfinished, AreFrames}
 use Rattle.amqp_frames.specs.Framer.{FramerState, keeping, Feeds, Faulty}
-use Rattle.amqp_frames.specs.Stream.{Takes, FeedsInto}
+use Rattle.amqp_frames.specs.Stream.{Takes, FeedsInto, EndsAFrame}
 
 abbrev kept_of : FramerState → List ℕ
 kept_of s = s.kept
@@ -46,6 +46,7 @@ took_frame old new piece used f before after fed put =
         max = ap max_of fed.3;
       },
       none_unfinished old.max_size new.kept none,
+      inl none,
     )
 
 pub took_all : (old new : FramerState) (piece : List ℕ) (used : ℕ) (before : List Frame) → Feeds old piece (Ok (used, None)) new → FeedsInto old piece before (Ok used) new before
@@ -60,6 +61,7 @@ took_all old new piece used before fed =
         max = ap max_of fed.2;
       },
       subst (λ (t : List ℕ). IsUnfinished old.max_size t) (sym all) fed.1,
+      inr fed.0,
     )
 
 put_back : (old mid new : FramerState) → mid ≡ keeping old [] → (octets : Option (List ℕ)) → octets ≡ mid.before → IfSome octets (λ os. new ≡ record { max_size = mid.max_size; kept = os; before = None }) → (new.kept ≡ old.kept) × (new.max_size ≡ old.max_size)
@@ -106,9 +108,36 @@ took_more old mid new piece used more before between after a fed =
       subst (λ (m : ℕ). IsUnfinished m new.kept) a.max b.1,
     )
 
+-- where the piece is not used up, a frame ended
+ended_by : (piece kept : List ℕ) (used more : ℕ) → used ≤ length piece → used + more ≢ length piece → (kept ≡ []) ⊎ (more ≡ length (tail piece used)) → kept ≡ []
+ended_by piece kept used more within not_all (inl e) = e
+ended_by piece kept used more within not_all (inr e) =
+    let n : length (tail piece used) ≡ length piece - used = ap length (tail_is piece used) ∙ length-drop used piece in
+    absurd (not_all (omega (arith, within, e, n)))
+
+pub frame_ended : (old mid new : FramerState) (piece : List ℕ) (used more : ℕ) (before between after : List Frame) → Takes old piece before used mid between → FeedsInto mid (tail piece used) between (Ok more) new after → used + more ≢ length piece → EndsAFrame old (used + more) new
+frame_ended old mid new piece used more before between after a fed not_all = inr (ended_by piece new.kept used more a.within not_all fed.2)
+
+-- octets are left where the piece has some: not all are used at first
+pub some_left : (piece : List ℕ) → piece ≢ [] → 0 ≢ length piece
+some_left [] some e = some refl
+some_left (x ∷ xs) some e = absurd (omega (arith, e))
+
+split : (piece : List ℕ) → (piece ≡ []) ⊎ (piece ≢ [])
+split [] = inl refl
+split (x ∷ xs) = inr (λ e. absurd cc)
+
+none_left : (piece : List ℕ) (used : ℕ) → piece ≡ [] → tail piece used ≡ []
+none_left piece used e = tail_is piece used ∙ ap (drop used) e ∙ drop-nil used
+
+less_by : (piece : List ℕ) (used : ℕ) → used ≤ length piece → (piece ≢ [] → used ≢ length piece) → (tail piece used ≡ [] → ⊥) → (piece ≡ []) ⊎ (piece ≢ []) → used < length piece
+less_by piece used within left fed (inl e) = absurd (fed (none_left piece used e))
+less_by piece used within left fed (inr some) = let n = left some in omega (arith, within, n)
+
 pub stopped : (old mid new : FramerState) (piece : List ℕ) (used : ℕ) (fault : FrameFault) (before between after : List Frame) → Takes old piece before used mid between → FeedsInto mid (tail piece used) between (Err fault) new after
-    → Takes old piece before used new after × Faulty fault old.max_size (new.kept ++ drop used piece)
-stopped old mid new piece used fault before between after a fed =
+    → EndsAFrame old used mid → (piece ≢ [] → used ≢ length piece) → (tail piece used ≡ [] → ⊥)
+    → Takes old piece before used new after × EndsAFrame old used new × (used < length piece) × Faulty fault old.max_size (new.kept ++ drop used piece)
+stopped old mid new piece used fault before between after a fed front left some =
     let b = subst (λ (r : List ℕ). FeedsInto mid r between (Err fault) new after) (tail_is piece used) fed in (
       record {
         given = a.given;
@@ -117,6 +146,8 @@ stopped old mid new piece used fault before between after a fed =
         within = a.within;
         max = b.3 ∙ a.max;
       },
+      subst (λ (k : List ℕ). ((used ≡ 0) × (k ≡ old.kept)) ⊎ (k ≡ [])) (sym b.2) front,
+      less_by piece used a.within left some (split piece),
       subst (λ (k : List ℕ). Faulty fault old.max_size (k ++ drop used piece)) (sym b.2) (subst (λ (m : ℕ). Faulty fault m (mid.kept ++ drop used piece)) a.max b.0),
     )
 

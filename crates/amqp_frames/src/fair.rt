@@ -142,8 +142,8 @@ fn is_fair_attach(body: &AttachBody) -> bool
         && any_present(&body.properties)
 }
 
-/// Whether each field holds what a reader can find there: no present field is null, a settle mode is one of those there are, and no other
-/// state has the descriptor of a delivery state.
+/// Whether each field holds what a reader can find there: no present field is null, a tag has at most 32 octets, a settle mode is one of
+/// those there are, and no other state has the descriptor of a delivery state.
 pub(crate) fn is_fair(performative: &Performative) -> bool
     ensures { result ≡ is_fair performative.now }
 {

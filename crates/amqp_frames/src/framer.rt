@@ -1,5 +1,5 @@
 //! Frames out of octets that come in pieces (part 2, 2.3).
-ghost use Rattle.std.specs.Prelude.{◌≡◌, ◌≢◌, ◌≤◌, ◌<◌, ◌*◌, ◌++◌, [], ℕ, List, Some, None, MatchOption, MatchResult, IsOk, IsSome, IfOk, IfSome, ◌+◌, length, take};
+ghost use Rattle.std.specs.Prelude.{◌≡◌, ◌≢◌, ◌≤◌, ◌<◌, ◌*◌, ◌++◌, [], ℕ, List, Some, None, Ok, MatchOption, MatchResult, IsSome, IfOk, IfSome, ◌+◌, length, take};
 ghost use Rattle.amqp_frames.specs.Framing.{IsUnfinished, AreContents, size_of};
 ghost use Rattle.amqp_frames.specs.Header.{BeginsWith, IsHeaderPart, IsHeaderFault};
 ghost use Rattle.amqp_frames.specs.Contents.{AreNoContents};
@@ -55,7 +55,7 @@ impl Framer {
     /// read in place; a payload is copied once.
     pub fn feed(&mut self, piece: &[u8]) -> Result<(usize, Option<Frame>), FrameFault>
         ensures fed { Feeds self.old piece.now result self.new }
-        ensures empty { piece.now ≡ [] → IsOk result }
+        ensures empty { piece.now ≡ [] → result ≡ Ok (0, None) }
         ensures progress { piece.now ≢ [] → IfOk result (λ fed. 0 < fed.0) }
     {
         if piece.is_empty() {
@@ -182,7 +182,7 @@ impl Framer {
         }
     }
 
-    /// Puts the framer back to before the last feed.
+    /// Puts the framer back to before the last feed that succeeded.
     pub fn unread(&mut self)
         requires { IsSome self.old.before }
         ensures { IfSome self.old.before (λ octets. self.new ≡ record { max_size = self.old.max_size; kept = octets; before = None }) }

@@ -1,5 +1,5 @@
 //! All frames of a piece of a stream (part 2, 2.3).
-ghost use Rattle.std.specs.Prelude.{◌≡◌, ◌≢◌, ◌<◌, [], IfOk};
+ghost use Rattle.std.specs.Prelude.{◌≡◌, ◌≢◌, ◌<◌, [], IsOk, IfOk};
 ghost use Rattle.amqp_frames.specs.Stream.{FeedsInto, FeedsAll};
 
 use crate::fault::FrameFault;
@@ -21,8 +21,8 @@ impl Framer {
     ///
     /// # Errors
     ///
-    /// The first fault, with the number of octets that were used before. The frames before it stand behind `frames`, and the octets from there on
-    /// are not taken: after `NoMemory` they may be fed again.
+    /// The first fault, with the number of octets that were used before, which is fewer than the piece has. The frames before it stand behind
+    /// `frames`, and nothing of the frame that shows it is taken from the piece: after `NoMemory` the octets from there on may be fed again.
     pub fn feed_all(&mut self, piece: &[u8], frames: &mut Vec<Frame>) -> Result<(), Stopped>
         ensures { FeedsAll self.old piece.now frames.old.items result self.new frames.new.items }
     {
@@ -41,6 +41,7 @@ impl Framer {
     /// Feeds the piece once, and puts the frame that becomes whole behind the others.
     fn feed_into(&mut self, piece: &[u8], frames: &mut Vec<Frame>) -> Result<usize, FrameFault>
         ensures fed { FeedsInto self.old piece.now frames.old.items result self.new frames.new.items }
+        ensures empty { piece.now ≡ [] → IsOk result }
         ensures progress { piece.now ≢ [] → IfOk result (λ used. 0 < used) }
     {
         match self.feed(piece) {

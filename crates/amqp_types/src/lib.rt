@@ -30,6 +30,7 @@
 //! - [`write_value`], [`value_size`]: whole values, written behind octets
 //! - [`write_uint`] and its like, [`write_list_head`], [`uint_size`], [`ulong_size`]: fields of one type, written
 //! - [`one_spelling`], [`canon_spells`], [`read_back`], [`canon_is_shortest`]: the laws of spellings
+//! - [`size_within`], [`map_size_within`], [`append_value`], [`append_map`], [`is_symbol`], [`class_of`]: what writers and readers of larger things stand on
 //! - [`equal_is_same`]: `==` of values is `≡` in contracts
 #![tactic(auto)]
 
