@@ -4,22 +4,6 @@ use Rattle.amqp_flow.specs.Serial.{wire, distance}
 use Rattle.amqp_flow.specs.Windows.{awaited}
 use Rattle.amqp_flow.proofs.SerialLaws.{numbered-back}
 
--- none passed yet
-pub left-none : (limit : ℕ) → limit - 0 ≡ limit
-left-none limit = omega arith
-
--- one more passes
-pub left-more : (limit n : ℕ) → limit - (n + 1) ≡ (limit - n) - 1
-left-more limit n = omega arith
-
--- several more pass
-pub left-sum : (limit n m : ℕ) → limit - (n + m) ≡ (limit - n) - m
-left-sum limit n m = omega arith
-
--- all that are left pass
-pub left-all : (limit n : ℕ) → limit - (n + (limit - n)) ≡ 0
-left-all limit n = omega arith
-
 -- what was told when n had passed, of which the peer had not seen the last few
 pub left-told : (n told lag : ℕ) → (n + told) - (lag + n) ≡ told - lag
 left-told n told lag = omega arith

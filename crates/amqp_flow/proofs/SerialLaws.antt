@@ -1,58 +1,20 @@
 -- Serial numbers against numbers that are counted without bound.
-use Rattle.std.proofs.Common.{◌≡◌, ◌<◌, ◌≤◌, ℕ, ◌+◌, ◌-◌, ◌%◌, ◌^◌, ◌↔◌, zero, suc, IsTrue, eqb, ⊎_elim, arith, ◌∙◌}
+use Rattle.std.proofs.Common.{◌≡◌, ◌<◌, ◌≤◌, ℕ, ◌+◌, ◌-◌, ◌%◌, ◌^◌, zero, suc, eqb, ⊎_elim, arith, ◌∙◌}
 use Rattle.std.proofs.lemmas.Bool.{cases_Bool, eqb-true, eqb-false}
-use Rattle.amqp_flow.specs.Serial.{wire, distance, is_before, is_inside, AreClose, numbered}
+use Rattle.amqp_flow.specs.Serial.{wire, distance, numbered}
 
 -- # Over the wire
 
-pub wire-less : (n : ℕ) → wire n < 2 ^ 32
-wire-less n = omega arith
-
-pub wire-small : (n : ℕ) → n < 2 ^ 32 → wire n ≡ n
-wire-small n h = omega arith
-
 pub wire-wire : (n : ℕ) → wire (wire n) ≡ wire n
 wire-wire n = omega arith
-
-pub wire-sum : (m n : ℕ) → wire (wire m + n) ≡ wire (m + n)
-wire-sum m n = omega arith
-
-pub wire-sum_right : (m n : ℕ) → wire (m + wire n) ≡ wire (m + n)
-wire-sum_right m n = omega arith
 
 pub wire-more : (first n : ℕ) → wire (wire (first + n) + 1) ≡ wire (first + (n + 1))
 wire-more first n = omega arith
 
 -- # How far
 
-pub distance-less : (a b : ℕ) → distance a b < 2 ^ 32
-distance-less a b = omega arith
-
-pub distance-self : (a : ℕ) → distance a a ≡ 0
-distance-self a = omega arith
-
-pub distance-wire : (a b : ℕ) → distance (wire a) (wire b) ≡ distance a b
-distance-wire a b = omega arith
-
 pub distance-counted : (a n : ℕ) → n < 2 ^ 32 → distance a (wire (a + n)) ≡ n
 distance-counted a n h = omega arith
-
-pub wire-reached : (a b : ℕ) → wire (a + distance a b) ≡ wire b
-wire-reached a b = omega arith
-
-pub distance-zero : (a b : ℕ) → distance a b ≡ 0 → wire a ≡ wire b
-distance-zero a b h = omega arith
-
--- the later of two counts is ahead by their difference
-pub distance-ahead : (first i j : ℕ) → i ≤ j → j < i + 2 ^ 32 → distance (wire (first + i)) (wire (first + j)) ≡ j - i
-distance-ahead first i j h k = omega arith
-
--- the earlier is ahead by the rest of the circle
-pub distance-behind : (first i j : ℕ) → j < i → i < j + 2 ^ 32 → distance (wire (first + i)) (wire (first + j)) + (i - j) ≡ 2 ^ 32
-distance-behind first i j h k = omega arith
-
-pub distance-sum : (a b c : ℕ) → distance a b + distance b c < 2 ^ 32 → distance a c ≡ distance a b + distance b c
-distance-sum a b c h = omega arith
 
 -- # The number of an id
 
@@ -95,18 +57,3 @@ pub numbered-only : (first id n k : ℕ) → k ≤ n → n < k + 2 ^ 32 → wire
 numbered-only first id n k h near e =
     let far : distance id (wire (first + n)) ≡ n - k = distance-of_number first id n k h near e in
     numbered-back first id n (omega arith) ∙ back-again k n (distance id (wire (first + n))) h far
-
--- # Order
-
-pub before-counted : (first i j : ℕ) → AreClose i j → (IsTrue (is_before (wire (first + i)) (wire (first + j))) ↔ (i < j))
-before-counted first i j close = grind arith
-
-pub inside-counted : (first x i j : ℕ) → AreClose i x → AreClose x j → AreClose i j → (IsTrue (is_inside (wire (first + x)) (wire (first + i)) (wire (first + j))) ↔ ((i ≤ x) × (x ≤ j)))
-inside-counted first x i j below above close = grind arith
-
--- what comes before comes before all that comes after, within reach
-pub before-trans : (a b c : ℕ) → IsTrue (is_before a b) → IsTrue (is_before b c) → distance a b + distance b c < 2 ^ 31 → IsTrue (is_before a c)
-before-trans a b c h k near = grind arith
-
-pub before-not_after : (a b : ℕ) → IsTrue (is_before a b) → IsTrue (is_before b a) → ⊥
-before-not_after a b h k = grind arith

@@ -1,3 +1,4 @@
+//! What a flow frame says of a session and of a link (part 2, 2.7.4).
 /// What a flow says of its session (part 2, 2.7.4). Ids and windows are those of the flow's sender.
 #[derive(Clone, Copy, Debug, PartialEq, Eq)]
 pub struct SessionFlow {

@@ -1,3 +1,4 @@
+//! The credit of a receiving link (part 2, 2.6.7).
 ghost use Rattle.std.specs.Prelude.{◌≡◌, ◌<◌, true, false, Some, None, MatchResult, OnOk, OnErr};
 ghost use Rattle.amqp_flow.specs.Credit.{delivery_count, no_credit, count_given, delivery_begun};
 ghost use Rattle.amqp_flow.specs.Receiver.{has_open_drain, grant_refusal, granted, count_is_ahead, count_lead, jump, receiver_heard};
@@ -27,8 +28,8 @@ impl Model for ReceiverCredit {
 }
 
 impl ReceiverCredit {
-    /// The most credit that is granted at once.
-    pub const MAX_GRANT: u32 = 2147483647;
+    /// The most credit that is granted at once: 2147483647, one less than half of the circle of serial numbers.
+    pub const MAX_GRANT: u32 = Serial::HALF - 1;
 
     /// A link without credit, whose delivery-count begins at `count`: that of the peer's attach, 0 before it.
     pub fn new(count: u32) -> ReceiverCredit
@@ -102,7 +103,7 @@ impl ReceiverCredit {
             None => false,
             Some(count) => {
                 let lead = self.lead(count);
-                self.credit < lead && lead < 1 << 31
+                self.credit < lead && lead < Serial::HALF
             }
         }
     }

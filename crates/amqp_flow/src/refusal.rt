@@ -1,3 +1,4 @@
+//! Why a call changes nothing.
 use thiserror::Error;
 
 /// The peer's flow counts a transfer or a delivery that was not sent yet.
@@ -13,7 +14,7 @@ pub struct NoCredit;
 /// Why a credit is not granted, in the order of the checks.
 #[derive(Clone, Copy, Debug, PartialEq, Eq, Error)]
 pub enum GrantRefusal {
-    /// The credit is above 2147483647.
+    /// The credit is above [`MAX_GRANT`](crate::ReceiverCredit::MAX_GRANT).
     #[error("the credit is above 2147483647")]
     BadCredit,
     /// The credit is below the present one.

@@ -1,3 +1,4 @@
+//! The credit of a sending link (part 2, 2.6.7).
 ghost use Rattle.std.specs.Prelude.{◌≡◌, ◌<◌, true, false, MatchResult, OnOk, OnErr};
 ghost use Rattle.amqp_flow.specs.Credit.{delivery_count, no_credit, count_given, delivery_begun};
 ghost use Rattle.amqp_flow.specs.Sender.{link_lag, link_is_ahead, credit_told, sender_heard, sender_heard_early, sender_drained};
@@ -75,7 +76,7 @@ impl SenderCredit {
     pub fn is_ahead(&self, flow: &LinkFlow) -> bool
         ensures { result ≡ link_is_ahead flow.now self.now }
     {
-        self.lag(flow) >= 1 << 31
+        self.lag(flow) >= Serial::HALF
     }
 
     /// A flow is heard: link-credit is its delivery-count (our initial one, where that is absent) plus its link-credit

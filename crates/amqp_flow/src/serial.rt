@@ -1,3 +1,4 @@
+//! Serial numbers of 32 bits (part 2, 2.8.10; RFC 1982).
 ghost use Rattle.std.specs.Prelude.{◌≡◌, ◌<◌, ◌≤◌, ◌+◌, ◌-◌, ◌^◌, ◌↔◌, ◌⊎◌, ℕ, IsTrue};
 ghost use Rattle.amqp_flow.specs.Serial.{wire, distance, is_before, is_inside, AreClose, numbered};
 
@@ -19,6 +20,9 @@ impl Model for Serial {
 }
 
 impl Serial {
+    /// Half of the circle, 2^31: of two numbers so far apart neither comes before the other (RFC 1982, 3.2).
+    pub const HALF: u32 = 1 << 31;
+
     /// The number `n` steps on (RFC 1982, 3.1, which leaves it open from 2^31 on).
     pub fn plus(self, n: u32) -> Serial
         ensures { result ≡ wire (self + n) }
@@ -38,7 +42,7 @@ impl Serial {
         ensures { result ≡ is_before self other }
     {
         let ahead = self.distance(other);
-        0 < ahead && ahead < 1 << 31
+        0 < ahead && ahead < Serial::HALF
     }
 
     /// Whether this number is one of `first` to `last`, both included.
@@ -47,7 +51,7 @@ impl Serial {
         ensures { result ≡ is_inside self first last }
     {
         let length = first.distance(last);
-        first.distance(self) <= length && length < 1 << 31
+        first.distance(self) <= length && length < Serial::HALF
     }
 }
 

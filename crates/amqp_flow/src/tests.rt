@@ -1,9 +1,6 @@
-use crate::flow::{LinkFlow, SessionFlow};
-use crate::receiver::ReceiverCredit;
-use crate::refusal::{CountAhead, GrantRefusal, NoCredit};
-use crate::sender::SenderCredit;
-use crate::serial::Serial;
-use crate::windows::Windows;
+//! Worked examples of serial numbers, windows and credit.
+use super::*;
+use std::process::Abort;
 
 // RFC 1982, 5.2, whose numbers have 8 bits: here the upper ones of 32.
 #[test]
@@ -105,44 +102,67 @@ fn told(next_incoming_id: Option<u32>, incoming_window: u32) -> SessionFlow {
 }
 
 #[test]
-fn session_windows(rt: HostRuntime) {
+fn windows_begin(rt: HostRuntime) {
     let mut windows = Windows::new(4294967295, 2);
     assert_eq!(rt; windows.next_incoming(), None);
     windows.on_begin(7, 2, 100);
     assert_eq!(rt; windows.next_incoming(), Some(7));
-    assert_eq!(rt; windows.remote_outgoing(), 100);
+    assert_eq!(rt;
+        (windows.remote_incoming(), windows.remote_outgoing()),
+        (2, 100)
+    );
+    let mut early = Windows::new(5, 1);
+    early.on_early_flow(&told(Some(77), 3));
+    assert_eq!(rt; early.remote_incoming(), 3);
+}
+
+/// The windows of a session that began with the id 4294967295, after two transfers went out.
+fn after_two(rt: &impl Abort) -> Windows {
+    let mut windows = Windows::new(4294967295, 2);
+    windows.on_begin(7, 2, 100);
     for _ in 0..2 {
         assert!(rt; windows.remote_incoming() > 0);
-        assert!(rt; windows.transfers_sent() < 2147483648);
+        assert!(rt; windows.transfers_sent() < Serial::HALF);
         windows.sent();
     }
+    windows
+}
+
+#[test]
+fn transfers_go_out(rt: HostRuntime) {
+    let windows = after_two(&rt);
     assert_eq!(rt; windows.next_outgoing(), 1);
     assert_eq!(rt; windows.remote_incoming(), 0);
+}
 
-    assert_eq!(rt; windows.on_flow(&told(Some(2), 9)), Err(CountAhead));
-    assert_eq!(rt; windows.remote_incoming(), 0);
-    // one transfer is on its way
-    assert_eq!(rt; windows.on_flow(&told(Some(0), 9)), Ok(()));
-    assert_eq!(rt; windows.remote_incoming(), 8);
-    // the peer has not heard our begin: both are
-    assert_eq!(rt; windows.on_flow(&told(None, 9)), Ok(()));
-    assert_eq!(rt; windows.remote_incoming(), 7);
-    assert_eq!(rt; windows.on_flow(&told(Some(0), 0)), Ok(()));
-    assert_eq!(rt; windows.remote_incoming(), 0);
+#[test]
+fn flows_are_heard(rt: HostRuntime) {
+    for (awaited, window, answer, takes) in [
+        (Some(2), 9, Err(CountAhead), 0),
+        // one transfer is on its way
+        (Some(0), 9, Ok(()), 8),
+        // the peer has not heard our begin: both are
+        (None, 9, Ok(()), 7),
+        (Some(0), 0, Ok(()), 0),
+    ] {
+        let mut windows = after_two(&rt);
+        assert_eq!(rt; windows.on_flow(&told(awaited, window)), answer);
+        assert_eq!(rt; windows.remote_incoming(), takes);
+    }
+}
 
+#[test]
+fn transfers_are_heard(rt: HostRuntime) {
+    let mut windows = after_two(&rt);
+    windows.on_begin(4294967295, 2, 1);
     for _ in 0..2 {
         assert!(rt; windows.incoming() > 0);
         windows.received();
     }
     assert_eq!(rt; windows.next_incoming(), Some(1));
-    assert_eq!(rt; windows.incoming(), 0);
-    assert_eq!(rt; windows.remote_outgoing(), 0);
+    assert_eq!(rt; (windows.incoming(), windows.remote_outgoing()), (0, 0));
     windows.renew();
     assert_eq!(rt; windows.incoming(), 2);
-
-    let mut early = Windows::new(5, 1);
-    early.on_early_flow(&told(Some(77), 3));
-    assert_eq!(rt; early.remote_incoming(), 3);
 }
 
 fn credited(delivery_count: Option<u32>, link_credit: Option<u32>, drain: bool) -> LinkFlow {
@@ -153,66 +173,89 @@ fn credited(delivery_count: Option<u32>, link_credit: Option<u32>, drain: bool) 
     }
 }
 
-#[test]
-fn sender_credit(rt: HostRuntime) {
+/// The credit of a link whose delivery-count began at 4294967294, after three of four deliveries.
+fn after_three(rt: &impl Abort) -> SenderCredit {
     let mut credit = SenderCredit::new(4294967294);
-    assert_eq!(rt; credit.begin(), Err(NoCredit));
     assert_eq!(rt; credit.on_flow(&credited(None, Some(4), false)), Ok(()));
-    for count in [4294967295, 0, 1] {
+    for _ in 0..3 {
         assert_eq!(rt; credit.begin(), Ok(()));
-        assert_eq!(rt; credit.count(), count);
     }
-    assert_eq!(rt; credit.credit(), 1);
+    credit
+}
+
+#[test]
+fn deliveries_begin(rt: HostRuntime) {
+    assert_eq!(rt; SenderCredit::new(0).begin(), Err(NoCredit));
+    let credit = after_three(&rt);
+    assert_eq!(rt; (credit.count(), credit.credit()), (1, 1));
+}
+
+#[test]
+fn sender_hears_flows(rt: HostRuntime) {
+    let mut credit = after_three(&rt);
     // two deliveries are on their way
     assert_eq!(rt;
         credit.on_flow(&credited(Some(4294967295), Some(5), true)),
         Ok(())
     );
-    assert_eq!(rt; credit.credit(), 3);
-    assert!(rt; credit.is_draining());
+    assert_eq!(rt; (credit.credit(), credit.is_draining()), (3, true));
     assert_eq!(rt;
         credit.on_flow(&credited(Some(2), None, false)),
         Err(CountAhead)
     );
-    assert!(rt; credit.is_draining());
     credit.drain();
     assert_eq!(rt; (credit.count(), credit.credit()), (4, 0));
     assert!(rt; !credit.is_draining());
+}
 
+#[test]
+fn offered_link(rt: HostRuntime) {
     let mut offered = SenderCredit::new(0);
     offered.on_early_flow(&credited(Some(77), Some(5), false));
     offered.on_attach(4294967295);
     assert_eq!(rt; (offered.count(), offered.credit()), (4294967295, 5));
 }
 
-#[test]
-fn receiver_credit(rt: HostRuntime) {
+/// The credit of a link whose delivery-count began at 4294967295, after one of five deliveries that are to be drained.
+fn after_one(rt: &impl Abort) -> ReceiverCredit {
     let mut credit = ReceiverCredit::new(4294967295);
-    assert_eq!(rt; credit.begin(), Err(NoCredit));
+    assert_eq!(rt; credit.grant(5, true), Ok(()));
+    assert_eq!(rt; credit.begin(), Ok(()));
+    credit
+}
+
+#[test]
+fn grants(rt: HostRuntime) {
+    let mut credit = after_one(&rt);
+    assert_eq!(rt; (credit.count(), credit.credit()), (0, 4));
     assert_eq!(rt;
         credit.grant(2147483648, false),
         Err(GrantRefusal::BadCredit)
     );
-    assert_eq!(rt; credit.grant(5, true), Ok(()));
-    assert_eq!(rt; credit.grant(4, true), Err(GrantRefusal::CreditRecedes));
+    assert_eq!(rt; credit.grant(3, true), Err(GrantRefusal::CreditRecedes));
     assert_eq!(rt; credit.grant(6, false), Err(GrantRefusal::Draining));
-    assert_eq!(rt; credit.begin(), Ok(()));
-    assert_eq!(rt; (credit.count(), credit.credit()), (0, 4));
+    assert_eq!(rt; ReceiverCredit::new(0).begin(), Err(NoCredit));
+}
+
+#[test]
+fn receiver_hears_flows(rt: HostRuntime) {
     // older, absent, past the credit, and within it
-    assert_eq!(rt;
-        credit.on_flow(&credited(Some(4294967295), None, false)),
-        Ok(())
-    );
-    assert_eq!(rt; credit.on_flow(&credited(None, None, false)), Ok(()));
-    assert_eq!(rt;
-        credit.on_flow(&credited(Some(5), None, false)),
-        Err(CountAhead)
-    );
-    assert_eq!(rt; (credit.count(), credit.credit()), (0, 4));
-    assert_eq!(rt; credit.on_flow(&credited(Some(4), None, false)), Ok(()));
-    assert_eq!(rt; (credit.count(), credit.credit()), (4, 0));
-    assert!(rt; !credit.is_draining());
+    for (told, answer, count, left) in [
+        (Some(4294967295), Ok(()), 0, 4),
+        (None, Ok(()), 0, 4),
+        (Some(5), Err(CountAhead), 0, 4),
+        (Some(4), Ok(()), 4, 0),
+    ] {
+        let mut credit = after_one(&rt);
+        assert_eq!(rt; credit.on_flow(&credited(told, None, false)), answer);
+        assert_eq!(rt; (credit.count(), credit.credit()), (count, left));
+    }
+}
+
+#[test]
+fn heard_attach(rt: HostRuntime) {
+    let mut credit = ReceiverCredit::new(0);
     assert_eq!(rt; credit.grant(1, false), Ok(()));
     credit.on_attach(9);
-    assert_eq!(rt; credit.first_count(), 9);
+    assert_eq!(rt; (credit.first_count(), credit.credit()), (9, 1));
 }

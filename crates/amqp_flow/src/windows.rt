@@ -1,3 +1,4 @@
+//! The windows of a session (part 2, 2.5.6).
 ghost use Rattle.std.specs.Prelude.{◌≡◌, ◌<◌, ◌+◌, ◌-◌, ◌^◌, true, false, MatchResult, OnOk, OnErr};
 ghost use Rattle.amqp_flow.specs.Windows.{
   next_outgoing,

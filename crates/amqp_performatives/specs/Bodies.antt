@@ -1,9 +1,9 @@
 -- The composite types: each by its descriptor and its fields in order (part 2, 2.7 and 2.8.14; part 3, 3.4).
-use Rattle.std.specs.Prelude.{ℕ, Bool, true, false, Option, Some, None, List, if◌then◌else◌, codes}
+use Rattle.std.specs.Prelude.{ℕ, Bool, true, false, Option, Some, None, List, if◌then◌else◌}
 use Rattle.amqp_types.specs.declared.class.Kind.TheVariants as Kind
 use Rattle.amqp_types.specs.declared.class.Run.TheVariants as Run
 use Rattle.amqp_types.specs.declared.value.Value.{Value}
-use Rattle.amqp_types.specs.Datum.{Datum, number, octets, map}
+use Rattle.amqp_types.specs.Datum.{number, octets, map}
 use Rattle.amqp_types.specs.View.{view, views_of_pairs}
 use Rattle.amqp_performatives.specs.declared.bodies.Role.{Role}
 use Rattle.amqp_performatives.specs.declared.bodies.Role.TheVariants.{Sender, Receiver}
@@ -21,6 +21,8 @@ use Rattle.amqp_performatives.specs.declared.state.DeliveryState.{DeliveryState}
 use Rattle.amqp_performatives.specs.declared.state.DeliveryState.TheVariants.{Received, Accepted, Rejected, Released, Modified, Other}
 use Rattle.amqp_performatives.specs.declared.performative.Performative.{Performative}
 use Rattle.amqp_performatives.specs.declared.performative.Performative.TheVariants.{Open, Begin, Attach, Flow, Transfer, Disposition, Detach, End, Close}
+use Rattle.amqp_performatives.specs.declared.composite.Composite.TheVariants as Composite
+use Rattle.amqp_performatives.specs.Composite.{type_of}
 use Rattle.amqp_performatives.specs.Part.{Part, Fields, absent, value, composite, no_field, field}
 
 -- the types that fields have
@@ -70,22 +72,22 @@ p ▸ fs = field p fs
 
 -- the number and the name of a descriptor
 abbrev pub error_type : ℕ × List ℕ
-error_type = (0x1d, codes "amqp:error:list")
+error_type = type_of Composite.Error
 
 abbrev pub received_type : ℕ × List ℕ
-received_type = (0x23, codes "amqp:received:list")
+received_type = type_of Composite.Received
 
 abbrev pub accepted_type : ℕ × List ℕ
-accepted_type = (0x24, codes "amqp:accepted:list")
+accepted_type = type_of Composite.Accepted
 
 abbrev pub rejected_type : ℕ × List ℕ
-rejected_type = (0x25, codes "amqp:rejected:list")
+rejected_type = type_of Composite.Rejected
 
 abbrev pub released_type : ℕ × List ℕ
-released_type = (0x26, codes "amqp:released:list")
+released_type = type_of Composite.Released
 
 abbrev pub modified_type : ℕ × List ℕ
-modified_type = (0x27, codes "amqp:modified:list")
+modified_type = type_of Composite.Modified
 
 abbrev pub error : AmqpError → Part
 error e = composite error_type (symbol e.condition ▸ optional string e.description ▸ optional any e.info ▸ no_field)
@@ -206,15 +208,15 @@ fields_of (Close b) = close_fields b
 
 -- the number and the name of its descriptor
 abbrev pub descriptor_of : Performative → ℕ × List ℕ
-descriptor_of (Open b) = (0x10, codes "amqp:open:list")
-descriptor_of (Begin b) = (0x11, codes "amqp:begin:list")
-descriptor_of (Attach b) = (0x12, codes "amqp:attach:list")
-descriptor_of (Flow b) = (0x13, codes "amqp:flow:list")
-descriptor_of (Transfer b) = (0x14, codes "amqp:transfer:list")
-descriptor_of (Disposition b) = (0x15, codes "amqp:disposition:list")
-descriptor_of (Detach b) = (0x16, codes "amqp:detach:list")
-descriptor_of (End b) = (0x17, codes "amqp:end:list")
-descriptor_of (Close b) = (0x18, codes "amqp:close:list")
+descriptor_of (Open b) = type_of Composite.Open
+descriptor_of (Begin b) = type_of Composite.Begin
+descriptor_of (Attach b) = type_of Composite.Attach
+descriptor_of (Flow b) = type_of Composite.Flow
+descriptor_of (Transfer b) = type_of Composite.Transfer
+descriptor_of (Disposition b) = type_of Composite.Disposition
+descriptor_of (Detach b) = type_of Composite.Detach
+descriptor_of (End b) = type_of Composite.End
+descriptor_of (Close b) = type_of Composite.Close
 
 abbrev pub part_of : Performative → Part
 part_of p = composite (descriptor_of p) (fields_of p)

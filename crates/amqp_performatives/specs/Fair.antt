@@ -6,7 +6,7 @@ use Rattle.std.specs.Str.{bytes_eq}
 use Rattle.amqp_types.specs.declared.class.Kind.TheVariants as Kind
 use Rattle.amqp_types.specs.declared.class.Run.TheVariants as Run
 use Rattle.amqp_types.specs.declared.value.Value.{Value}
-use Rattle.amqp_types.specs.Datum.{Datum, number, octets, list, map, array, described}
+use Rattle.amqp_types.specs.Datum.{Datum, number, octets, described}
 use Rattle.amqp_types.specs.View.{view}
 use Rattle.amqp_performatives.specs.declared.bodies.OpenBody.{OpenBody}
 use Rattle.amqp_performatives.specs.declared.bodies.BeginBody.{BeginBody}

@@ -1,5 +1,5 @@
 -- The fields of a composite, one after the other, as a writer goes over them.
-use Rattle.std.specs.Prelude.{ℕ, Bool, true, false, List, [], ◌∷◌}
+use Rattle.std.specs.Prelude.{Bool, true, false, List, [], ◌∷◌}
 use Rattle.amqp_types.specs.Datum.{Data}
 use Rattle.amqp_performatives.specs.declared.field.Field.{Field}
 use Rattle.amqp_performatives.specs.declared.field.Field.TheVariants as field

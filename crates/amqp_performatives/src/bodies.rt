@@ -1,6 +1,6 @@
-//! The fields of the nine performatives (part 2, 2.7), in their order. A field that is not mandatory is an option; a default is not filled in.
-//! Values of any type and errors, which few frames have, stand behind a pointer, so that a frame is narrow where it is moved.
+//! The bodies of the nine performatives (part 2, 2.7): their fields in order, an option where a field is not mandatory; no default is filled in.
 ghost use Rattle.std.specs.Prelude.{◌≡◌};
+ghost use Rattle.amqp_performatives.specs.Bare.{bare_open, bare_begin, bare_attach, bare_flow, bare_transfer, bare_disposition, bare_detach, bare_end, bare_close};
 
 use crate::copying::{copy_error, copy_pairs, copy_state, copy_text, copy_value};
 use crate::error::AmqpError;
@@ -16,7 +16,7 @@ pub enum Role {
 }
 
 /// Open (part 2, 2.7.1).
-#[derive(Debug, Drop)]
+#[derive(Debug, PartialEq, Eq, Drop)]
 pub struct OpenBody {
     pub container_id: Text,
     pub hostname: Option<Text>,
@@ -31,6 +31,26 @@ pub struct OpenBody {
     pub offered_capabilities: Option<Boxed<Value>>,
     pub desired_capabilities: Option<Boxed<Value>>,
     pub properties: Option<Boxed<Value>>,
+}
+
+impl OpenBody {
+    /// An open of the container, without options.
+    pub fn new(container_id: Text) -> OpenBody
+        ensures { result ≡ bare_open container_id }
+    {
+        OpenBody {
+            container_id,
+            hostname: None,
+            max_frame_size: None,
+            channel_max: None,
+            idle_time_out: None,
+            outgoing_locales: None,
+            incoming_locales: None,
+            offered_capabilities: None,
+            desired_capabilities: None,
+            properties: None,
+        }
+    }
 }
 
 impl Clone for OpenBody {
@@ -60,7 +80,7 @@ impl Clone for OpenBody {
 }
 
 /// Begin (part 2, 2.7.2).
-#[derive(Debug, Drop)]
+#[derive(Debug, PartialEq, Eq, Drop)]
 pub struct BeginBody {
     pub remote_channel: Option<u16>,
     pub next_outgoing_id: u32,
@@ -73,6 +93,24 @@ pub struct BeginBody {
     pub offered_capabilities: Option<Boxed<Value>>,
     pub desired_capabilities: Option<Boxed<Value>>,
     pub properties: Option<Boxed<Value>>,
+}
+
+impl BeginBody {
+    /// A begin of a session that we open: no remote channel, and no options.
+    pub fn new(next_outgoing_id: u32, incoming_window: u32, outgoing_window: u32) -> BeginBody
+        ensures { result ≡ bare_begin next_outgoing_id incoming_window outgoing_window }
+    {
+        BeginBody {
+            remote_channel: None,
+            next_outgoing_id,
+            incoming_window,
+            outgoing_window,
+            handle_max: None,
+            offered_capabilities: None,
+            desired_capabilities: None,
+            properties: None,
+        }
+    }
 }
 
 impl Clone for BeginBody {
@@ -96,7 +134,7 @@ impl Clone for BeginBody {
 }
 
 /// Attach (part 2, 2.7.3).
-#[derive(Debug, Drop)]
+#[derive(Debug, PartialEq, Eq, Drop)]
 pub struct AttachBody {
     pub name: Text,
     pub handle: u32,
@@ -118,6 +156,30 @@ pub struct AttachBody {
     pub offered_capabilities: Option<Boxed<Value>>,
     pub desired_capabilities: Option<Boxed<Value>>,
     pub properties: Option<Boxed<Value>>,
+}
+
+impl AttachBody {
+    /// An attach without options: neither terminus, and for a sender no initial delivery-count.
+    pub fn new(name: Text, handle: u32, role: Role) -> AttachBody
+        ensures { result ≡ bare_attach name handle role }
+    {
+        AttachBody {
+            name,
+            handle,
+            role,
+            snd_settle_mode: None,
+            rcv_settle_mode: None,
+            source: None,
+            target: None,
+            unsettled: None,
+            incomplete_unsettled: None,
+            initial_delivery_count: None,
+            max_message_size: None,
+            offered_capabilities: None,
+            desired_capabilities: None,
+            properties: None,
+        }
+    }
 }
 
 impl Clone for AttachBody {
@@ -151,7 +213,7 @@ impl Clone for AttachBody {
 }
 
 /// Flow (part 2, 2.7.4). Without a handle it speaks of the session alone.
-#[derive(Debug, Drop)]
+#[derive(Debug, PartialEq, Eq, Drop)]
 pub struct FlowBody {
     pub next_incoming_id: Option<u32>,
     /// In transfers.
@@ -170,6 +232,27 @@ pub struct FlowBody {
     /// False where absent.
     pub echo: Option<bool>,
     pub properties: Option<Boxed<Value>>,
+}
+
+impl FlowBody {
+    /// A flow of the session alone, which awaits no transfer by its id.
+    pub fn new(incoming_window: u32, next_outgoing_id: u32, outgoing_window: u32) -> FlowBody
+        ensures { result ≡ bare_flow incoming_window next_outgoing_id outgoing_window }
+    {
+        FlowBody {
+            next_incoming_id: None,
+            incoming_window,
+            next_outgoing_id,
+            outgoing_window,
+            handle: None,
+            delivery_count: None,
+            link_credit: None,
+            available: None,
+            drain: None,
+            echo: None,
+            properties: None,
+        }
+    }
 }
 
 impl Clone for FlowBody {
@@ -194,7 +277,7 @@ impl Clone for FlowBody {
 }
 
 /// Transfer (part 2, 2.7.5); its payload is the frame's.
-#[derive(Debug, Drop)]
+#[derive(Debug, PartialEq, Eq, Drop)]
 pub struct TransferBody {
     pub handle: u32,
     pub delivery_id: Option<u32>,
@@ -212,6 +295,27 @@ pub struct TransferBody {
     pub aborted: Option<bool>,
     /// False where absent.
     pub batchable: Option<bool>,
+}
+
+impl TransferBody {
+    /// A transfer on the link without options.
+    pub fn new(handle: u32) -> TransferBody
+        ensures { result ≡ bare_transfer handle }
+    {
+        TransferBody {
+            handle,
+            delivery_id: None,
+            delivery_tag: None,
+            message_format: None,
+            settled: None,
+            more: None,
+            rcv_settle_mode: None,
+            state: None,
+            resume: None,
+            aborted: None,
+            batchable: None,
+        }
+    }
 }
 
 impl Clone for TransferBody {
@@ -236,7 +340,7 @@ impl Clone for TransferBody {
 }
 
 /// Disposition (part 2, 2.7.6), of the deliveries from `first` to `last`; of `first` alone where `last` is absent.
-#[derive(Debug, Drop)]
+#[derive(Debug, PartialEq, Eq, Drop)]
 pub struct DispositionBody {
     pub role: Role,
     pub first: u32,
@@ -246,6 +350,22 @@ pub struct DispositionBody {
     pub state: Option<DeliveryState>,
     /// False where absent.
     pub batchable: Option<bool>,
+}
+
+impl DispositionBody {
+    /// A disposition of one delivery, without a state.
+    pub fn new(role: Role, first: u32) -> DispositionBody
+        ensures { result ≡ bare_disposition role first }
+    {
+        DispositionBody {
+            role,
+            first,
+            last: None,
+            settled: None,
+            state: None,
+            batchable: None,
+        }
+    }
 }
 
 impl Clone for DispositionBody {
@@ -265,12 +385,25 @@ impl Clone for DispositionBody {
 }
 
 /// Detach (part 2, 2.7.7).
-#[derive(Debug, Drop)]
+#[derive(Debug, PartialEq, Eq, Drop)]
 pub struct DetachBody {
     pub handle: u32,
     /// False where absent.
     pub closed: Option<bool>,
     pub error: Option<Boxed<AmqpError>>,
+}
+
+impl DetachBody {
+    /// A detach that does not close the link, without an error.
+    pub fn new(handle: u32) -> DetachBody
+        ensures { result ≡ bare_detach handle }
+    {
+        DetachBody {
+            handle,
+            closed: None,
+            error: None,
+        }
+    }
 }
 
 impl Clone for DetachBody {
@@ -287,9 +420,18 @@ impl Clone for DetachBody {
 }
 
 /// End (part 2, 2.7.8).
-#[derive(Debug, Drop)]
+#[derive(Debug, PartialEq, Eq, Drop)]
 pub struct EndBody {
     pub error: Option<Boxed<AmqpError>>,
+}
+
+impl EndBody {
+    /// An end without an error.
+    pub fn new() -> EndBody
+        ensures { result ≡ bare_end }
+    {
+        EndBody { error: None }
+    }
 }
 
 impl Clone for EndBody {
@@ -302,9 +444,18 @@ impl Clone for EndBody {
 }
 
 /// Close (part 2, 2.7.9).
-#[derive(Debug, Drop)]
+#[derive(Debug, PartialEq, Eq, Drop)]
 pub struct CloseBody {
     pub error: Option<Boxed<AmqpError>>,
+}
+
+impl CloseBody {
+    /// A close without an error.
+    pub fn new() -> CloseBody
+        ensures { result ≡ bare_close }
+    {
+        CloseBody { error: None }
+    }
 }
 
 impl Clone for CloseBody {

@@ -1,4 +1,4 @@
-//! Copies of optional parts: a copy is equal, or memory was refused.
+//! Copies of optional parts: a copy is equal, or memory ran out.
 ghost use Rattle.std.specs.Prelude.{◌≡◌, IfOk};
 
 use crate::error::AmqpError;

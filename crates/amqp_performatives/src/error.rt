@@ -1,3 +1,4 @@
+//! An error, as a peer is told it (part 2, 2.8.14).
 ghost use Rattle.std.specs.Prelude.{◌≡◌};
 
 use crate::copying::{copy_text, copy_value};
@@ -5,7 +6,7 @@ use amqp_types::{Boxed, Text, Value};
 use std::alloc::AllocError;
 
 /// What went wrong, as a peer is told (part 2, 2.8.14).
-#[derive(Debug, Drop)]
+#[derive(Debug, PartialEq, Eq, Drop)]
 pub struct AmqpError {
     /// A symbol, as `amqp:not-allowed`.
     pub condition: Text,

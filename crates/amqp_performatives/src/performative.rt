@@ -1,3 +1,4 @@
+//! The nine performatives (part 2, 2.7).
 ghost use Rattle.std.specs.Prelude.{◌≡◌};
 
 use crate::bodies::{
@@ -9,7 +10,7 @@ use std::alloc::AllocError;
 
 /// What a frame says (part 2, 2.7). The three bodies that come once for a connection, a session or a link stand behind a pointer, so that the
 /// others, which come with each delivery, are narrow.
-#[derive(Debug, Drop)]
+#[derive(Debug, PartialEq, Eq, Drop)]
 pub enum Performative {
     Open(Boxed<OpenBody>),
     Begin(Boxed<BeginBody>),

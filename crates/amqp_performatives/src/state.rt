@@ -1,4 +1,6 @@
+//! Delivery states (part 3, 3.4).
 ghost use Rattle.std.specs.Prelude.{◌≡◌};
+ghost use Rattle.amqp_performatives.specs.Outcome.{is_outcome};
 
 use crate::copying::{copy_error, copy_value};
 use crate::error::AmqpError;
@@ -6,7 +8,7 @@ use amqp_types::{Boxed, Value};
 use std::alloc::AllocError;
 
 /// The state of a delivery at one end (part 3, 3.4). All but `Received` and `Other` are outcomes.
-#[derive(Debug, Drop)]
+#[derive(Debug, PartialEq, Eq, Drop)]
 pub enum DeliveryState {
     Received {
         section_number: u32,
@@ -49,6 +51,19 @@ impl Clone for DeliveryState {
                 message_annotations: copy_value(message_annotations)?,
             }),
             DeliveryState::Other(value) => Ok(DeliveryState::Other(value.clone()?)),
+        }
+    }
+}
+
+impl DeliveryState {
+    /// Whether it is an outcome: a state that does not change any more (part 3, 3.4).
+    pub fn is_outcome(&self) -> bool
+        ensures { result ≡ is_outcome self.now }
+    {
+        match self {
+            DeliveryState::Received { .. } => false,
+            DeliveryState::Other(_) => false,
+            _ => true,
         }
     }
 }

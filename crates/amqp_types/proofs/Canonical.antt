@@ -6,7 +6,7 @@ use Rattle.std.proofs.lemmas.Nat.{from_be_bytes-to_be_bytes_4, from_be_bytes-to_
 use Rattle.amqp_types.specs.declared.class.Class.{Class}
 use Rattle.amqp_types.specs.declared.class.Kind.{Kind}
 use Rattle.amqp_types.specs.declared.class.Run.{Run}
-use Rattle.amqp_types.specs.declared.class.Reading.{Reading}
+use Rattle.amqp_types.specs.declared.class.Conversion.{Conversion}
 use Rattle.amqp_types.specs.declared.class.Width.{Width}
 use Rattle.std.proofs.lemmas.List.{append-nil}
 use Rattle.amqp_types.specs.Codes.{class_of, octets_in, kind_index, run_index}
@@ -110,13 +110,13 @@ widened_is low n m wide e =
           rw test (omega (arith, g.1))
     ]
 
-unread_is : (r : Reading) (n m : ℕ) → unread_number r n ≡ Some m → read_number r m ≡ n
-unread_is Reading.Plain n m e = sym (some_is n m e)
-unread_is Reading.One n m e =
+unread_is : (r : Conversion) (n m : ℕ) → unread_number r n ≡ Some m → read_number r m ≡ n
+unread_is Conversion.Plain n m e = sym (some_is n m e)
+unread_is Conversion.One n m e =
     let g = guard_some (eqb n 1) (Some 0) m e in
     omega (arith, eqb-true _ _ g.0, some_is 0 m g.1)
-unread_is Reading.Widened32 n m e = widened_is (2 ^ 32 - 128) n m (omega arith) e
-unread_is Reading.Widened64 n m e = widened_is (2 ^ 64 - 128) n m (omega arith) e
+unread_is Conversion.Widened32 n m e = widened_is (2 ^ 32 - 128) n m (omega arith) e
+unread_is Conversion.Widened64 n m e = widened_is (2 ^ 64 - 128) n m (omega arith) e
 
 number_form_is : (class : Class) (k : Kind) (n : ℕ) (b : List ℕ) → number_form class k n ≡ Some b → IsNumberBody class k n b
 number_form_is (Class.Number k' w r) k n b e =

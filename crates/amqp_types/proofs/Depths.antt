@@ -1,8 +1,7 @@
 -- How deep parts are, as a loop looks at them one after the other.
-use Rattle.std.proofs.Common.{◌≡◌, ℕ, zero, suc, ◌≤◌, ◌<◌, List, [], ◌∷◌, length, get_or, drop, ap, arith}
-use Rattle.std.proofs.lemmas.List.{drop_all}
+use Rattle.std.proofs.Common.{◌≡◌, ℕ, zero, suc, ◌≤◌, ◌<◌, List, [], ◌∷◌, length, get_or, ap, arith}
 use Rattle.amqp_types.specs.declared.value.Value.{Value}
-use Rattle.amqp_types.specs.Datum.{Datum, Data, none, item, depth_of, greatest_depth_of}
+use Rattle.amqp_types.specs.Datum.{Datum, Data, item, depth_of, greatest_depth_of}
 use Rattle.amqp_types.specs.View.{view, views, views_of_pairs}
 
 -- both are within the depth or neither is
@@ -14,12 +13,6 @@ past_part d v vs all h s = (λ p. s.0 (omega (arith, h, p)), λ p. omega (arith,
 
 pub deep_part : (d : ℕ) (v : Datum) (vs all : Data) → (depth_of v ≤ d → ⊥) → SameWithin d (item v vs) all → greatest_depth_of all ≤ d → ⊥
 deep_part d v vs all h s p = h (omega (arith, s.1 p))
-
-pub no_part : (d : ℕ) (vs : List Value) (i : ℕ) (all : Data) → length vs ≤ i → SameWithin d (views (drop i vs)) all → greatest_depth_of all ≤ d
-no_part d vs i all h s = let e : views (drop i vs) ≡ none = ap views (drop_all i vs h) in s.0 (rw e (omega arith))
-
-pub no_pair : (d : ℕ) (ps : List (Value × Value)) (i : ℕ) (all : Data) → length ps ≤ i → SameWithin d (views_of_pairs (drop i ps)) all → greatest_depth_of all ≤ d
-no_pair d ps i all h s = let e : views_of_pairs (drop i ps) ≡ none = ap views_of_pairs (drop_all i ps h) in s.0 (rw e (omega arith))
 
 pub shifted : (n d g : ℕ) → n ≡ suc d → (P : Type 0) → (P → g ≤ d) × (g ≤ d → P) → (P → suc g ≤ n) × (suc g ≤ n → P)
 shifted n d g e P h = (λ p. omega (arith, h.0 p), λ q. h.1 (omega (arith, q)))

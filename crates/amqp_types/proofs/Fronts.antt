@@ -9,7 +9,7 @@ use Rattle.std.proofs.Math.Nat.{pow-suc, mul-le-mul_right}
 use Rattle.amqp_types.specs.declared.class.Class.{Class}
 use Rattle.amqp_types.specs.declared.class.Kind.{Kind}
 use Rattle.amqp_types.specs.declared.class.Run.{Run}
-use Rattle.amqp_types.specs.declared.class.Reading.{Reading}
+use Rattle.amqp_types.specs.declared.class.Conversion.{Conversion}
 use Rattle.amqp_types.specs.declared.class.Width.{Width}
 use Rattle.amqp_types.specs.Codes.{table, class_in, class_of, octets_in, kind_index, run_index, codes_in, of_run, HasCodes}
 use Rattle.amqp_types.specs.Datum.{number, octets}
@@ -74,18 +74,18 @@ pub read_front : (n c : ℕ) (os bytes : List ℕ) → IsFirstAndRest bytes c os
 unfolding body_at
 read_front n c os bytes first = rw first.0 refl
 
-read_number_front : (k : Kind) (w : Width) (r : Reading) (c code : ℕ) (os bytes : List ℕ) → IsFirstAndRest bytes c os → c ≡ code → class_of code ≡ Class.Number k w r → part_at 32 None bytes ≡ number_at k w r os
+read_number_front : (k : Kind) (w : Width) (r : Conversion) (c code : ℕ) (os bytes : List ℕ) → IsFirstAndRest bytes c os → c ≡ code → class_of code ≡ Class.Number k w r → part_at 32 None bytes ≡ number_at k w r os
 read_number_front k w r c code os bytes first e is = read_front 31 c os bytes first ∙ rw (e, is) refl
 
 -- a code of the type, and too few octets
-pub front_short : (k : Kind) (w : Width) (r : Reading) (c code : ℕ) (os bytes : List ℕ) → IsFirstAndRest bytes c os → c ≡ code → class_of code ≡ Class.Number k w r → None ≡ field_at w os
+pub front_short : (k : Kind) (w : Width) (r : Conversion) (c code : ℕ) (os bytes : List ℕ) → IsFirstAndRest bytes c os → c ≡ code → class_of code ≡ Class.Number k w r → None ≡ field_at w os
     → (n : ℕ) (x rest : List ℕ) → Spells (number k n) x → bytes ≡ x ++ rest → ⊥
 unfolding number_at
 front_short k w r c code os bytes first e is short n x rest h parts =
     nothing_read 32 bytes (read_number_front k w r c code os bytes first e is ∙ rw (← short) refl) (number k n) x rest h parts
 
 -- a code of the type, and a number that it does not have
-pub front_unfit : (k : Kind) (w : Width) (r : Reading) (c code : ℕ) (os bytes : List ℕ) → IsFirstAndRest bytes c os → c ≡ code → class_of code ≡ Class.Number k w r
+pub front_unfit : (k : Kind) (w : Width) (r : Conversion) (c code : ℕ) (os bytes : List ℕ) → IsFirstAndRest bytes c os → c ≡ code → class_of code ≡ Class.Number k w r
     → (m : ℕ) (after : List ℕ) → Some (m, after) ≡ field_at w os → fits k (read_number r m) ≡ false → (n : ℕ) (x rest : List ℕ) → Spells (number k n) x → bytes ≡ x ++ rest → ⊥
 unfolding number_at
 front_unfit k w r c code os bytes first e is m after there unfit n x rest h parts =
@@ -116,7 +116,7 @@ front_bound w os m after small there =
     omega (arith, b, len, same)
 
 -- a number
-pub front_found : (k : Kind) (w : Width) (r : Reading) (c code : ℕ) (os bytes : List ℕ) → IsFirstAndRest bytes c os → c ≡ code → class_of code ≡ Class.Number k w r
+pub front_found : (k : Kind) (w : Width) (r : Conversion) (c code : ℕ) (os bytes : List ℕ) → IsFirstAndRest bytes c os → c ≡ code → class_of code ≡ Class.Number k w r
     → ((i : ℕ) → get_or bytes i 0 < 256) → (m : ℕ) (after : List ℕ) → Some (m, after) ≡ field_at w os → (n : ℕ) → read_number r m ≡ n → (m < 256 ^ octets_in w → fits k n ≡ true)
     → (suc (octets_in w) ≤ length bytes) × Spells (number k n) (take (suc (octets_in w)) bytes)
 unfolding number_at
@@ -128,10 +128,6 @@ front_found k w r c code os bytes first e is small m after there n m_is fit_of =
     let len : length os ≡ octets_in w + length after = ap length f.parts ∙ length-append f.head after ∙ ap (λ (i : ℕ). i + length after) f.field_is.0 in
     let used : length bytes - length after ≡ suc (octets_in w) = omega (arith, first.1, len) in
     (omega (arith, first.1, len), subst (λ (i : ℕ). Spells (number k n) (take i bytes)) used (spelling_taken 32 bytes (number k n) after read))
-
--- a code that is none of these
-pub no_codes : (c : ℕ) → is_code [] c ≡ false
-no_codes c = refl
 
 pub not_code : (c code : ℕ) (codes : List ℕ) → (c ≡ code → ⊥) → is_code codes c ≡ false → is_code (code ∷ codes) c ≡ false
 not_code c code codes apart others = rw (ne_eqb c code apart) others

@@ -1,20 +1,18 @@
 -- The two laws: what is read is spelled so, and what is spelled so is read.
 use Rattle.std.proofs.Common.{◌≡◌, ℕ, zero, suc, ◌-◌, ◌≤◌, cond, eqb, List, [], ◌∷◌, ◌++◌, length, take, Option, Some, None, refl, sym, ap, subst, ◌∙◌, append_assoc, arith}
-use Rattle.std.specs.Prelude.{IsTrue, Result, Err}
+use Rattle.std.specs.Prelude.{IsTrue}
 use Rattle.std.proofs.lemmas.Bool.{eqb-true}
 use Rattle.std.proofs.lemmas.Option.{some_pair_parts}
 use Rattle.std.proofs.lemmas.List.{append-nil, nil_from_length, length-append, take_at}
 use Rattle.amqp_types.specs.declared.class.Class.{Class}
 use Rattle.amqp_types.specs.declared.class.Kind.{Kind}
 use Rattle.amqp_types.specs.declared.class.Run.{Run}
-use Rattle.amqp_types.specs.declared.class.Reading.{Reading}
+use Rattle.amqp_types.specs.declared.class.Conversion.{Conversion}
 use Rattle.amqp_types.specs.declared.class.Width.{Width}
-use Rattle.amqp_types.specs.declared.fault.ReadFault.{ReadFault}
-use Rattle.amqp_types.specs.declared.fault.ReadFault.TheVariants as fault
 use Rattle.amqp_types.specs.Codes.{class_of}
 use Rattle.amqp_types.specs.Datum.{Datum, number, octets, list, map, array, described, Data, none, item, count_of, depth_of, greatest_depth_of}
 use Rattle.amqp_types.specs.Grammar.{number_of, read_number, fits, is_run, is_even, is_element, IsNumberBody, IsOctetsBody, IsListBody, IsMapBody, IsArrayContent, IsArrayBody, IsDescribedBody, IsPart, IsBody, AreParts, SpellsWithin, Spells}
-use Rattle.amqp_types.specs.Reading.{◌>>=◌, Fails, split, field_at, frame_at, number_at, run_at, octets_at, parts_at, all_parts_at, list_at, map_at, array_content_at, array_at, described_at, body_by, body_at, part_at, PartReader}
+use Rattle.amqp_types.specs.Reading.{◌>>=◌, split, field_at, frame_at, number_at, run_at, octets_at, parts_at, all_parts_at, list_at, map_at, array_content_at, array_at, described_at, body_by, body_at, part_at, PartReader}
 use Rattle.amqp_types.proofs.Frames.{bind_some, guard_some, some_is, split_takes, split_again, field_takes, field_again, frame_takes, frame_again}
 
 -- ---- what is spelled so is read
@@ -179,7 +177,7 @@ all_take n sound how count os vs e =
     let whole : os ≡ t.text = t.parts ∙ ap (λ (y : List ℕ). t.text ++ y) nothing ∙ append-nil t.text in
     subst (λ (ws : Data). IsAllParts n how count ws os) (some_is a.0.0 vs g.1) (record { are = subst (λ (y : List ℕ). AreParts a.0.0 how y) (sym whole) t.are; depth = t.depth; counted = t.counted })
 
-number_takes : (n c : ℕ) (k : Kind) (w : Width) (r : Reading) → class_of c ≡ Class.Number k w r → (os : List ℕ) (x : Datum × List ℕ) → number_at k w r os ≡ Some x → TakesBody (suc n) c x.0 os x.1
+number_takes : (n c : ℕ) (k : Kind) (w : Width) (r : Conversion) → class_of c ≡ Class.Number k w r → (os : List ℕ) (x : Datum × List ℕ) → number_at k w r os ≡ Some x → TakesBody (suc n) c x.0 os x.1
 unfolding number_at
 number_takes n c k w r is os x e =
     let a = bind_some (field_at w os) (λ m. cond (fits k (read_number r m.0)) (Some (number k (read_number r m.0), m.1)) None) x e in
@@ -348,7 +346,3 @@ pub one_spelling : (v w : Datum) (a b x y : List ℕ) → Spells v a → Spells 
 one_spelling v w a b x y h k e =
     let s = same_read v w x y (sym (spelled_is_read 32 v a x h) ∙ ap (part_at 32 None) e ∙ spelled_is_read 32 w b y k) in
     (s.0, append_same a b x (e ∙ ap (λ (t : List ℕ). b ++ t) (sym s.1)))
-
-pub no_value : {X Y : Type 0} (r : Result X ReadFault) (e d : ReadFault) (o : Option Y) → r ≡ Err e → e ≡ d → Fails d o → r ≡ Err fault.NoValue → o ≡ None
-no_value r e fault.NoValue o p q f h = f
-no_value r e fault.NoMemory o p q f h = absurd cc

@@ -19,5 +19,4 @@ pub mod Depths
 pub mod Lengths
 pub mod Spelled
 pub mod Typed
-pub mod Fronted
 pub mod Shortest

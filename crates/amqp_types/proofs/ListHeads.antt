@@ -7,7 +7,7 @@ use Rattle.std.proofs.lemmas.List.{length-append, take_at, drop_at}
 use Rattle.amqp_types.specs.declared.class.Class.{Class}
 use Rattle.amqp_types.specs.declared.class.Width.{Width}
 use Rattle.amqp_types.specs.Codes.{table, class_of, codes_in}
-use Rattle.amqp_types.specs.Datum.{Datum, list, described, Data, none, item, count_of, greatest_depth_of}
+use Rattle.amqp_types.specs.Datum.{Datum, list, described, Data, none, item, count_of}
 use Rattle.amqp_types.specs.Grammar.{IsListBody, IsFramed, AreParts, SpellsWithin, IsListWith}
 use Rattle.amqp_types.specs.Heads.{IsListHead, HasNoList}
 use Rattle.amqp_types.specs.Reading.{frame_at}
@@ -34,12 +34,13 @@ head_found c w body bytes first is count start end content after framed end_is s
       omega arith,
       omega arith,
       subst (λ (x : List ℕ). IsListWith count (drop start x) x) (sym front) (rw is (content, sym items, f.framed)),
+      (λ e. omega (arith, e, len, start_is, ap length f.framed.parts, length-append f.framed.size_field (f.framed.count_field ++ content), length-append f.framed.count_field content)),
     )
 
 pub empty_head : (c : ℕ) (body bytes : List ℕ) → IsFirstAndRest bytes c body → class_of c ≡ Class.EmptyList → IsListHead bytes 0 1 1
 empty_head c body bytes first is =
     let front : take 1 bytes ≡ c ∷ [] = ap (take 1) first.0 in
-    (omega arith, omega (arith, first.1), subst (λ (x : List ℕ). IsListWith 0 (drop 1 x) x) (sym front) (rw is (refl, refl)))
+    (omega arith, omega (arith, first.1), subst (λ (x : List ℕ). IsListWith 0 (drop 1 x) x) (sym front) (rw is (refl, refl)), (λ e. refl))
 
 -- ---- no list's head
 
@@ -74,25 +75,11 @@ no_list_frame c w body bytes first is missing count content (c' ∷ b) rest h e 
     let missed : frame_at w (b ++ rest) ≡ None = ap (frame_at w) (sym behind) ∙ missing in
     absurd (let q : ◌≡◌ {A = Option ((ℕ × List ℕ) × List ℕ)} None (Some ((count, content), rest)) = sym missed ∙ again in cc)
 
-pub no_list_here : HasNoList []
-no_list_here count content [] rest h e = h
-no_list_here count content (c ∷ b) rest h e = absurd cc
-
 -- ---- a list from its head and its items
 
 no_items : (vs : Data) → count_of vs ≡ 0 → AreParts vs None []
 no_items none h = refl
 no_items (item v vs) h = absurd cc
-
-list_body : (vs : Data) (content b : List ℕ) → AreParts vs None content → (class : Class) → IsListBody class (count_of vs) (λ x. x ≡ content) b → IsListBody class (count_of vs) (AreParts vs None) b
-list_body vs content b are Class.EmptyList g = g
-list_body vs content b are (Class.List w) g = (g.0, subst (λ (x : List ℕ). AreParts vs None x) (sym g.1) are, g.2)
-list_body vs content b are _ g = absurd g
-
--- A list's head and, in its content, its items: the list.
-pub list_from_head : (n : ℕ) (vs : Data) (content os : List ℕ) → IsListWith (count_of vs) content os → AreParts vs None content → greatest_depth_of vs ≤ n → SpellsWithin (suc n) (list vs) os
-list_from_head n vs content [] h are deep = absurd h
-list_from_head n vs content (c ∷ b) h are deep = (list_body vs content b are (class_of c) h, omega (arith, deep))
 
 head_of_body : (vs : Data) (b : List ℕ) (class : Class) → IsListBody class (count_of vs) (AreParts vs None) b → (content : List ℕ) × IsListBody class (count_of vs) (λ x. x ≡ content) b × AreParts vs None content
 head_of_body vs b Class.EmptyList g = ([], g, no_items vs g.0)

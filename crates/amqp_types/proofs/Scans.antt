@@ -5,7 +5,7 @@ use Rattle.std.proofs.lemmas.List.{take-append-drop}
 use Rattle.amqp_types.specs.Datum.{Datum, Data, item}
 use Rattle.amqp_types.specs.Reading.{◌>>=◌, after, parts_at, all_parts_at, part_at}
 use Rattle.amqp_types.specs.Grammar.{BeginsWithValue, SpellsWithin}
-use Rattle.amqp_types.proofs.Laws.{nothing_read, read_is_spelled, rest_is_short, spelling_taken}
+use Rattle.amqp_types.proofs.Laws.{nothing_read, rest_is_short, spelling_taken}
 use Rattle.amqp_types.proofs.Frames.{some_is}
 use Rattle.amqp_types.proofs.Loop.{Reader}
 
@@ -47,12 +47,6 @@ at_end part n os count bytes b k e so_far =
 
 pub no_scan : (n : ℕ) (bytes : List ℕ) → None ≡ after (part_at n None bytes) → BeginsWithValue n bytes → ⊥
 no_scan n bytes h q = nothing_read n bytes (none_after (part_at n None bytes) h) q.0 q.1 q.2 q.3 q.4
-
-pub scan_found : (n : ℕ) (bytes r : List ℕ) → Some r ≡ after (part_at n None bytes) → BeginsWithValue n bytes
-scan_found n bytes r h =
-    let x = from_after (part_at n None bytes) r h in
-    let t = read_is_spelled n bytes x.0.0 x.0.1 x.1 in
-    (x.0.0, t.0, x.0.1, t.1, t.2)
 
 -- how far a value reaches
 pub scan_short : (n : ℕ) (bytes r : List ℕ) → Some r ≡ after (part_at n None bytes) → length r ≤ length bytes

@@ -9,7 +9,7 @@ use Rattle.std.proofs.lemmas.List.Elements.{All-same, All-take, All-drop, All-he
 use Rattle.amqp_types.specs.declared.class.Class.{Class}
 use Rattle.amqp_types.specs.declared.class.Kind.{Kind}
 use Rattle.amqp_types.specs.declared.class.Run.{Run}
-use Rattle.amqp_types.specs.declared.class.Reading.{Reading}
+use Rattle.amqp_types.specs.declared.class.Conversion.{Conversion}
 use Rattle.amqp_types.specs.declared.class.Width.{Width}
 use Rattle.amqp_types.specs.Codes.{table, class_in, class_of, octets_in, kind_index, run_index}
 use Rattle.amqp_types.specs.Datum.{Datum, number, octets, list, map, array, described, Data, none, item, count_of, depth_of}
@@ -84,7 +84,7 @@ size_there _ n s h = absurd cc
 
 -- the rows of the table: sizes take one octet or four, and what reads as one more has no octets
 abbrev is_row : Class → Bool
-is_row (Class.Number k w Reading.One) = eqb (octets_in w) 0
+is_row (Class.Number k w Conversion.One) = eqb (octets_in w) 0
 is_row (Class.Octets r w) = is_sized w
 is_row (Class.List w) = is_sized w
 is_row (Class.Map w) = is_sized w
@@ -113,14 +113,14 @@ widened_there low m false e wide =
     let back : (m + (low - 128)) - (low - 128) ≡ m = omega arith in
     rw (past, over, back) refl
 
-unread_there : (r : Reading) (k : Kind) (w : Width) (m : ℕ) → is_row (Class.Number k w r) ≡ true → m < 256 ^ octets_in w → unread_number r (read_number r m) ≡ Some m
-unread_there Reading.Plain k w m row h = refl
-unread_there Reading.One k w m row h =
+unread_there : (r : Conversion) (k : Kind) (w : Width) (m : ℕ) → is_row (Class.Number k w r) ≡ true → m < 256 ^ octets_in w → unread_number r (read_number r m) ≡ Some m
+unread_there Conversion.Plain k w m row h = refl
+unread_there Conversion.One k w m row h =
     let one : m < 256 ^ 0 = subst (λ (i : ℕ). m < 256 ^ i) (eqb-true _ _ row) h in
     let nothing : m ≡ 0 = omega (arith, one) in
     rw nothing refl
-unread_there Reading.Widened32 k w m row h = widened_there (2 ^ 32 - 128) m (ltb m 128) refl (omega arith)
-unread_there Reading.Widened64 k w m row h = widened_there (2 ^ 64 - 128) m (ltb m 128) refl (omega arith)
+unread_there Conversion.Widened32 k w m row h = widened_there (2 ^ 32 - 128) m (ltb m 128) refl (omega arith)
+unread_there Conversion.Widened64 k w m row h = widened_there (2 ^ 64 - 128) m (ltb m 128) refl (omega arith)
 
 number_there : (class : Class) (k : Kind) (n : ℕ) (b : List ℕ) → is_row class ≡ true → IsNumberBody class k n b → AreOctets b → IsThere (number_form class k n) (length b)
 number_there (Class.Number k' w r) k n b row h o =

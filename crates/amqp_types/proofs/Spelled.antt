@@ -14,12 +14,12 @@ use Rattle.amqp_types.specs.declared.forms.Head.{Head}
 use Rattle.amqp_types.specs.declared.forms.Head.TheVariants as head
 use Rattle.amqp_types.specs.declared.value.Value.{Value}
 use Rattle.amqp_types.specs.Codes.{class_of, octets_in}
-use Rattle.amqp_types.specs.Datum.{Datum, Data, number, list, map, array, described}
+use Rattle.amqp_types.specs.Datum.{Datum, number, list, map, array, described}
 use Rattle.amqp_types.specs.View.{views, views_of_pairs}
 use Rattle.amqp_types.specs.Reading.{◌>>=◌}
-use Rattle.amqp_types.specs.Canon.{size_field, frame_head, list_head, map_head, array_head, Draft, number_draft, octets_draft, list_draft, map_draft, array_draft, described_draft, head_of, content_of, spelled, draft, part_form, parts_form, Appends, canon, capped}
+use Rattle.amqp_types.specs.Canon.{Writes, size_field, frame_head, list_head, map_head, array_head, Draft, number_draft, octets_draft, list_draft, map_draft, array_draft, described_draft, head_of, content_of, spelled, draft, part_form, parts_form, Appends, canon, capped}
 use Rattle.amqp_types.specs.Writing.{code_for, frame_code}
-use Rattle.amqp_types.specs.Forms.{Writes, head_form, head_code, spelled_head, capped_with}
+use Rattle.amqp_types.specs.Forms.{head_form, head_code, spelled_head, capped_with}
 use Rattle.amqp_types.proofs.Canonical.{canon_there}
 use Rattle.amqp_types.proofs.Frames.{some_is}
 use Rattle.amqp_types.proofs.Choice.{spelled_with, spelled_under}
@@ -135,15 +135,6 @@ array_drafted c vs content h = rw (h, count_of-views vs) refl
 
 pub described_drafted : (d v : Datum) (a b : List ℕ) → part_form None d ≡ Some a → part_form None v ≡ Some b → draft (described d v) ≡ Some (described_draft (a ++ b))
 described_drafted d v a b h k = rw (h, k) refl
-
-pub list_undrafted : (vs : Data) → parts_form vs None ≡ None → (how : Option ℕ) → part_form how (list vs) ≡ None
-list_undrafted vs h how = rw h refl
-
-pub map_undrafted : (vs : Data) → parts_form vs None ≡ None → (how : Option ℕ) → part_form how (map vs) ≡ None
-map_undrafted vs h how = rw h refl
-
-pub array_undrafted : (c : ℕ) (vs : Data) → parts_form vs (Some c) ≡ None → (how : Option ℕ) → part_form how (array c vs) ≡ None
-array_undrafted c vs h how = rw h refl
 
 -- ---- writing
 

@@ -1,22 +1,24 @@
 -- The canonical spelling: under each value's first format code of the table that fits.
-use Rattle.std.specs.Prelude.{◌≡◌, ◌+◌, ◌-◌, ◌^◌, ◌==◌, ◌&&◌, ℕ, List, [], ◌∷◌, ◌++◌, length, map as list_map, Option, Some, None, min, nat_lt, nat_le, if◌then◌else◌}
+use Rattle.std.specs.Prelude.{◌≡◌, ◌+◌, ◌-◌, ◌^◌, ◌==◌, ◌&&◌, ℕ, List, [], ◌∷◌, ◌++◌, length, map as list_map, Option, Some, None, Result, Ok, Err, min, nat_lt, nat_le, if◌then◌else◌}
 use Rattle.std.specs.Int.{to_be_bytes, w8, w16, w32, w64}
 use Rattle.amqp_types.specs.declared.class.Class.{Class}
 use Rattle.amqp_types.specs.declared.class.Kind.{Kind}
 use Rattle.amqp_types.specs.declared.class.Run.{Run}
-use Rattle.amqp_types.specs.declared.class.Reading.{Reading}
+use Rattle.amqp_types.specs.declared.class.Conversion.{Conversion}
 use Rattle.amqp_types.specs.declared.class.Width.{Width}
+use Rattle.amqp_types.specs.declared.fault.WriteFault.{WriteFault}
+use Rattle.amqp_types.specs.declared.fault.WriteFault.TheVariants as fault
 use Rattle.amqp_types.specs.Codes.{table, class_of, octets_in, kind_index, run_index}
 use Rattle.amqp_types.specs.Datum.{Datum, number, octets, list, map, array, described, Data, none, item, count_of, depth_of}
 use Rattle.amqp_types.specs.Grammar.{fits, is_run, is_even, is_element}
 use Rattle.amqp_types.specs.Reading.{◌>>=◌}
 
 -- the number in a body that gives the value
-abbrev pub unread_number : Reading → ℕ → Option ℕ
-unread_number Reading.Plain n = Some n
-unread_number Reading.One n = if n == 1 then Some 0 else None
-unread_number Reading.Widened32 n = if nat_lt n 128 then Some n else if nat_lt n (2 ^ 32 - 128) then None else Some (n - (2 ^ 32 - 256))
-unread_number Reading.Widened64 n = if nat_lt n 128 then Some n else if nat_lt n (2 ^ 64 - 128) then None else Some (n - (2 ^ 64 - 256))
+abbrev pub unread_number : Conversion → ℕ → Option ℕ
+unread_number Conversion.Plain n = Some n
+unread_number Conversion.One n = if n == 1 then Some 0 else None
+unread_number Conversion.Widened32 n = if nat_lt n 128 then Some n else if nat_lt n (2 ^ 32 - 128) then None else Some (n - (2 ^ 32 - 256))
+unread_number Conversion.Widened64 n = if nat_lt n 128 then Some n else if nat_lt n (2 ^ 64 - 128) then None else Some (n - (2 ^ 64 - 256))
 
 -- a number in this many octets, big endian, if it fits
 abbrev pub field : Width → ℕ → Option (List ℕ)
@@ -137,6 +139,12 @@ Appends form old new = (x : List ℕ) × (form ≡ Some x) × (new ≡ old ++ x)
 -- the new octets are the old ones and the canonical spelling
 abbrev pub AppendsCanon : Datum → List ℕ → List ℕ → Type 0
 AppendsCanon v old new = Appends (canon v) old new
+
+-- What a function that appends octets has done: they are there behind the old ones, or there are none such, or memory ran out.
+abbrev pub Writes : {X : Type 0} → Option (List ℕ) → Result X WriteFault → List ℕ → List ℕ → Type 0
+Writes form (Ok x) old new = Appends form old new
+Writes form (Err fault.NoMemory) old new = Unit {0}
+Writes form (Err fault.NotWritable) old new = form ≡ None
 
 -- how many octets there are, or 2 ^ 64 - 1 for more
 abbrev pub capped : Option (List ℕ) → Option ℕ

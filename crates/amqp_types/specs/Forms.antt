@@ -1,20 +1,12 @@
 -- What the writer's functions give, told in the words of the canonical spelling.
-use Rattle.std.specs.Prelude.{◌≡◌, ◌+◌, ◌-◌, ◌^◌, ℕ, List, ◌∷◌, length, min, Option, Some, None, Result, Ok, Err, if◌then◌else◌, ◌==◌}
+use Rattle.std.specs.Prelude.{◌+◌, ◌-◌, ◌^◌, ℕ, List, ◌∷◌, length, min, Option, Some, None, if◌then◌else◌, ◌==◌}
 use Rattle.amqp_types.specs.declared.class.Class.{Class}
-use Rattle.amqp_types.specs.declared.fault.WriteFault.{WriteFault}
-use Rattle.amqp_types.specs.declared.fault.WriteFault.TheVariants as fault
 use Rattle.amqp_types.specs.declared.forms.Head.{Head}
 use Rattle.amqp_types.specs.declared.forms.Head.TheVariants as head
 use Rattle.amqp_types.specs.Codes.{class_of}
 use Rattle.amqp_types.specs.Reading.{◌>>=◌}
-use Rattle.amqp_types.specs.Canon.{number_form, octets_head, list_head, map_head, array_head, described_head, Appends}
+use Rattle.amqp_types.specs.Canon.{number_form, octets_head, list_head, map_head, array_head, described_head}
 use Rattle.amqp_types.specs.Writing.{number_code, octets_code, frame_code}
-
--- What a function that appends octets has done: they are there behind the old ones, or there are none such, or memory ran out.
-abbrev pub Writes : {X : Type 0} → Option (List ℕ) → Result X WriteFault → List ℕ → List ℕ → Type 0
-Writes form (Ok x) old new = Appends form old new
-Writes form (Err fault.NoMemory) old new = Unit {0}
-Writes form (Err fault.NotWritable) old new = form ≡ None
 
 abbrev pub head_form : Head → Class → Option (List ℕ)
 head_form (head.Number k n) class = number_form class k n
@@ -40,7 +32,3 @@ spelled_head (Some c) h = head_form h (class_of c)
 -- how many octets they are with so many behind them, or 2 ^ 64 - 1 for more
 abbrev pub capped_with : ℕ → Option (List ℕ) → Option ℕ
 capped_with size form = form >>= λ os. Some (min (length os + size) (2 ^ 64 - 1))
-
--- what stands in front of the items of a list, with its shortest code
-abbrev pub list_front : ℕ → ℕ → Option (List ℕ)
-list_front count size = spelled_head None (head.List count size)

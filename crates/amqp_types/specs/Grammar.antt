@@ -5,7 +5,7 @@ use Rattle.std.specs.Str.{is_utf8}
 use Rattle.amqp_types.specs.declared.class.Class.{Class}
 use Rattle.amqp_types.specs.declared.class.Kind.{Kind}
 use Rattle.amqp_types.specs.declared.class.Run.{Run}
-use Rattle.amqp_types.specs.declared.class.Reading.{Reading}
+use Rattle.amqp_types.specs.declared.class.Conversion.{Conversion}
 use Rattle.amqp_types.specs.declared.class.Width.{Width}
 use Rattle.amqp_types.specs.Codes.{class_of, octets_in}
 use Rattle.amqp_types.specs.Datum.{Datum, number, octets, list, map, array, described, Data, none, item, count_of, depth_of}
@@ -19,11 +19,11 @@ unfoldable pub number_of : List ℕ → ℕ
 number_of bs = number_from 0 bs
 
 -- the value that a number in a body gives
-abbrev pub read_number : Reading → ℕ → ℕ
-read_number Reading.Plain n = n
-read_number Reading.One n = n + 1
-read_number Reading.Widened32 n = if nat_lt n 128 then n else n + (2 ^ 32 - 256)
-read_number Reading.Widened64 n = if nat_lt n 128 then n else n + (2 ^ 64 - 256)
+abbrev pub read_number : Conversion → ℕ → ℕ
+read_number Conversion.Plain n = n
+read_number Conversion.One n = n + 1
+read_number Conversion.Widened32 n = if nat_lt n 128 then n else n + (2 ^ 32 - 256)
+read_number Conversion.Widened64 n = if nat_lt n 128 then n else n + (2 ^ 64 - 256)
 
 -- a Unicode scalar value: no surrogate
 abbrev pub is_scalar : ℕ → Bool

@@ -7,9 +7,10 @@ use Rattle.amqp_types.specs.declared.heads.Descriptor.TheVariants as descriptor
 use Rattle.amqp_types.specs.Datum.{Datum, number, octets}
 use Rattle.amqp_types.specs.Grammar.{Spells, IsListWith}
 
--- in front of the octets a list of so many items ends at one place, and its items lie from the other up to there
+-- in front of the octets a list of so many items ends at one place, and its items lie from the other up to there; a list of one octet, its code,
+-- has neither a size nor a count, and so its items lie behind that octet
 abbrev pub IsListHead : List ℕ → ℕ → ℕ → ℕ → Type 0
-IsListHead os count start end = (start ≤ end) × (end ≤ length os) × IsListWith count (drop start (take end os)) (take end os)
+IsListHead os count start end = (start ≤ end) × (end ≤ length os) × IsListWith count (drop start (take end os)) (take end os) × (end ≡ 1 → start ≡ 1)
 
 -- no front of the octets is a list's format code, size and count, and as many octets as the size says
 abbrev pub HasNoList : List ℕ → Type 0

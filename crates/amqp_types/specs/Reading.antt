@@ -3,7 +3,7 @@ use Rattle.std.specs.Prelude.{◌≡◌, ◌==◌, ℕ, zero, suc, List, [], ◌
 use Rattle.amqp_types.specs.declared.class.Class.{Class}
 use Rattle.amqp_types.specs.declared.class.Kind.{Kind}
 use Rattle.amqp_types.specs.declared.class.Run.{Run}
-use Rattle.amqp_types.specs.declared.class.Reading.{Reading}
+use Rattle.amqp_types.specs.declared.class.Conversion.{Conversion}
 use Rattle.amqp_types.specs.declared.class.Width.{Width}
 use Rattle.amqp_types.specs.declared.fault.ReadFault.{ReadFault}
 use Rattle.amqp_types.specs.declared.fault.ReadFault.TheVariants as fault
@@ -31,7 +31,7 @@ split n os = if nat_lt (length os) n then None else Some (take n os, drop n os)
 unfoldable pub field_at : Width → List ℕ → Option (ℕ × List ℕ)
 field_at w os = split (octets_in w) os >>= λ x. Some (number_of x.0, x.1)
 
-unfoldable pub number_at : Kind → Width → Reading → List ℕ → Option (Datum × List ℕ)
+unfoldable pub number_at : Kind → Width → Conversion → List ℕ → Option (Datum × List ℕ)
 number_at k w r os = do
   n ← field_at w os
   if fits k (read_number r n.0) then Some (number k (read_number r n.0), n.1) else None

@@ -1,6 +1,5 @@
 -- The code that the writer chooses: the shortest that fits.
-use Rattle.std.specs.Prelude.{◌+◌, ◌-◌, ◌^◌, ◌==◌, ◌&&◌, ℕ, ◌∷◌, length, nat_lt, if◌then◌else◌, List, ◌++◌}
-use Rattle.std.specs.Int.{to_be_bytes, w8, w32}
+use Rattle.std.specs.Prelude.{◌+◌, ◌-◌, ◌^◌, ◌==◌, ◌&&◌, ℕ, length, nat_lt, if◌then◌else◌}
 use Rattle.amqp_types.specs.declared.class.Kind.{Kind}
 use Rattle.amqp_types.specs.declared.class.Run.{Run}
 use Rattle.amqp_types.specs.Canon.{Draft, number_draft, octets_draft, list_draft, map_draft, array_draft, described_draft}
@@ -40,7 +39,3 @@ code_for (list_draft count content) = if count == 0 then 0x45 else frame_code 0x
 code_for (map_draft count content) = frame_code 0xc1 0xd1 count (length content)
 code_for (array_draft code count bodies) = frame_code 0xe0 0xf0 count (1 + length bodies)
 code_for (described_draft content) = 0
-
--- octets behind their size, in one octet under the first code or in four under the second
-abbrev pub sized_octets : ℕ → ℕ → List ℕ → List ℕ
-sized_octets small large text = (if nat_lt (length text) 256 then small ∷ to_be_bytes w8 (length text) else large ∷ to_be_bytes w32 (length text)) ++ text

@@ -1,4 +1,4 @@
-//! One value behind a pointer.
+//! One value behind a pointer, that contracts see as the value.
 ghost use Rattle.std.specs.Prelude.{◌≡◌, IfOk};
 
 use std::alloc::{AllocError, Global};

@@ -43,9 +43,9 @@ pub enum Width {
     Eight,
 }
 
-/// How the number in a body gives the value.
+/// How the number in a body is converted into the value.
 #[derive(Clone, Copy)]
-pub enum Reading {
+pub enum Conversion {
     /// It is the value.
     Plain,
     /// The value is one more.
@@ -59,7 +59,7 @@ pub enum Reading {
 #[derive(Clone, Copy)]
 pub enum Class {
     /// A number of this many octets.
-    Number(Kind, Width, Reading),
+    Number(Kind, Width, Conversion),
     /// A size of this many octets, and as many octets.
     Octets(Run, Width),
     /// Sixteen octets.
@@ -81,31 +81,31 @@ pub fn class_of(code: u8) -> Class
 {
     match code {
         0x00 => Class::Described,
-        0x40 => Class::Number(Kind::Null, Width::Zero, Reading::Plain),
-        0x41 => Class::Number(Kind::Bool, Width::Zero, Reading::One),
-        0x42 => Class::Number(Kind::Bool, Width::Zero, Reading::Plain),
-        0x43 => Class::Number(Kind::Uint, Width::Zero, Reading::Plain),
-        0x44 => Class::Number(Kind::Ulong, Width::Zero, Reading::Plain),
+        0x40 => Class::Number(Kind::Null, Width::Zero, Conversion::Plain),
+        0x41 => Class::Number(Kind::Bool, Width::Zero, Conversion::One),
+        0x42 => Class::Number(Kind::Bool, Width::Zero, Conversion::Plain),
+        0x43 => Class::Number(Kind::Uint, Width::Zero, Conversion::Plain),
+        0x44 => Class::Number(Kind::Ulong, Width::Zero, Conversion::Plain),
         0x45 => Class::EmptyList,
-        0x50 => Class::Number(Kind::Ubyte, Width::One, Reading::Plain),
-        0x51 => Class::Number(Kind::Sbyte, Width::One, Reading::Plain),
-        0x52 => Class::Number(Kind::Uint, Width::One, Reading::Plain),
-        0x53 => Class::Number(Kind::Ulong, Width::One, Reading::Plain),
-        0x54 => Class::Number(Kind::Int, Width::One, Reading::Widened32),
-        0x55 => Class::Number(Kind::Long, Width::One, Reading::Widened64),
-        0x56 => Class::Number(Kind::Bool, Width::One, Reading::Plain),
-        0x60 => Class::Number(Kind::Ushort, Width::Two, Reading::Plain),
-        0x61 => Class::Number(Kind::Short, Width::Two, Reading::Plain),
-        0x70 => Class::Number(Kind::Uint, Width::Four, Reading::Plain),
-        0x71 => Class::Number(Kind::Int, Width::Four, Reading::Plain),
-        0x72 => Class::Number(Kind::FloatBits, Width::Four, Reading::Plain),
-        0x73 => Class::Number(Kind::Char, Width::Four, Reading::Plain),
-        0x74 => Class::Number(Kind::Dec32, Width::Four, Reading::Plain),
-        0x80 => Class::Number(Kind::Ulong, Width::Eight, Reading::Plain),
-        0x81 => Class::Number(Kind::Long, Width::Eight, Reading::Plain),
-        0x82 => Class::Number(Kind::DoubleBits, Width::Eight, Reading::Plain),
-        0x83 => Class::Number(Kind::Timestamp, Width::Eight, Reading::Plain),
-        0x84 => Class::Number(Kind::Dec64, Width::Eight, Reading::Plain),
+        0x50 => Class::Number(Kind::Ubyte, Width::One, Conversion::Plain),
+        0x51 => Class::Number(Kind::Sbyte, Width::One, Conversion::Plain),
+        0x52 => Class::Number(Kind::Uint, Width::One, Conversion::Plain),
+        0x53 => Class::Number(Kind::Ulong, Width::One, Conversion::Plain),
+        0x54 => Class::Number(Kind::Int, Width::One, Conversion::Widened32),
+        0x55 => Class::Number(Kind::Long, Width::One, Conversion::Widened64),
+        0x56 => Class::Number(Kind::Bool, Width::One, Conversion::Plain),
+        0x60 => Class::Number(Kind::Ushort, Width::Two, Conversion::Plain),
+        0x61 => Class::Number(Kind::Short, Width::Two, Conversion::Plain),
+        0x70 => Class::Number(Kind::Uint, Width::Four, Conversion::Plain),
+        0x71 => Class::Number(Kind::Int, Width::Four, Conversion::Plain),
+        0x72 => Class::Number(Kind::FloatBits, Width::Four, Conversion::Plain),
+        0x73 => Class::Number(Kind::Char, Width::Four, Conversion::Plain),
+        0x74 => Class::Number(Kind::Dec32, Width::Four, Conversion::Plain),
+        0x80 => Class::Number(Kind::Ulong, Width::Eight, Conversion::Plain),
+        0x81 => Class::Number(Kind::Long, Width::Eight, Conversion::Plain),
+        0x82 => Class::Number(Kind::DoubleBits, Width::Eight, Conversion::Plain),
+        0x83 => Class::Number(Kind::Timestamp, Width::Eight, Conversion::Plain),
+        0x84 => Class::Number(Kind::Dec64, Width::Eight, Conversion::Plain),
         0x94 => Class::Sixteen(Run::Dec128),
         0x98 => Class::Sixteen(Run::Uuid),
         0xa0 => Class::Octets(Run::Binary, Width::One),

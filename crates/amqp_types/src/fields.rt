@@ -1,5 +1,4 @@
-//! Fields of one type, read in place: no value is made and no memory taken. Each answers the field and how many octets spell it, and None
-//! exactly where no front of the octets spells a value of its type (OASIS AMQP 1.0, part 1, section 1.6).
+//! Fields of one type, read in place without memory (OASIS AMQP 1.0, part 1, section 1.6): the field and how many octets spell it, or None exactly where none is in front.
 ghost use Rattle.std.specs.Prelude.{option_map, if◌then◌else◌};
 ghost use Rattle.amqp_types.specs.Codes.{HasCodes};
 ghost use Rattle.amqp_types.specs.Datum.{number, octets};

@@ -1,10 +1,10 @@
 //! How one level of a value is spelled: its code, and what stands between the code and the content.
 ghost use Rattle.std.specs.Prelude.{◌≡◌, ◌≤◌, Some, None, length, option_map, MatchOption};
-ghost use Rattle.amqp_types.specs.Canon.{unread_number, field, size_field, number_form, octets_head, frame_head, array_head};
+ghost use Rattle.amqp_types.specs.Canon.{Writes, unread_number, field, size_field, number_form, octets_head, frame_head, array_head};
 ghost use Rattle.amqp_types.specs.Writing.{number_code, octets_code, frame_code};
-ghost use Rattle.amqp_types.specs.Forms.{Writes, head_form, head_code, spelled_head, capped_with};
+ghost use Rattle.amqp_types.specs.Forms.{head_form, head_code, spelled_head, capped_with};
 
-use crate::class::{Class, Kind, Reading, Run, Width, class_of, kind_index, run_index};
+use crate::class::{Class, Conversion, Kind, Run, Width, class_of, kind_index, run_index};
 use crate::fault::WriteFault;
 use crate::leaves::{fits, is_run};
 use crate::parts::{is_element, is_even};
@@ -23,13 +23,13 @@ pub(crate) enum Head<'a> {
 }
 
 /// The number in a body that gives the value.
-fn unread_number(reading: Reading, n: u64) -> Option<u64>
+fn unread_number(reading: Conversion, n: u64) -> Option<u64>
     ensures { result ≡ unread_number reading n }
 {
     match reading {
-        Reading::Plain => Some(n),
-        Reading::One => if n == 1 { Some(0) } else { None },
-        Reading::Widened32 => {
+        Conversion::Plain => Some(n),
+        Conversion::One => if n == 1 { Some(0) } else { None },
+        Conversion::Widened32 => {
             if n < 128 {
                 Some(n)
             } else if n < 0xffff_ff80 {
@@ -38,7 +38,7 @@ fn unread_number(reading: Reading, n: u64) -> Option<u64>
                 Some(n - 0xffff_ff00)
             }
         }
-        Reading::Widened64 => {
+        Conversion::Widened64 => {
             if n < 128 {
                 Some(n)
             } else if n < 0xffff_ffff_ffff_ff80 {

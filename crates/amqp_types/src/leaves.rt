@@ -1,4 +1,4 @@
-//! Reading a value.
+//! Reading a value that has no parts: a number or octets.
 ghost use Rattle.std.specs.Prelude.{◌≡◌, ◌≤◌, ◌<◌, ◌^◌, nat_lt, ℕ, List, length, Option, Some, None, option_map, if◌then◌else◌, IsTrue};
 ghost use Rattle.std.specs.Str.{IsUtf8, is_utf8};
 ghost use Rattle.amqp_types.specs.Datum.{Datum, number, octets};
@@ -7,7 +7,7 @@ ghost use Rattle.amqp_types.specs.Codes.{class_of};
 ghost use Rattle.amqp_types.specs.Reading.{Gives, split, field_at, number_at, run_at, octets_at, frame_at, all_parts_at, list_at, map_at, array_content_at, array_at, described_at, body_by, part_at, body_at};
 ghost use Rattle.amqp_types.specs.View.{view, views};
 
-use crate::class::{Class, Kind, Reading, Run, Width, class_of};
+use crate::class::{Class, Conversion, Kind, Run, Width, class_of};
 use crate::fault::ReadFault;
 use crate::items::Items;
 use crate::text::Text;
@@ -75,18 +75,18 @@ pub(crate) fn field(octets: &[u8], width: Width) -> Option<(u64, &[u8])>
     }
 }
 
-pub(crate) fn read_number(reading: Reading, n: u64) -> Option<u64>
+pub(crate) fn read_number(reading: Conversion, n: u64) -> Option<u64>
     ensures { result ≡ (if nat_lt (read_number reading n) (2 ^ 64) then Some (read_number reading n) else None) }
 {
     match reading {
-        Reading::Plain => Some(n),
-        Reading::One => n.checked_add(1),
-        Reading::Widened32 => if n < 128 {
+        Conversion::Plain => Some(n),
+        Conversion::One => n.checked_add(1),
+        Conversion::Widened32 => if n < 128 {
             Some(n)
         } else {
             n.checked_add(0xffff_ff00)
         },
-        Reading::Widened64 => if n < 128 {
+        Conversion::Widened64 => if n < 128 {
             Some(n)
         } else {
             n.checked_add(0xffff_ffff_ffff_ff00)
@@ -175,7 +175,7 @@ fn char_of(n: u32) -> Result<Value, ReadFault>
 pub(crate) fn number(
     kind: Kind,
     width: Width,
-    reading: Reading,
+    reading: Conversion,
     bytes: &[u8],
 ) -> Result<(Value, &[u8]), ReadFault>
     ensures { Gives (λ x. (view x.0, x.1.now)) result (number_at kind width reading bytes.now) }

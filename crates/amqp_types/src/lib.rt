@@ -22,16 +22,16 @@
 //! | map | c1, d1 | keys and values in turn |
 //! | array | e0, f0 | one code of the table but 00, and bodies |
 //!
-//! Values are nested at most 32 deep. What is written is canonical: each part under its shortest code.
+//! Values are nested at most 32 deep ([`MAX_DEPTH`]). What is written is canonical: each part under its shortest code.
 //!
 //! - [`Value`], [`Text`], [`Items`], [`Boxed`], [`Tag`]: values, which contracts see as plain data
 //! - [`read_value`], [`read_within`], [`skip_value`], [`skip_within`]: whole values in front of octets
 //! - [`read_uint`] and its like, [`read_list_head`], [`read_descriptor`]: fields of one type, read in place
 //! - [`write_value`], [`value_size`]: whole values, written behind octets
-//! - [`write_uint`] and its like, [`write_list_head`], [`uint_size`], [`ulong_size`]: fields of one type, written
+//! - [`write_uint`] and its like, [`uint_size`], [`ulong_size`]: fields of one type, written
 //! - [`one_spelling`], [`canon_spells`], [`read_back`], [`canon_is_shortest`]: the laws of spellings
 //! - [`size_within`], [`map_size_within`], [`append_value`], [`append_map`], [`is_symbol`], [`class_of`]: what writers and readers of larger things stand on
-//! - [`equal_is_same`]: `==` of values is `≡` in contracts
+//! - [`equal_is_same`]: `==` of values, texts and tags is `≡` in contracts
 #![tactic(auto)]
 
 mod append;
@@ -54,11 +54,11 @@ mod within;
 mod write;
 
 pub use append::{
-    uint_size, ulong_size, write_binary, write_boolean, write_list_head, write_null, write_string,
-    write_symbol, write_ubyte, write_uint, write_ulong, write_ushort,
+    uint_size, ulong_size, write_boolean, write_null, write_ubyte, write_uint, write_ulong,
+    write_ushort,
 };
 pub use boxed::Boxed;
-pub use class::{Class, Kind, Reading, Run, Width, class_of};
+pub use class::{Class, Conversion, Kind, Run, Width, class_of};
 pub use equality::equal_is_same;
 pub use fault::{ReadFault, WriteFault};
 pub use fields::{
@@ -71,7 +71,7 @@ pub use read::{one_spelling, read_value, read_within};
 pub use skip::{skip_value, skip_within};
 pub use tag::Tag;
 pub use text::Text;
-pub use value::Value;
+pub use value::{MAX_DEPTH, Value};
 pub use within::{append_map, append_value, is_symbol, map_size_within, size_within};
 pub use write::{canon_is_shortest, canon_spells, read_back, value_size, write_value};
 

@@ -7,12 +7,18 @@ ghost use Rattle.amqp_types.specs.View.{view};
 use crate::fault::ReadFault;
 use crate::parts::part;
 use crate::skip::skip_within;
-use crate::value::Value;
+use crate::value::{MAX_DEPTH, Value};
 use std::alloc::Global;
 
 /// Reads the value in front of the octets, nested at most 32 deep, and how many octets spell it. Octets may follow it.
 ///
 /// It takes one pass, and a second one without memory where memory ran out, so that `NoMemory` is answered only where a value is there.
+///
+/// # Memory
+///
+/// A `Value` takes 48 octets, and a list of them the room that a `Vec` grows to. So a list of items of one octet takes 50 to 100 octets of
+/// memory for each octet that spells it. An array whose elements have no body, as null, true or zero, takes most: 255 such elements are spelled
+/// by four octets and take 12 KiB, 3,072 octets for each. Who reads what a peer sends bounds it by how many octets it reads at once.
 pub fn read_value(alloc: Global, bytes: &[u8]) -> Result<(Value, usize), ReadFault>
     // What is read is spelled so.
     ensures within { IfOk result (λ found. found.1 ≤ length bytes.now) }
@@ -25,7 +31,7 @@ pub fn read_value(alloc: Global, bytes: &[u8]) -> Result<(Value, usize), ReadFau
     ensures none { result ≡ Err ReadFault.NoValue → ¬ (BeginsWithValue 32 bytes.now) }
     ensures memory { result ≡ Err ReadFault.NoMemory → BeginsWithValue 32 bytes.now }
 {
-    read_within(alloc, 32, bytes)
+    read_within(alloc, MAX_DEPTH, bytes)
 }
 
 /// The same for a value nested at most `depth` deep, as it may be that lies inside of others.

@@ -5,15 +5,16 @@ ghost use Rattle.amqp_types.specs.Grammar.{SpellsWithin, BeginsWithValue};
 ghost use Rattle.std.specs.Prelude.{◌≡◌, None, option_map, is_some};
 ghost use Rattle.amqp_types.specs.Reading.{number_at, run_at, octets_at, frame_at, all_parts_at, list_at, map_at, array_content_at, array_at, described_at, part_at, body_at, after};
 
-use crate::class::{Class, Kind, Reading, Run, Width, class_of};
+use crate::class::{Class, Conversion, Kind, Run, Width, class_of};
 use crate::leaves::{field, fits, is_run, read_number, split};
 use crate::parts::{frame, is_element, is_even};
+use crate::value::MAX_DEPTH;
 
 /// How many octets spell the value in front, nested at most 32 deep; None exactly where none is there.
 pub fn skip_value(bytes: &[u8]) -> Option<usize>
     ensures { MatchOption result (¬ (BeginsWithValue 32 bytes.now)) (λ used. (used ≤ length bytes.now) × (v : Datum) × SpellsWithin 32 v (take used bytes.now)) }
 {
-    skip_within(32, bytes)
+    skip_within(MAX_DEPTH, bytes)
 }
 
 /// The same for a value nested at most `depth` deep.
@@ -27,7 +28,7 @@ pub fn skip_within(depth: u8, bytes: &[u8]) -> Option<usize>
 }
 
 #[tactic(auto, unfolding(crate::specs::Reading::number_at))]
-fn scan_number(kind: Kind, width: Width, reading: Reading, bytes: &[u8]) -> Option<&[u8]>
+fn scan_number(kind: Kind, width: Width, reading: Conversion, bytes: &[u8]) -> Option<&[u8]>
     ensures { option_map (λ r. r.now) result ≡ after (number_at kind width reading bytes.now) }
 {
     match field(bytes, width) {

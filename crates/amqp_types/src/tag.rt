@@ -5,9 +5,9 @@ use std::fmt;
 use std::marker::Model;
 
 /// A delivery tag: at most 32 octets (OASIS AMQP 1.0, part 2, section 2.8.7). Contracts see it as its octets.
-#[derive(Clone, Copy, PartialEq, Eq)]
+#[derive(Clone, Copy)]
 pub struct Tag {
-    octets: [u8; 32],
+    octets: [u8; Tag::MAX_LEN],
     used: u8,
 }
 
@@ -28,14 +28,17 @@ impl Model for Tag {
 }
 
 impl Tag {
+    /// How many octets a tag has at most.
+    pub const MAX_LEN: usize = 32;
+
     /// The tag of these octets; None where there are more than 32.
     pub fn new(octets: &[u8]) -> Option<Tag>
         ensures { MatchOption result (32 < length octets.now) (λ t. (t ≡ octets.now) × (length t ≤ 32)) }
     {
-        if octets.len() > 32 {
+        if octets.len() > Tag::MAX_LEN {
             return None;
         }
-        let mut all = [0u8; 32];
+        let mut all = [0u8; Tag::MAX_LEN];
         all[..octets.len()].copy_from_slice(octets);
         Some(Tag {
             octets: all,
@@ -50,6 +53,26 @@ impl Tag {
     {
         &self.octets[..self.used as usize]
     }
+}
+
+impl PartialEq for Tag {
+    ghost use Rattle.std.specs.Cmp.{partial_equiv_from_equiv};
+    ghost use Rattle.std.specs.Cmp.Lexicographic.{pointwise, nat_list_eq_equiv};
+    ghost use Rattle.std.specs.Prelude.{nat_eq};
+
+    ghost eq = { pointwise nat_eq };
+
+    ghost laws = { partial_equiv_from_equiv nat_list_eq_equiv };
+
+    fn eq(&self, other: &Tag) -> bool {
+        self.octets() == other.octets()
+    }
+}
+
+impl Eq for Tag {
+    ghost use Rattle.std.specs.Cmp.Lexicographic.{nat_list_eq_equiv};
+
+    ghost laws = { nat_list_eq_equiv };
 }
 
 /// The octets in hexadecimal.

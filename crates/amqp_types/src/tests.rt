@@ -1,96 +1,102 @@
-//! The spellings of the standard's types, both ways, and one call of each public function with ample memory.
+//! The spellings of the standard's types, both ways, and each call that takes memory once where there is enough of it.
 use super::*;
 use std::alloc::Global;
 use std::process::Abort;
 use std::test::Fail;
 
-fn again(rt: &impl Abort, alloc: Global, octets: &[u8], canonical: &[u8]) -> Result<(), Fail> {
+/// Writes a copy of the value in front, which is equal to it, and answers the rest.
+fn again<'a>(
+    rt: &impl Abort,
+    alloc: Global,
+    octets: &'a [u8],
+    out: &mut Vec<u8>,
+) -> Result<&'a [u8], Fail> {
     let (value, used) = read_value(alloc, octets)?;
-    assert_eq!(rt; used, octets.len());
+    let copy = value.clone()?;
+    assert!(rt; copy == value);
+    drop(value);
+    write_value(&copy, out)?;
+    drop(copy);
+    Ok(&octets[used..])
+}
+
+/// So many values one after the other, and their canonical spellings.
+fn all_again(
+    rt: &impl Abort,
+    alloc: Global,
+    count: u8,
+    octets: &[u8],
+    canonical: &[u8],
+) -> Result<(), Fail> {
     let mut out = Vec::new(alloc);
-    write_value(&value, &mut out)?;
+    let mut rest = octets;
+    for _ in 0..count {
+        rest = again(rt, alloc, rest, &mut out)?;
+    }
+    assert!(rt; rest.is_empty());
     assert_eq!(rt; out.as_slice(), canonical);
     Ok(())
 }
 
-fn refused(alloc: Global, octets: &[u8]) -> bool {
+fn is_refused(alloc: Global, octets: &[u8]) -> bool {
     match read_value(alloc, octets) {
         Ok(_) => false,
         Err(fault) => fault == ReadFault::NoValue,
     }
 }
 
+// null, booleans, numbers and octets, each under its shortest code
 #[test]
-fn numbers(rt: HostRuntime) -> Result<(), Fail> {
-    again(&rt, rt.alloc(), &[0x43], &[0x43])?;
-    again(&rt, rt.alloc(), &[0x70, 0, 0, 0, 0], &[0x43])?;
-    again(&rt, rt.alloc(), &[0x52, 0xff], &[0x52, 0xff])?;
-    again(&rt, rt.alloc(), &[0x70, 0, 0, 1, 0], &[0x70, 0, 0, 1, 0])?;
-    again(
-        &rt,
-        rt.alloc(),
-        &[0x71, 0xff, 0xff, 0xff, 0xff],
-        &[0x54, 0xff],
-    )?;
-    again(
-        &rt,
-        rt.alloc(),
-        &[0x71, 0, 0, 0, 128],
-        &[0x71, 0, 0, 0, 128],
-    )?;
-    again(
-        &rt,
-        rt.alloc(),
-        &[0x81, 0xff, 0xff, 0xff, 0xff, 0xff, 0xff, 0xff, 0x80],
-        &[0x55, 0x80],
-    )?;
-    again(&rt, rt.alloc(), &[0x56, 1], &[0x41])?;
-    again(&rt, rt.alloc(), &[0x56, 0], &[0x42])
+fn leaves(rt: HostRuntime) -> Result<(), Fail> {
+    let octets = b"\x40\x41\x42\x50\x07\x60\x01\x02\x43\x52\xff\x70\x00\x00\x01\x00\x44\x53\x24\
+        \x80\x00\x00\x00\x00\x00\x00\x01\x00\x51\x80\x61\x80\x00\x54\x80\x71\x00\x00\x00\x80\
+        \x55\x80\x81\xff\xff\xff\xff\xff\xff\xff\x7f\x72\x3f\x80\x00\x00\
+        \x82\x3f\xf0\x00\x00\x00\x00\x00\x00\x74\x22\x50\x00\x00\
+        \x84\x22\x30\x00\x00\x00\x00\x00\x01\x73\x00\x01\xf6\x00\
+        \x83\xff\xff\xff\xff\xff\xff\xff\xff\xa0\x02\x00\xff\xa1\x02\xc3\xa9\xa3\x01\x78\
+        \x94\x00\x01\x02\x03\x04\x05\x06\x07\x08\x09\x0a\x0b\x0c\x0d\x0e\x0f\
+        \x98\x0f\x0e\x0d\x0c\x0b\x0a\x09\x08\x07\x06\x05\x04\x03\x02\x01\x00";
+    all_again(&rt, rt.alloc(), 28, octets, octets)
 }
 
+// lists, maps, arrays and a described value
 #[test]
 fn parts(rt: HostRuntime) -> Result<(), Fail> {
-    again(
+    let octets = b"\x45\xc0\x04\x02\x52\x01\x41\xc1\x05\x02\xa1\x01\x6b\x43\
+        \xe0\x07\x02\xa3\x01\x78\x02\x79\x7a\xe0\x02\x00\xa3\x00\x53\x24\x45";
+    all_again(&rt, rt.alloc(), 6, octets, octets)
+}
+
+// longer spellings, and the canonical ones
+#[test]
+fn shortened(rt: HostRuntime) -> Result<(), Fail> {
+    let octets = b"\x56\x01\x56\x00\x70\x00\x00\x00\x00\x71\xff\xff\xff\xff\
+        \x81\xff\xff\xff\xff\xff\xff\xff\x80\xd0\x00\x00\x00\x04\x00\x00\x00\x00\xe0\x01\x00";
+    all_again(
         &rt,
         rt.alloc(),
-        &[0xa1, 2, 0xc3, 0xa9],
-        &[0xa1, 2, 0xc3, 0xa9],
-    )?;
-    again(
-        &rt,
-        rt.alloc(),
-        &[0xc0, 4, 2, 0x52, 1, 0x41],
-        &[0xc0, 4, 2, 0x52, 1, 0x41],
-    )?;
-    again(&rt, rt.alloc(), &[0xd0, 0, 0, 0, 4, 0, 0, 0, 0], &[0x45])?;
-    again(
-        &rt,
-        rt.alloc(),
-        &[0, 0x53, 0x24, 0x45],
-        &[0, 0x53, 0x24, 0x45],
-    )?;
-    again(
-        &rt,
-        rt.alloc(),
-        &[0xc1, 5, 2, 0xa1, 1, 0x6b, 0x43],
-        &[0xc1, 5, 2, 0xa1, 1, 0x6b, 0x43],
-    )?;
-    again(
-        &rt,
-        rt.alloc(),
-        &[0xe0, 7, 2, 0xa3, 1, 0x78, 2, 0x79, 0x7a],
-        &[0xe0, 7, 2, 0xa3, 1, 0x78, 2, 0x79, 0x7a],
-    )?;
-    again(&rt, rt.alloc(), &[0xe0, 2, 0, 0xa3], &[0xe0, 2, 0, 0xa3])?;
-    again(&rt, rt.alloc(), &[0xe0, 1, 0], &[0xe0, 2, 0, 0x40])
+        7,
+        octets,
+        b"\x41\x42\x43\x54\xff\x55\x80\x45\xe0\x02\x00\x40",
+    )
+}
+
+// 256 octets, whose size takes four
+#[test]
+fn long(rt: HostRuntime) -> Result<(), Fail> {
+    let mut octets = vec![in rt.alloc(); 0xb0, 0, 0, 1, 0]?;
+    for _ in 0..=255u8 {
+        octets.push(7)?;
+    }
+    all_again(&rt, rt.alloc(), 1, &octets, &octets)
 }
 
 #[test]
 fn faults(rt: HostRuntime) {
-    assert!(rt; refused(rt.alloc(), &[]));
-    assert!(rt; refused(rt.alloc(), &[0xa1, 3, 0x61]));
-    assert!(rt; refused(rt.alloc(), &[0x56, 2]));
-    assert!(rt; refused(rt.alloc(), &[0xc0, 5, 2, 0x52, 1, 0x41, 0x40]));
+    assert!(rt; is_refused(rt.alloc(), &[]));
+    assert!(rt; is_refused(rt.alloc(), &[0xa1, 3, 0x61]));
+    assert!(rt; is_refused(rt.alloc(), &[0x56, 2]));
+    assert!(rt; is_refused(rt.alloc(), &[0xc0, 5, 2, 0x52, 1, 0x41, 0x40]));
 }
 
 // 32 lists, each the only item of the next outer one, and 33.
@@ -105,93 +111,68 @@ fn deep(rt: HostRuntime) -> Result<(), Fail> {
         outer.extend_from_slice(&octets)?;
         octets = outer;
     }
-    again(&rt, rt.alloc(), &octets, &octets)?;
+    all_again(&rt, rt.alloc(), 1, &octets, &octets)?;
     let mut outer = vec![in rt.alloc(); 0xc0, 95, 1]?;
     outer.extend_from_slice(&octets)?;
-    assert!(rt; refused(rt.alloc(), &outer));
+    assert!(rt; is_refused(rt.alloc(), &outer));
     Ok(())
 }
 
-// Each typed field as it is read in place and written again.
+/// Whether the values in front are equal, however they are spelled.
+fn are_equal(alloc: Global, octets: &[u8], others: &[u8]) -> Result<bool, Fail> {
+    let (value, _) = read_within(alloc, 2, octets)?;
+    let (other, _) = read_within(alloc, 2, others)?;
+    let equal = value == other;
+    drop(value);
+    drop(other);
+    Ok(equal)
+}
+
 #[test]
-fn fields(rt: HostRuntime) -> Result<(), Fail> {
-    assert_eq!(rt; read_null(&[0x40, 9]), Some(1));
-    assert_eq!(rt; read_boolean(&[0x56, 1]), Some((true, 2)));
-    assert_eq!(rt; read_boolean(&[0x56, 2]), None);
-    assert_eq!(rt; read_ubyte(&[0x50, 7]), Some((7, 2)));
-    assert_eq!(rt; read_ushort(&[0x60, 1, 2]), Some((258, 3)));
-    assert_eq!(rt; read_uint(&[0x43]), Some((0, 1)));
-    assert_eq!(rt; read_uint(&[0x52, 0xff]), Some((255, 2)));
-    assert_eq!(rt; read_uint(&[0x70, 0, 0, 1, 0]), Some((256, 5)));
-    assert_eq!(rt; read_uint(&[0x53, 1]), None);
-    assert_eq!(rt; read_ulong(&[0x80, 0, 0, 0, 0, 0, 0, 1, 0]), Some((256, 9)));
-    assert_eq!(rt; read_binary(&[0xa0, 1, 9]).map(|x| x.1), Some(3));
-    assert_eq!(rt; read_string(&[0xa1, 2, 0xc3, 0xa9]).map(|x| x.1), Some(4));
-    assert_eq!(rt; read_string(&[0xa1, 1, 0xff]).map(|x| x.1), None);
-    assert_eq!(rt; read_symbol(&[0xa3, 1, 0x61]).map(|x| x.1), Some(3));
-    assert_eq!(rt; read_symbol(&[0xa3, 1, 0x80]).map(|x| x.1), None);
-    assert_eq!(rt;
-        read_descriptor(&[0, 0x53, 0x24, 0x45]).map(|x| x.1),
-        Some(3)
-    );
-    assert_eq!(rt; skip_value(&[0xc0, 4, 2, 0x52, 1, 0x41, 9]), Some(6));
-    assert_eq!(rt; skip_within(1, &[0xc0, 2, 1, 0x40]), None);
-    assert_eq!(rt;
-        read_list_head(&[0xc0, 4, 2, 0x52, 1, 0x41]),
-        Some(ListHead {
-            count: 2,
-            start: 3,
-            end: 6
-        })
-    );
-    let mut out = Vec::new(rt.alloc());
-    write_null(&mut out)?;
-    write_boolean(&mut out, true)?;
-    write_ubyte(&mut out, 7)?;
-    write_ushort(&mut out, 258)?;
-    write_uint(&mut out, 255)?;
-    write_ulong(&mut out, 36)?;
-    assert_eq!(rt;
-        out.as_slice(),
-        [0x40, 0x41, 0x50, 7, 0x60, 1, 2, 0x52, 0xff, 0x53, 0x24].as_slice()
-    );
-    assert_eq!(rt; value_size(&Value::Uint(255)), Some(2));
+fn equal_values(rt: HostRuntime) -> Result<(), Fail> {
+    let list = &[0xc0, 4, 2, 0x52, 1, 0x41];
+    let long = &[0xd0, 0, 0, 0, 11, 0, 0, 0, 2, 0x70, 0, 0, 0, 1, 0x56, 1];
+    assert!(rt; are_equal(rt.alloc(), list, long)?);
+    assert!(rt; !are_equal(rt.alloc(), list, &[0xc0, 4, 2, 0x52, 1, 0x42])?);
+    assert!(rt; !are_equal(rt.alloc(), &[0x52, 1], &[0x53, 1])?);
     Ok(())
 }
 
-// Octets, texts and what stands in front of a list's items, behind one another.
+// Texts, boxes and lists: made, copied and looked at.
 #[test]
-fn written(rt: HostRuntime) -> Result<(), Fail> {
-    let mut out = Vec::new(rt.alloc());
-    write_binary(&mut out, &[1, 2])?;
-    write_string(&mut out, "\u{e9}")?;
-    write_symbol(&mut out, "x")?;
-    write_list_head(&mut out, 2, 3)?;
-    write_uint(&mut out, 1)?;
-    write_boolean(&mut out, true)?;
-    assert_eq!(rt;
-        out.as_slice(),
-        [
-            0xa0, 2, 1, 2, 0xa1, 2, 0xc3, 0xa9, 0xa3, 1, 0x78, 0xc0, 4, 2, 0x52, 1, 0x41
-        ]
-        .as_slice()
-    );
+fn texts(rt: HostRuntime) -> Result<(), Fail> {
+    let text = Text::new(rt.alloc(), "q")?;
+    let copy = text.clone()?;
+    assert!(rt; copy == text);
+    assert_eq!(rt; copy.as_str(), "q");
+    assert!(rt; copy != Text::new(rt.alloc(), "p")?);
     Ok(())
 }
 
 #[test]
-fn sizes(rt: HostRuntime) {
-    assert_eq!(rt; uint_size(0), 1);
-    assert_eq!(rt; uint_size(255), 2);
-    assert_eq!(rt; uint_size(256), 5);
-    assert_eq!(rt; ulong_size(0), 1);
-    assert_eq!(rt; ulong_size(36), 2);
-    assert_eq!(rt; ulong_size(256), 9);
+fn boxes(rt: HostRuntime) -> Result<(), Fail> {
+    let boxed = Boxed::new(rt.alloc(), 7u32)?;
+    let copy = boxed.clone()?;
+    assert!(rt; copy == boxed);
+    assert_eq!(rt; copy.into_inner(), 7);
+    Ok(())
+}
+
+#[test]
+fn lists(rt: HostRuntime) -> Result<(), Fail> {
+    let mut items = Items::new(rt.alloc());
+    for n in [2u32, 3] {
+        items.push(n)?;
+    }
+    let copy = items.clone()?;
+    assert!(rt; copy == items);
+    assert_eq!(rt; copy.iter().copied().max(), Some(3));
+    assert_eq!(rt; copy.len(), 2);
+    Ok(())
 }
 
 #[test]
 fn tags(rt: HostRuntime) -> Result<(), Fail> {
-    assert!(rt; Tag::new(&[]).is_some());
     assert!(rt; Tag::new(&[1; 32]).is_some());
     assert!(rt; Tag::new(&[1; 33]).is_none());
     assert_eq!(rt; Tag::new(&[1, 2]), Tag::new(&[1, 2]));
@@ -202,54 +183,123 @@ fn tags(rt: HostRuntime) -> Result<(), Fail> {
     Ok(())
 }
 
-// A copy is equal, by what it is written as.
+// Fields of one type, read in place.
 #[test]
-fn copies(rt: HostRuntime) -> Result<(), Fail> {
-    let (value, _) = read_value(rt.alloc(), &[0xc0, 4, 2, 0x52, 1, 0x41])?;
-    let copy = value.clone()?;
-    let mut out = Vec::new(rt.alloc());
-    write_value(&copy, &mut out)?;
-    assert_eq!(rt; out.as_slice(), [0xc0, 4, 2, 0x52, 1, 0x41].as_slice());
-    Ok(())
-}
-
-// Equal by what they are, however they were spelled.
-#[test]
-fn equal(rt: HostRuntime) -> Result<(), Fail> {
-    let (short, _) = read_value(rt.alloc(), &[0xc0, 4, 2, 0x52, 1, 0x41])?;
-    let (long, _) = read_value(
-        rt.alloc(),
-        &[0xd0, 0, 0, 0, 11, 0, 0, 0, 2, 0x70, 0, 0, 0, 1, 0x56, 1],
-    )?;
-    assert!(rt; short == long);
-    let (other, _) = read_value(rt.alloc(), &[0xc0, 4, 2, 0x52, 1, 0x42])?;
-    assert!(rt; short != other);
-    assert!(rt; Value::Uint(1) != Value::Ulong(1));
-    let text = Text::new(rt.alloc(), "q")?;
-    assert!(rt; text == text.clone()?);
-    assert!(rt; Value::Str(text) != Value::Str(Text::new(rt.alloc(), "p")?));
-    Ok(())
+fn fields(rt: HostRuntime) {
+    assert_eq!(rt; read_null(&[0x40, 9]), Some(1));
+    assert_eq!(rt; read_boolean(&[0x56, 1]), Some((true, 2)));
+    assert_eq!(rt; read_ubyte(&[0x50, 7]), Some((7, 2)));
+    assert_eq!(rt; read_ushort(&[0x60, 1, 2]), Some((258, 3)));
+    assert_eq!(rt; read_ulong(&[0x80, 0, 0, 0, 0, 0, 0, 1, 0]), Some((256, 9)));
 }
 
 #[test]
-fn not_writable(rt: HostRuntime) -> Result<(), Fail> {
+fn uints(rt: HostRuntime) {
+    for (octets, found) in [
+        (&[0x43, 9, 9, 9, 9], Some((0, 1))),
+        (&[0x52, 0xff, 9, 9, 9], Some((255, 2))),
+        (&[0x70, 0, 0, 1, 0], Some((256, 5))),
+        (&[0x53, 1, 9, 9, 9], None),
+    ] {
+        assert_eq!(rt; read_uint(octets), found);
+    }
+}
+
+#[test]
+fn runs(rt: HostRuntime) {
+    assert_eq!(rt; read_binary(&[0xa0, 1, 9]).map(|x| x.1), Some(3));
+    assert_eq!(rt; read_string(&[0xa1, 2, 0xc3, 0xa9]).map(|x| x.1), Some(4));
+    assert_eq!(rt; read_string(&[0xa1, 1, 0xff]).map(|x| x.1), None);
+    assert_eq!(rt; read_symbol(&[0xa3, 1, 0x61]).map(|x| x.1), Some(3));
+    assert_eq!(rt; read_symbol(&[0xa3, 1, 0x80]).map(|x| x.1), None);
+}
+
+#[test]
+fn heads(rt: HostRuntime) {
+    let list = &[0xc0, 4, 2, 0x52, 1, 0x41, 9];
+    assert_eq!(rt; skip_value(list), Some(6));
+    assert_eq!(rt; skip_within(1, list), None);
+    let head = ListHead {
+        count: 2,
+        start: 3,
+        end: 6,
+    };
+    assert_eq!(rt; read_list_head(list), Some(head));
+    assert_eq!(rt;
+        read_descriptor(&[0, 0x53, 0x24, 0x45]).map(|x| x.1),
+        Some(3)
+    );
+}
+
+// Fields of one type, written behind one another.
+#[test]
+fn written_fields(rt: HostRuntime) -> Result<(), Fail> {
     let mut out = Vec::new(rt.alloc());
+    write_null(&mut out)?;
+    write_boolean(&mut out, true)?;
+    write_ubyte(&mut out, 7)?;
+    write_ushort(&mut out, 258)?;
+    write_uint(&mut out, 255)?;
+    write_ulong(&mut out, 36)?;
+    assert_eq!(rt;
+        out.as_slice(),
+        b"\x40\x41\x50\x07\x60\x01\x02\x52\xff\x53\x24".as_slice()
+    );
+    Ok(())
+}
+
+// A value and a map, written in place.
+#[test]
+fn appended(rt: HostRuntime) -> Result<(), Fail> {
+    let mut out = Vec::new(rt.alloc());
+    append_value(&Value::Uint(1), &mut out)?;
+    append_map(&[(Value::Uint(2), Value::Null)], &mut out)?;
+    assert_eq!(rt;
+        out.as_slice(),
+        b"\x52\x01\xc1\x04\x02\x52\x02\x40".as_slice()
+    );
+    Ok(())
+}
+
+#[test]
+fn sizes(rt: HostRuntime) {
+    for (n, size) in [(0, 1), (36, 2), (255, 2)] {
+        assert_eq!(rt; uint_size(n), size);
+        assert_eq!(rt; ulong_size(u64::from(n)), size);
+    }
+    assert_eq!(rt; (uint_size(256), ulong_size(256)), (5, 9));
+    assert_eq!(rt; value_size(&Value::Uint(255)), Some(2));
+}
+
+fn is_not_writable(alloc: Global, value: &Value) -> bool {
+    let mut out = Vec::new(alloc);
+    write_value(value, &mut out) == Err(WriteFault::NotWritable) && out.is_empty()
+}
+
+#[test]
+fn array_of_other_elements(rt: HostRuntime) -> Result<(), Fail> {
     let mut items = Items::new(rt.alloc());
     items.push(Value::Uint(300))?;
-    let small = Value::Array(0x52, items);
-    assert_eq!(rt; write_value(&small, &mut out), Err(WriteFault::NotWritable));
-    let symbol = Value::Symbol(Text::new(rt.alloc(), "\u{e9}")?);
-    assert_eq!(rt;
-        write_value(&symbol, &mut out),
-        Err(WriteFault::NotWritable)
-    );
-    let mut deep = Value::List(Items::new(rt.alloc()));
+    assert!(rt; is_not_writable(rt.alloc(), &Value::Array(0x52, items)));
+    Ok(())
+}
+
+#[test]
+fn symbol_past_ascii(rt: HostRuntime) -> Result<(), Fail> {
+    let text = Text::new(rt.alloc(), "\u{e9}")?;
+    assert!(rt; is_not_writable(rt.alloc(), &Value::Symbol(text)));
+    Ok(())
+}
+
+#[test]
+fn too_deep(rt: HostRuntime) -> Result<(), Fail> {
+    let mut value = Value::List(Items::new(rt.alloc()));
     for _ in 0..32 {
         let mut items = Items::new(rt.alloc());
-        items.push(deep)?;
-        deep = Value::List(items);
+        items.push(value)?;
+        value = Value::List(items);
     }
-    assert_eq!(rt; write_value(&deep, &mut out), Err(WriteFault::NotWritable));
-    assert_eq!(rt; out.len(), 0);
+    assert!(rt; is_not_writable(rt.alloc(), &value));
+    drop(value);
     Ok(())
 }

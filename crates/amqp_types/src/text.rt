@@ -1,4 +1,4 @@
-//! A text.
+//! A text that contracts see as its octets.
 ghost use Rattle.std.specs.Prelude.{◌≡◌, IfOk, string_bytes};
 
 use std::alloc::{AllocError, Global};

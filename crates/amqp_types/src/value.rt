@@ -7,6 +7,10 @@ use crate::text::Text;
 use bytes::Bytes;
 use std::alloc::AllocError;
 
+/// How deep values are nested at most that are read and written. A value without parts is nested 1 deep, one with parts by 1 more than the
+/// deepest of these.
+pub const MAX_DEPTH: u8 = 32;
+
 /// Any AMQP value (OASIS AMQP 1.0, part 1, section 1.6).
 ///
 /// Floating-point and decimal numbers are kept as bits, a timestamp in milliseconds since the Unix epoch, and a map's pairs as they lie, also

@@ -1,8 +1,7 @@
 //! Values that lie inside of others, sized and written in place.
 ghost use Rattle.std.specs.Prelude.{◌≡◌, None, nat_le, if◌then◌else◌};
 ghost use Rattle.amqp_types.specs.Datum.{map, depth_of};
-ghost use Rattle.amqp_types.specs.Canon.{part_form, capped};
-ghost use Rattle.amqp_types.specs.Forms.{Writes};
+ghost use Rattle.amqp_types.specs.Canon.{Writes, part_form, capped};
 ghost use Rattle.amqp_types.specs.Grammar.{is_ascii};
 ghost use Rattle.amqp_types.specs.View.{view, views_of_pairs};
 
@@ -36,7 +35,7 @@ pub fn map_size_within(depth: u8, pairs: &[(Value, Value)]) -> Option<u64>
 }
 
 /// Writes the canonical spelling of the value at the end, without a test of its depth and into no room but that of `out`. On an error some of
-/// the octets may stand there.
+/// the octets may stand there. Room is taken as parts are written, so `NoMemory` may come where a later part has no spelling.
 pub fn append_value(value: &Value, out: &mut Vec<u8>) -> Result<(), WriteFault>
     ensures { Writes (part_form None (view value.now)) result out.old.items out.new.items }
 {

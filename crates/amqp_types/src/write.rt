@@ -2,8 +2,7 @@
 ghost use Rattle.std.specs.Prelude.{◌≡◌, ◌<◌, ◌≤◌, ◌++◌, ◌↔◌, ℕ, List, length, All, None, Some, Err, IsTrue, OnOk, OnErr};
 ghost use Rattle.amqp_types.specs.Datum.{Datum, depth_of, greatest_depth_of};
 ghost use Rattle.amqp_types.specs.Grammar.{Spells, BeginsWithValue};
-ghost use Rattle.amqp_types.specs.Canon.{part_form, parts_form, canon, capped, AppendsCanon};
-ghost use Rattle.amqp_types.specs.Forms.{Writes};
+ghost use Rattle.amqp_types.specs.Canon.{Writes, part_form, parts_form, canon, capped, AppendsCanon};
 ghost use Rattle.amqp_types.specs.View.{view, views, views_of_pairs};
 ghost use Rattle.amqp_types.specs.Shape.{datum_of};
 ghost use Rattle.amqp_types.specs.Shortest.{HasNoEmptyNulls};
@@ -11,7 +10,7 @@ ghost use Rattle.amqp_types.specs.Shortest.{HasNoEmptyNulls};
 use crate::class::{Kind, Run};
 use crate::fault::WriteFault;
 use crate::forms::{Head, put_spelled_head, spelled_len};
-use crate::value::Value;
+use crate::value::{MAX_DEPTH, Value};
 
 /// A value as the writer sees it: by its sort and not by its type.
 enum Shape<'a> {
@@ -217,7 +216,7 @@ pub(crate) fn pairs_are_within(pairs: &[(Value, Value)], depth: u8) -> bool
 pub fn value_size(value: &Value) -> Option<u64>
     ensures { result ≡ capped (canon (view value.now)) }
 {
-    if is_within(value, 32) {
+    if is_within(value, MAX_DEPTH) {
         part_len(value, None)
     } else {
         None

@@ -1,8 +1,7 @@
 use Rattle.std.proofs.Common.{◌*◌, length, arith, subst, refl, sym, ◌∙◌, None, Some}
 use Rattle.std.proofs.lemmas.Result.{err_from_is_err_and}
 use Rattle.amqp_types.specs.Datum.{Datum, octets, list, map, array}
-use Rattle.amqp_types.specs.Canon.{octets_draft, list_draft, map_draft, array_draft, parts_form, part_form}
-use Rattle.amqp_types.specs.Forms.{Writes}
+use Rattle.amqp_types.specs.Canon.{Writes, octets_draft, list_draft, map_draft, array_draft, parts_form, part_form}
 use Rattle.amqp_types.specs.View.{view, views, views_of_pairs}
 use Rattle.amqp_types.specs.declared.forms.Head.TheVariants as head
 use Rattle.amqp_types.proofs.Spelled.{fails, capped_some, octets_head_of, list_head_of, map_head_of, array_head_of, list_drafted, map_drafted, array_drafted, fails_head, fails_described_head, writes_number, put_content, put_parts_behind, described_behind}
