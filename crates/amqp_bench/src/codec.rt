@@ -2,7 +2,7 @@
 
 use amqp_frames::{
     DispositionBody, FlowBody, Frame, FrameFault, Framer, Performative, Role, TransferBody,
-    write_frame,
+    append_frame, write_frame,
 };
 use amqp_types::Tag;
 use bytes::Bytes;
@@ -13,57 +13,80 @@ use std::time::{Duration, Instant};
 /// The longest frame.
 const MAX_FRAME: u32 = 65536;
 
-/// Writes and reads each of the three frames so many times.
-pub fn run_codec<R>(rt: &R, rounds: u32) -> anyhow::Result<()>
+/// How many octets of frames stand behind one another before they are let go.
+const BATCH: usize = 60000;
+
+/// Writes and reads each of the three frames so many times, or does one of the six alone: 1 a transfer written, 2 read, 3 and 4 a flow, 5 and 6
+/// a disposition.
+pub fn run_codec<R>(rt: &R, rounds: u32, part: Option<u32>) -> anyhow::Result<()>
 where
     R: AllocGlobal + Print + Eprint + Clock,
 {
-    measure_transfer(rt, rounds)?;
-    measure_flow(rt, rounds)?;
-    measure_disposition(rt, rounds)
+    let wanted = |number: u32| part.is_none() || part == Some(number);
+    measure_transfer(rt, rounds, wanted(1), wanted(2))?;
+    measure_flow(rt, rounds, wanted(3), wanted(4))?;
+    measure_disposition(rt, rounds, wanted(5), wanted(6))
 }
 
-fn measure_transfer<R>(rt: &R, rounds: u32) -> anyhow::Result<()>
+fn measure_transfer<R>(rt: &R, rounds: u32, writes: bool, reads: bool) -> anyhow::Result<()>
 where
     R: AllocGlobal + Print + Eprint + Clock,
 {
     let frame = transfer(rt.alloc())?;
-    let measured = measure(rt, "transfer", &frame, rounds);
+    let measured = measure(rt, "transfer", &frame, rounds, writes, reads);
     drop(frame);
     measured
 }
 
-fn measure_flow<R>(rt: &R, rounds: u32) -> anyhow::Result<()>
+fn measure_flow<R>(rt: &R, rounds: u32, writes: bool, reads: bool) -> anyhow::Result<()>
 where
     R: AllocGlobal + Print + Eprint + Clock,
 {
     let frame = flow();
-    let measured = measure(rt, "flow", &frame, rounds);
+    let measured = measure(rt, "flow", &frame, rounds, writes, reads);
     drop(frame);
     measured
 }
 
-fn measure_disposition<R>(rt: &R, rounds: u32) -> anyhow::Result<()>
+fn measure_disposition<R>(rt: &R, rounds: u32, writes: bool, reads: bool) -> anyhow::Result<()>
 where
     R: AllocGlobal + Print + Eprint + Clock,
 {
     let frame = disposition();
-    let measured = measure(rt, "disposition", &frame, rounds);
+    let measured = measure(rt, "disposition", &frame, rounds, writes, reads);
     drop(frame);
     measured
 }
 
-fn measure<R>(rt: &R, name: &str, frame: &Frame, rounds: u32) -> anyhow::Result<()>
+fn measure<R>(
+    rt: &R,
+    name: &str,
+    frame: &Frame,
+    rounds: u32,
+    writes: bool,
+    reads: bool,
+) -> anyhow::Result<()>
 where
     R: AllocGlobal + Print + Eprint + Clock,
 {
-    let alloc = rt.alloc();
+    if writes {
+        measure_writing(rt, name, frame, rounds)?;
+    }
+    if reads {
+        measure_reading(rt, name, frame, rounds)?;
+    }
+    Ok(())
+}
+
+fn measure_writing<R>(rt: &R, name: &str, frame: &Frame, rounds: u32) -> anyhow::Result<()>
+where
+    R: AllocGlobal + Print + Eprint + Clock,
+{
     let begun = Instant::now(rt)?;
-    let written = write_many(alloc, frame, rounds)?;
+    let written = write_many(rt.alloc(), frame, rounds)?;
     let took = begun.elapsed(rt)?;
     println!(rt; "{name} written {rounds} octets {written}")?;
-    tell(rt, name, "written", rounds, took)?;
-    measure_reading(rt, name, frame, rounds)
+    tell(rt, name, "written", rounds, took)
 }
 
 fn measure_reading<R>(rt: &R, name: &str, frame: &Frame, rounds: u32) -> anyhow::Result<()>
@@ -73,47 +96,55 @@ where
     let alloc = rt.alloc();
     let octets = write_frame(alloc, frame, MAX_FRAME)?;
     let begun = Instant::now(rt)?;
-    let (frames, payload) = read_many(alloc, octets.as_slice(), rounds)?;
+    let (frames, payload) = read_many(alloc, &octets, rounds)?;
     let took = begun.elapsed(rt)?;
     println!(rt; "{name} read {frames} payload {payload}")?;
     tell(rt, name, "read", rounds, took)
 }
 
-/// How many octets were written in all.
+/// How many octets were written in all, one frame behind the other up to a batch.
 fn write_many(alloc: Global, frame: &Frame, rounds: u32) -> anyhow::Result<u64> {
     let mut octets: u64 = 0;
+    let mut batch: Vec<u8> = Vec::new(alloc);
     for _ in 0..rounds {
-        let written = write_frame(alloc, frame, MAX_FRAME)?;
-        octets = octets.wrapping_add(written.len() as u64);
+        append_frame(frame, MAX_FRAME, &mut batch)?;
+        if batch.len() > BATCH {
+            octets = octets.wrapping_add(batch.len() as u64);
+            batch.clear();
+        }
     }
-    Ok(octets)
+    Ok(octets.wrapping_add(batch.len() as u64))
 }
 
-/// How many frames were read, and how many octets of payload they have.
-fn read_many(alloc: Global, octets: &[u8], rounds: u32) -> anyhow::Result<(u64, u64)> {
+/// How many frames were read into one slot, and how many octets of payload they have.
+fn read_many(alloc: Global, octets: &Bytes, rounds: u32) -> anyhow::Result<(u64, u64)> {
+    let mut slot = Frame {
+        channel: 0,
+        body: None,
+        payload: Bytes::new(),
+    };
+    let read = read_slot(alloc, octets, rounds, &mut slot);
+    drop(slot);
+    Ok(read?)
+}
+
+fn read_slot(
+    alloc: Global,
+    octets: &Bytes,
+    rounds: u32,
+    slot: &mut Frame,
+) -> Result<(u64, u64), FrameFault> {
     let mut framer = Framer::new(alloc, MAX_FRAME);
     let mut frames: u64 = 0;
     let mut payload: u64 = 0;
     for _ in 0..rounds {
-        if let Some(size) = read_once(&mut framer, octets)? {
+        let (_, is_whole) = framer.feed_shared(octets, 0, slot)?;
+        if is_whole {
             frames = frames.wrapping_add(1);
-            payload = payload.wrapping_add(size);
+            payload = payload.wrapping_add(slot.payload.len() as u64);
         }
     }
     Ok((frames, payload))
-}
-
-/// How many octets of payload the frame has that these octets are.
-fn read_once(framer: &mut Framer, octets: &[u8]) -> Result<Option<u64>, FrameFault> {
-    match framer.feed(octets) {
-        Ok((_, Some(frame))) => {
-            let size = frame.payload.len() as u64;
-            drop(frame);
-            Ok(Some(size))
-        }
-        Ok((_, None)) => Ok(None),
-        Err(fault) => Err(fault),
-    }
 }
 
 /// Tells the time of one frame, and how many there are in a second.

@@ -1,4 +1,4 @@
-//! Measures the codec: `amqp_bench codec --rounds N`. Standard output has counts, the same in each run; standard error has times.
+//! Measures the codec: `amqp_bench codec --rounds N --part K`. Standard output has counts, the same in each run; standard error has times.
 #![tactic(auto)]
 
 mod codec;
@@ -31,8 +31,8 @@ where
 {
     let words: Vec<String> = env::args(rt)?.collect(rt.alloc())?;
     match read_rounds(rt.alloc(), words.as_slice()) {
-        Ok(rounds) => {
-            run_codec(rt, rounds)?;
+        Ok((rounds, part)) => {
+            run_codec(rt, rounds, part)?;
             Ok(ExitCode::SUCCESS)
         }
         Err(error) => {
@@ -42,15 +42,17 @@ where
     }
 }
 
-/// The rounds that the words ask for, the first of which is the program's name.
-fn read_rounds<'a, S: AsStr>(alloc: Global, words: &'a [S]) -> Result<u32, Error> {
+/// The rounds and the part that the words ask for, the first of which is the program's name.
+fn read_rounds<'a, S: AsStr>(alloc: Global, words: &'a [S]) -> Result<(u32, Option<u32>), Error> {
     let mut command = program(alloc)?;
     let matches = command.try_get_matches_from_mut(words)?;
-    let rounds = match matches.subcommand_matches("codec") {
-        Some(options) => options.get_one::<u32>("rounds"),
-        None => None,
-    };
-    Ok(rounds.unwrap_or(ROUNDS))
+    match matches.subcommand_matches("codec") {
+        Some(options) => {
+            let rounds = options.get_one::<u32>("rounds");
+            Ok((rounds.unwrap_or(ROUNDS), options.get_one::<u32>("part")))
+        }
+        None => Ok((ROUNDS, None)),
+    }
 }
 
 fn program<'a>(alloc: Global) -> Result<Command<'a>, AllocError> {
@@ -60,9 +62,15 @@ fn program<'a>(alloc: Global) -> Result<Command<'a>, AllocError> {
         .value_parser(value_parser!(u32).range(1..=100000000))
         .default_value("100000")
         .help("How often each frame is written and read");
+    let part = Arg::new(alloc, "part")
+        .long("part")
+        .value_name("K")
+        .value_parser(value_parser!(u32).range(1..=6))
+        .help("One way alone: 1 a transfer written, 2 read, 3 and 4 a flow, 5 and 6 a disposition");
     let codec = Command::new(alloc, "codec")
         .about("Writes and reads transfer, flow and disposition frames in memory")
-        .arg(rounds)?;
+        .arg(rounds)?
+        .arg(part)?;
     Command::new(alloc, "amqp_bench")
         .about("Measures one end of an AMQP 1.0 connection")
         .subcommand_required(true)

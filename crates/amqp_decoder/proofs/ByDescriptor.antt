@@ -1,13 +1,13 @@
 -- A performative is read by its descriptor.
 use Rattle.std.proofs.Common.{◌≡◌, ◌≤◌, ℕ, List, ◌++◌, length, take, drop, refl, sym}
-use Rattle.std.specs.Prelude.{IfOk, Result, Ok, Err, None}
+use Rattle.std.specs.Prelude.{IfOk, Result, Ok, Err, Option, Some, None}
 use Rattle.std.proofs.lemmas.List.{take-append-drop}
 use Rattle.amqp_types.specs.Datum.{Datum}
 use Rattle.amqp_decoder.specs.declared.fields.Fields.{Fields as Cursor}
 use Rattle.amqp_performatives.specs.declared.performative.Performative.{Performative}
 use Rattle.amqp_performatives.specs.declared.performative.Performative.TheVariants.{Open, Begin, Attach, Flow, Transfer, Disposition, Detach, End, Close}
-use Rattle.amqp_decoder.specs.declared.reading.BodyFault.{BodyFault}
-use Rattle.amqp_decoder.specs.declared.reading.BodyFault.TheVariants.{NoBody, NoMemory}
+use Rattle.amqp_decoder.specs.declared.fault.BodyFault.{BodyFault}
+use Rattle.amqp_decoder.specs.declared.fault.BodyFault.TheVariants.{NoBody, NoMemory}
 use Rattle.amqp_performatives.specs.Part.{IsDescriptor}
 use Rattle.amqp_performatives.specs.Bodies.{descriptor_of, fields_of, open_fields, begin_fields, attach_fields, flow_fields, transfer_fields, disposition_fields, detach_fields, end_fields, close_fields}
 use Rattle.amqp_performatives.specs.Fair.{is_fair, is_fair_open, is_fair_begin, is_fair_attach}
@@ -15,6 +15,7 @@ use Rattle.amqp_performatives.specs.Spelling.{IsPerformative}
 use Rattle.amqp_decoder.specs.Opening.{Opens, NotOpened}
 use Rattle.amqp_decoder.specs.Parts.{ReadsAll}
 use Rattle.amqp_decoder.specs.ReadPerformatives.{open_type, begin_type, attach_type, flow_type, transfer_type, disposition_type, detach_type, end_type, close_type, IsDescribed, ReadsDescribed, ReadsFront}
+use Rattle.amqp_decoder.specs.Slots.{LeavesDescribed, LeavesFront}
 use Rattle.amqp_decoder.proofs.StateTypes.{apart}
 
 pub none_transfer : (d : Datum) (from : Cursor) → IsDescriptor transfer_type d → ReadsAll transfer_fields (λ b. is_fair (Transfer b)) from None → (p : Performative) → IsDescribed d from p → ⊥
@@ -163,3 +164,7 @@ pub as_memory : (os : List ℕ) (r : Result (Performative × ℕ) BodyFault) →
 as_memory os (Ok x) h e = absurd cc
 as_memory os (Err NoBody) h e = absurd cc
 as_memory os (Err NoMemory) h e = h
+
+pub front_left : (os : List ℕ) (d : Datum) (from : Cursor) (used : ℕ) → OpensFront os d from used → (u : Unit {0}) (slot : Option Performative) → LeavesDescribed d from (Ok u) slot → LeavesFront os (Ok used) slot
+front_left os d from used o u (Some p) h = front_found os d from used o p h
+front_left os d from used o u None h = h

@@ -4,7 +4,7 @@ use Rattle.std.specs.Prelude.{IsTrue}
 use Rattle.std.proofs.lemmas.Bool.{eqb-true}
 use Rattle.std.proofs.lemmas.List.{nil_from_length, length-append, length-take-le, take_all, drop-drop, take-append-drop}
 use Rattle.std.proofs.Math.Seq.{take-add}
-use Rattle.std.proofs.lemmas.List.{drop-take}
+use Rattle.std.proofs.lemmas.List.{drop-take, drop_all}
 use Rattle.std.proofs.lemmas.Option.{some_pair_parts}
 use Rattle.std.proofs.Math.ListN.{length-drop}
 use Rattle.amqp_types.specs.declared.class.Class.{Class}
@@ -126,14 +126,10 @@ finds os count used content items within h i = record {
 taken : (used : ℕ) (os : List ℕ) → used ≤ length os → length (take used os) ≡ used
 taken used os h = length-take-le used os h
 
-pub finds_bare : (os : List ℕ) (count start end : ℕ) → IsListHead os count start end → end ≡ 1 → FindsItems os count [] 1
-finds_bare os count start end h e =
-    subst (λ (k : ℕ). FindsItems os count [] k) e
-    (finds os count end (drop start (take end os)) [] h.1 h.2 (record { bare = λ _. refl; more = λ n. absurd (n (taken end os h.1 ∙ e)) }))
-
-pub finds_items : (os : List ℕ) (count start end : ℕ) → IsListHead os count start end → (end ≡ 1 → ⊥) → (items : List ℕ) → items ≡ drop start (take end os) → FindsItems os count items end
-finds_items os count start end h n items e =
-    finds os count end (drop start (take end os)) items h.1 h.2 (record { bare = λ k. absurd (n (sym (taken end os h.1) ∙ k)); more = λ _. e })
+pub finds_items : (os : List ℕ) (count start end : ℕ) → IsListHead os count start end → (items : List ℕ) → items ≡ drop start (take end os) → FindsItems os count items end
+finds_items os count start end h items e =
+    let bare : end ≡ 1 → items ≡ [] = λ k. e ∙ drop_all start (take end os) (omega (arith, taken end os h.1, h.3 k)) in
+    finds os count end (drop start (take end os)) items h.1 h.2 (record { bare = λ k. bare (sym (taken end os h.1) ∙ k); more = λ _. e })
 
 pub cut_twice : (start end : ℕ) (os : List ℕ) → start ≤ end → take (end - start) (drop start os) ≡ drop start (take end os)
 cut_twice start end os h = let e : start + (end - start) ≡ end = omega arith in sym (drop-take start (end - start) os) ∙ ap (λ (k : ℕ). drop start (take k os)) e

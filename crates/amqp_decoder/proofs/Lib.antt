@@ -1,5 +1,9 @@
 pub mod FirstField
 pub mod SeenValues
+pub mod OneValue
+pub mod SameField
+pub mod SameBody
+pub mod OnePerformative
 pub mod DescribedLists
 pub mod Conjunctions
 pub mod ByDescriptor

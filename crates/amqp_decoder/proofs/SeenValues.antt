@@ -23,7 +23,7 @@ use Rattle.amqp_types.specs.Reading.{part_at}
 use Rattle.amqp_types.proofs.Laws.{read_is_spelled}
 use Rattle.amqp_decoder.specs.Borrowed.{value_in, all_read, datum_read, is_whole, datum_in, is_mapping, signed, number_value, octets_value, value_of, values_of, value_pairs_of}
 
-view_described : (a b : Value) → view (V.Described a b) ≡ described (view a) (view b)
+pub view_described : (a b : Value) → view (V.Described a b) ≡ described (view a) (view b)
 view_described a b = ap view (sym (rolls-Described a b)) ∙ fold-roll-Value Datum view_step (Value-F.Described a b)
 
 -- ---- numbers
@@ -76,16 +76,16 @@ not_not : (b : Bool) → not (not b) ≡ b
 not_not true = refl
 not_not false = refl
 
-number_fits : (class : Class) (k : Kind) (n : ℕ) (os : List ℕ) → IsNumberBody class k n os → IsTrue (fits k n)
+pub number_fits : (class : Class) (k : Kind) (n : ℕ) (os : List ℕ) → IsNumberBody class k n os → IsTrue (fits k n)
 number_fits (Class.Number k' w r) k n os h = h.3
 number_fits _ k n os h = absurd h
 
-list_parts : (class : Class) (count : ℕ) (P : List ℕ → Type 0) (os : List ℕ) → IsListBody class count P os → (count ≡ 0) ⊎ ((content : List ℕ) × P content)
+pub list_parts : (class : Class) (count : ℕ) (P : List ℕ → Type 0) (os : List ℕ) → IsListBody class count P os → (count ≡ 0) ⊎ ((content : List ℕ) × P content)
 list_parts Class.EmptyList count P os h = inl h.0
 list_parts (Class.List w) count P os h = inr (h.0, h.1)
 list_parts _ count P os h = absurd h
 
-map_parts : (class : Class) (count : ℕ) (P : List ℕ → Type 0) (os : List ℕ) → IsMapBody class count P os → IsTrue (is_even count) × (content : List ℕ) × P content
+pub map_parts : (class : Class) (count : ℕ) (P : List ℕ → Type 0) (os : List ℕ) → IsMapBody class count P os → IsTrue (is_even count) × (content : List ℕ) × P content
 map_parts (Class.Map w) count P os h = (h.0, h.1, h.2)
 map_parts _ count P os h = absurd h
 
@@ -93,17 +93,17 @@ content_parts : (code count : ℕ) (P : List ℕ → Type 0) (os : List ℕ) →
 content_parts code count P [] h = inl h.0
 content_parts code count P (c ∷ os) h = inr (os, h.2)
 
-array_parts : (class : Class) (code count : ℕ) (P : List ℕ → Type 0) (os : List ℕ) → IsArrayBody class code count P os → (count ≡ 0) ⊎ ((content : List ℕ) × P content)
+pub array_parts : (class : Class) (code count : ℕ) (P : List ℕ → Type 0) (os : List ℕ) → IsArrayBody class code count P os → (count ≡ 0) ⊎ ((content : List ℕ) × P content)
 array_parts (Class.Array w) code count P os h = content_parts code count P h.0 h.1
 array_parts _ code count P os h = absurd h
 
-record IsPair (P Q : List ℕ → Type 0) : Type 0 where
-  a : List ℕ
-  b : List ℕ
-  first : P a
-  second : Q b
+pub record IsPair (P Q : List ℕ → Type 0) : Type 0 where
+  pub a : List ℕ
+  pub b : List ℕ
+  pub first : P a
+  pub second : Q b
 
-described_parts : (class : Class) (P Q : List ℕ → Type 0) (os : List ℕ) → IsDescribedBody class P Q os → IsPair P Q
+pub described_parts : (class : Class) (P Q : List ℕ → Type 0) (os : List ℕ) → IsDescribedBody class P Q os → IsPair P Q
 described_parts Class.Described P Q os h = record { a = h.0; b = h.1; first = h.2; second = h.3 }
 described_parts _ P Q os h = absurd h
 

@@ -1,10 +1,12 @@
 -- What the private readers of performatives promise.
-use Rattle.std.specs.Prelude.{ℕ, ◌≡◌, ◌≤◌, IsTrue, Result, Ok, Err, List, ◌++◌, length, take, codes}
+use Rattle.std.specs.Prelude.{ℕ, ◌≡◌, ◌≤◌, IsTrue, Result, Ok, Err, List, ◌++◌, length, take}
 use Rattle.amqp_types.specs.Datum.{Datum}
 use Rattle.amqp_decoder.specs.declared.fields.Fields.{Fields as Cursor}
 use Rattle.amqp_performatives.specs.declared.performative.Performative.{Performative}
-use Rattle.amqp_decoder.specs.declared.reading.BodyFault.{BodyFault}
-use Rattle.amqp_decoder.specs.declared.reading.BodyFault.TheVariants.{NoBody, NoMemory}
+use Rattle.amqp_decoder.specs.declared.fault.BodyFault.{BodyFault}
+use Rattle.amqp_decoder.specs.declared.fault.BodyFault.TheVariants.{NoBody, NoMemory}
+use Rattle.amqp_performatives.specs.declared.composite.Composite.TheVariants as composite
+use Rattle.amqp_performatives.specs.Composite.{type_of}
 use Rattle.amqp_performatives.specs.Part.{IsDescriptor}
 use Rattle.amqp_performatives.specs.Bodies.{descriptor_of, fields_of}
 use Rattle.amqp_performatives.specs.Fair.{is_fair}
@@ -13,31 +15,31 @@ use Rattle.amqp_decoder.specs.Reading.{AreFields}
 
 -- the types of performatives: the number and the name of each descriptor
 abbrev pub open_type : ℕ × List ℕ
-open_type = (0x10, codes "amqp:open:list")
+open_type = type_of composite.Open
 
 abbrev pub begin_type : ℕ × List ℕ
-begin_type = (0x11, codes "amqp:begin:list")
+begin_type = type_of composite.Begin
 
 abbrev pub attach_type : ℕ × List ℕ
-attach_type = (0x12, codes "amqp:attach:list")
+attach_type = type_of composite.Attach
 
 abbrev pub flow_type : ℕ × List ℕ
-flow_type = (0x13, codes "amqp:flow:list")
+flow_type = type_of composite.Flow
 
 abbrev pub transfer_type : ℕ × List ℕ
-transfer_type = (0x14, codes "amqp:transfer:list")
+transfer_type = type_of composite.Transfer
 
 abbrev pub disposition_type : ℕ × List ℕ
-disposition_type = (0x15, codes "amqp:disposition:list")
+disposition_type = type_of composite.Disposition
 
 abbrev pub detach_type : ℕ × List ℕ
-detach_type = (0x16, codes "amqp:detach:list")
+detach_type = type_of composite.Detach
 
 abbrev pub end_type : ℕ × List ℕ
-end_type = (0x17, codes "amqp:end:list")
+end_type = type_of composite.End
 
 abbrev pub close_type : ℕ × List ℕ
-close_type = (0x18, codes "amqp:close:list")
+close_type = type_of composite.Close
 
 -- these are the performative's fields, behind its descriptor
 abbrev pub IsDescribed : Datum → Cursor → Performative → Type 0

@@ -12,7 +12,7 @@ use amqp_types::{
 #[derive(Clone, Copy)]
 pub(crate) struct Fields<'a> {
     /// How deep their values may be nested.
-    pub(crate) depth: u8,
+    pub(crate) depth: usize,
     /// How many there are. A field past them was left off.
     pub(crate) left: usize,
     pub(crate) octets: &'a [u8],
@@ -27,7 +27,7 @@ impl<'a> Fields<'a> {
     ghost use Rattle.amqp_decoder.specs.Reading.{Reads, ReadsAbsent, ReadsValue, every};
 
     /// The fields after the first one, which so many octets spell.
-    #[inline]
+    #[inline(always)]
     pub(crate) fn after(self, used: usize) -> Fields<'a>
         requires some { 1 ≤ self.left }
         requires within { used ≤ length self.octets.now }
@@ -41,7 +41,7 @@ impl<'a> Fields<'a> {
     }
 
     /// The fields after the first one, where that is left off or null.
-    #[inline]
+    #[inline(always)]
     pub(crate) fn absent(self) -> Option<Fields<'a>>
         ensures { ReadsAbsent self.entry result }
     {
@@ -55,7 +55,7 @@ impl<'a> Fields<'a> {
     }
 
     /// A uint that is mandatory.
-    #[inline]
+    #[inline(always)]
     pub(crate) fn required_uint(self) -> Option<(u32, Fields<'a>)>
         ensures { Reads uint every self.entry result }
     {
@@ -97,7 +97,7 @@ impl<'a> Fields<'a> {
     }
 
     /// A boolean that is mandatory.
-    #[inline]
+    #[inline(always)]
     fn required_boolean(self) -> Option<(bool, Fields<'a>)>
         ensures { Reads boolean every self.entry result }
     {
@@ -139,7 +139,7 @@ impl<'a> Fields<'a> {
     }
 
     /// A uint.
-    #[inline]
+    #[inline(always)]
     pub(crate) fn uint(self) -> Option<(Option<u32>, Fields<'a>)>
         ensures { Reads (optional uint) (where_present every) self.entry result }
     {
@@ -181,7 +181,7 @@ impl<'a> Fields<'a> {
     }
 
     /// A boolean.
-    #[inline]
+    #[inline(always)]
     pub(crate) fn boolean(self) -> Option<(Option<bool>, Fields<'a>)>
         ensures { Reads (optional boolean) (where_present every) self.entry result }
     {
@@ -209,7 +209,7 @@ impl<'a> Fields<'a> {
     }
 
     /// A settle mode that is there (part 2, 2.8.2 and 2.8.3): at most this number.
-    #[inline]
+    #[inline(always)]
     fn required_mode(self, most: u8) -> Option<(u8, Fields<'a>)>
         ensures { Reads ubyte (λ n. nat_le n most) self.entry result }
     {
@@ -227,7 +227,7 @@ impl<'a> Fields<'a> {
     }
 
     /// A settle mode: at most this number.
-    #[inline]
+    #[inline(always)]
     pub(crate) fn mode(self, most: u8) -> Option<(Option<u8>, Fields<'a>)>
         ensures { Reads (optional ubyte) (where_present (λ (n : ℕ). nat_le n most)) self.entry result }
     {
@@ -241,7 +241,7 @@ impl<'a> Fields<'a> {
     }
 
     /// A delivery tag that is there: a binary of at most 32 octets (part 2, 2.8.7).
-    #[inline]
+    #[inline(always)]
     fn required_tag(self) -> Option<(Tag, Fields<'a>)>
         ensures { Reads binary is_tag self.entry result }
     {
@@ -258,7 +258,7 @@ impl<'a> Fields<'a> {
     }
 
     /// A delivery tag.
-    #[inline]
+    #[inline(always)]
     pub(crate) fn tag(self) -> Option<(Option<Tag>, Fields<'a>)>
         ensures { Reads (optional binary) (where_present is_tag) self.entry result }
     {
@@ -272,7 +272,7 @@ impl<'a> Fields<'a> {
     }
 
     /// A role, which is mandatory (part 2, 2.8.1).
-    #[inline]
+    #[inline(always)]
     pub(crate) fn role(self) -> Option<(Role, Fields<'a>)>
         ensures { Reads role every self.entry result }
     {
@@ -290,7 +290,7 @@ impl<'a> Fields<'a> {
         if self.left == 0 {
             return None;
         }
-        match skip_within(self.depth, self.octets) {
+        match skip_within(self.depth as u8, self.octets) {
             Some(used) => Some((
                 ValueRef {
                     octets: &self.octets[..used],

@@ -3,15 +3,21 @@ ghost use Rattle.std.specs.Prelude.{◌≡◌, ◌≤◌, ◌++◌, ℕ, List, l
 ghost use Rattle.amqp_types.specs.Heads.{datum_of};
 ghost use Rattle.amqp_performatives.specs.declared.performative.Performative.{Performative};
 ghost use Rattle.amqp_performatives.specs.Spelling.{IsPerformative};
+ghost use Rattle.amqp_types.specs.declared.value.Value.{Value};
+ghost use Rattle.amqp_types.specs.Grammar.{Spells};
+ghost use Rattle.amqp_types.specs.View.{view};
 ghost use Rattle.amqp_decoder.specs.ReadPerformatives.{ReadsDescribed, ReadsFront};
+ghost use Rattle.amqp_decoder.specs.Slots.{LeavesDescribed, LeavesFront};
 
+use crate::fault::BodyFault;
 use crate::fields::Fields;
-use crate::opening::{names, open};
+use crate::opening::open;
 use crate::reading::{
-    BodyFault, read_close, read_detach, read_disposition, read_end, read_flow, read_transfer,
+    common_disposition, common_flow, common_transfer, read_close, read_detach, read_disposition,
+    read_end, read_flow, read_transfer,
 };
 use crate::setup::{read_attach, read_begin, read_open};
-use amqp_performatives::Performative;
+use amqp_performatives::{Composite, Performative};
 use amqp_types::Descriptor;
 use std::alloc::Global;
 
@@ -24,31 +30,31 @@ fn read_described(
     requires { 5 ≤ fields.depth }
     ensures { ReadsDescribed (datum_of descriptor.entry) fields.entry result }
 {
-    if names(descriptor, 0x14, "amqp:transfer:list") {
+    if Composite::Transfer.is_named(descriptor) {
         return read_transfer(alloc, fields);
     }
-    if names(descriptor, 0x13, "amqp:flow:list") {
+    if Composite::Flow.is_named(descriptor) {
         return read_flow(alloc, fields);
     }
-    if names(descriptor, 0x15, "amqp:disposition:list") {
+    if Composite::Disposition.is_named(descriptor) {
         return read_disposition(alloc, fields);
     }
-    if names(descriptor, 0x10, "amqp:open:list") {
+    if Composite::Open.is_named(descriptor) {
         return read_open(alloc, fields);
     }
-    if names(descriptor, 0x11, "amqp:begin:list") {
+    if Composite::Begin.is_named(descriptor) {
         return read_begin(alloc, fields);
     }
-    if names(descriptor, 0x12, "amqp:attach:list") {
+    if Composite::Attach.is_named(descriptor) {
         return read_attach(alloc, fields);
     }
-    if names(descriptor, 0x16, "amqp:detach:list") {
+    if Composite::Detach.is_named(descriptor) {
         return read_detach(alloc, fields);
     }
-    if names(descriptor, 0x17, "amqp:end:list") {
+    if Composite::End.is_named(descriptor) {
         return read_end(alloc, fields);
     }
-    if names(descriptor, 0x18, "amqp:close:list") {
+    if Composite::Close.is_named(descriptor) {
         return read_close(alloc, fields);
     }
     Err(BodyFault::NoBody)
@@ -79,3 +85,85 @@ pub fn read_performative(alloc: Global, octets: &[u8]) -> Result<(Performative, 
 {
     read_front(alloc, octets)
 }
+
+/// Leaves the performative with this descriptor and these fields in the slot.
+#[inline(never)]
+fn described_into(
+    alloc: Global,
+    descriptor: Descriptor<'_>,
+    fields: Fields<'_>,
+    slot: &mut Option<Performative>,
+) -> Result<(), BodyFault>
+    requires { 5 ≤ fields.depth }
+    ensures { LeavesDescribed (datum_of descriptor.entry) fields.entry result slot.new }
+{
+    match read_described(alloc, descriptor, fields) {
+        Ok(performative) => {
+            *slot = Some(performative);
+            Ok(())
+        }
+        Err(fault) => Err(fault),
+    }
+}
+
+/// The same; a transfer, a flow or a disposition in its common spelling is made in the slot.
+#[inline(always)]
+fn common_into(
+    alloc: Global,
+    descriptor: Descriptor<'_>,
+    fields: Fields<'_>,
+    slot: &mut Option<Performative>,
+) -> Result<(), BodyFault>
+    requires { 5 ≤ fields.depth }
+    ensures { LeavesDescribed (datum_of descriptor.entry) fields.entry result slot.new }
+{
+    if Composite::Transfer.is_named(descriptor) {
+        if let Some(body) = common_transfer(fields) {
+            *slot = Some(Performative::Transfer(body));
+            return Ok(());
+        }
+    } else if Composite::Flow.is_named(descriptor) {
+        if let Some(body) = common_flow(fields) {
+            *slot = Some(Performative::Flow(body));
+            return Ok(());
+        }
+    } else if Composite::Disposition.is_named(descriptor) {
+        if let Some(body) = common_disposition(fields) {
+            *slot = Some(Performative::Disposition(body));
+            return Ok(());
+        }
+    }
+    described_into(alloc, descriptor, fields, slot)
+}
+
+/// Leaves the performative at the front of the octets in the slot, and tells how many octets spell it: what `read_performative` reads, without
+/// a move of it. After a fault the slot may hold anything.
+///
+/// # Errors
+///
+/// Those of `read_performative`.
+pub fn read_performative_into(
+    alloc: Global,
+    octets: &[u8],
+    slot: &mut Option<Performative>,
+) -> Result<usize, BodyFault>
+    ensures { LeavesFront octets.now result slot.new }
+{
+    match open(octets, 32) {
+        Some(opened) => match common_into(alloc, opened.descriptor, opened.fields, slot) {
+            Ok(()) => Ok(opened.used),
+            Err(fault) => Err(fault),
+        },
+        None => Err(BodyFault::NoBody),
+    }
+}
+
+/// Octets spell at most one value.
+pub fn one_value()
+    ensures { (a b : Value) (x : List ℕ) → Spells (view a) x → Spells (view b) x → a ≡ b }
+{}
+
+/// Octets spell at most one performative.
+pub fn one_performative()
+    ensures { (p q : Performative) (x : List ℕ) → IsPerformative p x → IsPerformative q x → p ≡ q }
+{}

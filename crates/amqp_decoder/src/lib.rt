@@ -1,8 +1,14 @@
 //! Reads performatives where they lie (OASIS AMQP 1.0 part 1, 1.4; part 2, 2.7): typed fields in place, by the number or the name of their
 //! descriptor; only fields of any type, and the pairs of a map, become a `Value`.
+//!
+//! - [`read_performative`]: the performative in front of octets; [`read_performative_into`] leaves it in the caller's slot, which is faster for
+//!   transfers, flows and dispositions in their common spelling
+//! - [`BodyFault`]: why none is read
+//! - Laws: octets spell at most [`one_value`] and [`one_performative`]
 #![tactic(auto)]
 
 mod borrowed;
+mod fault;
 mod fields;
 mod front;
 mod opening;
@@ -11,8 +17,8 @@ mod reading;
 mod setup;
 mod states;
 
-pub use front::read_performative;
-pub use reading::BodyFault;
+pub use fault::BodyFault;
+pub use front::{one_performative, one_value, read_performative, read_performative_into};
 
 #[cfg(test)]
 mod tests;

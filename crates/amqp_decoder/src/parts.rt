@@ -10,8 +10,8 @@ ghost use Rattle.amqp_decoder.specs.Reading.{AreFields, Reads, every};
 
 use crate::borrowed::{ErrorRef, ValueRef};
 use crate::fields::Fields;
-use crate::opening::{names, open};
-use amqp_performatives::AmqpError;
+use crate::opening::open;
+use amqp_performatives::{AmqpError, Composite};
 use amqp_types::{Boxed, Items, Text, Value, read_null};
 use std::alloc::{AllocError, Global};
 
@@ -58,9 +58,9 @@ impl<'a> Fields<'a> {
         if self.left == 0 {
             return None;
         }
-        match open(self.octets, self.depth) {
+        match open(self.octets, self.depth as u8) {
             Some(opened) => {
-                if !names(opened.descriptor, 0x1d, "amqp:error:list") {
+                if !Composite::Error.is_named(opened.descriptor) {
                     return None;
                 }
                 match error_fields(opened.fields) {

@@ -1,29 +1,22 @@
 //! Reading performatives (part 2, 2.7), each by the table of its fields. A body is read where it lies, and memory is asked for last, so that a transfer,
 //! a flow or a disposition without errors and fields of any type takes none.
-ghost use Rattle.std.specs.Prelude.{◌≡◌, ◌≤◌, ◌&&◌, ℕ, option_map};
+ghost use Rattle.std.specs.Prelude.{◌≡◌, ◌≤◌, ◌&&◌, ℕ, Some, IfSome, option_map};
 ghost use Rattle.amqp_performatives.specs.Bodies.{flow_fields, transfer_fields, disposition_fields, detach_fields, end_fields, close_fields};
 ghost use Rattle.amqp_performatives.specs.Fair.{where_present, is_present, is_tag, is_receiver_mode, is_fair_error, is_fair_state};
-ghost use Rattle.amqp_decoder.specs.Parts.{ReadsAll};
+ghost use Rattle.amqp_decoder.specs.Parts.{ReadsAll, state_in};
 ghost use Rattle.amqp_decoder.specs.ReadPerformatives.{ReadsKind, flow_type, transfer_type, disposition_type, detach_type, end_type, close_type};
 ghost use Rattle.amqp_decoder.specs.ReadBodies.{flow_in, transfer_in, disposition_in, detach_in};
 
 use crate::borrowed::{ErrorRef, StateRef, ValueRef};
+use crate::fault::BodyFault;
 use crate::fields::Fields;
 use crate::parts::{lone_error, owned_error, owned_value};
 use crate::states::owned_state;
 use amqp_performatives::{
-    CloseBody, DetachBody, DispositionBody, EndBody, FlowBody, Performative, TransferBody,
+    CloseBody, DeliveryState, DetachBody, DispositionBody, EndBody, FlowBody, Performative,
+    TransferBody,
 };
 use std::alloc::Global;
-
-/// Why no body is read.
-#[derive(Clone, Copy, Debug, PartialEq, Eq)]
-pub enum BodyFault {
-    /// No performative is in front of the octets.
-    NoBody,
-    /// One is, and there is no memory for what it owns: texts, errors, values of any type, bodies behind pointers.
-    NoMemory,
-}
 
 /// The fields of flow, and the one that wants memory.
 fn flow_fields(fields: Fields<'_>) -> Option<(FlowBody, Option<ValueRef<'_>>)>
@@ -114,6 +107,121 @@ fn transfer_fields(fields: Fields<'_>) -> Option<(TransferBody, Option<StateRef<
         },
         state,
     ))
+}
+
+/// Transfer without a state, the common one. None says nothing: then `transfer_fields` is to be asked.
+#[inline(always)]
+pub(crate) fn common_transfer(fields: Fields<'_>) -> Option<TransferBody>
+    ensures { IfSome result (λ b. ReadsAll transfer_fields (λ b. where_present is_tag b.delivery_tag && where_present is_receiver_mode b.rcv_settle_mode && where_present is_fair_state b.state) fields.entry (Some b)) }
+{
+    let (handle, fields) = fields.required_uint()?;
+    let (delivery_id, fields) = fields.uint()?;
+    let Some((delivery_tag, fields)) = fields.tag() else {
+        return None;
+    };
+    let (message_format, fields) = fields.uint()?;
+    let (settled, fields) = fields.boolean()?;
+    let (more, fields) = fields.boolean()?;
+    let (rcv_settle_mode, fields) = fields.mode(1)?;
+    let Some(fields) = fields.absent() else {
+        return None;
+    };
+    let (resume, fields) = fields.boolean()?;
+    let (aborted, fields) = fields.boolean()?;
+    let (batchable, fields) = fields.boolean()?;
+    if !fields.is_at_end() {
+        return None;
+    }
+    Some(TransferBody {
+        handle,
+        delivery_id,
+        delivery_tag,
+        message_format,
+        settled,
+        more,
+        rcv_settle_mode,
+        state: None,
+        resume,
+        aborted,
+        batchable,
+    })
+}
+
+/// Flow without properties, the common one. None says nothing: then `flow_fields` is to be asked.
+#[inline(always)]
+pub(crate) fn common_flow(fields: Fields<'_>) -> Option<FlowBody>
+    ensures { IfSome result (λ b. ReadsAll flow_fields (λ b. where_present is_present b.properties) fields.entry (Some b)) }
+{
+    let (next_incoming_id, fields) = fields.uint()?;
+    let (incoming_window, fields) = fields.required_uint()?;
+    let (next_outgoing_id, fields) = fields.required_uint()?;
+    let (outgoing_window, fields) = fields.required_uint()?;
+    let (handle, fields) = fields.uint()?;
+    let (delivery_count, fields) = fields.uint()?;
+    let (link_credit, fields) = fields.uint()?;
+    let (available, fields) = fields.uint()?;
+    let (drain, fields) = fields.boolean()?;
+    let (echo, fields) = fields.boolean()?;
+    let Some(fields) = fields.absent() else {
+        return None;
+    };
+    if !fields.is_at_end() {
+        return None;
+    }
+    Some(FlowBody {
+        next_incoming_id,
+        incoming_window,
+        next_outgoing_id,
+        outgoing_window,
+        handle,
+        delivery_count,
+        link_credit,
+        available,
+        drain,
+        echo,
+        properties: None,
+    })
+}
+
+/// The state, where it owns no memory.
+#[inline(always)]
+fn bare_state(state: Option<StateRef<'_>>) -> Option<Option<DeliveryState>>
+    ensures { IfSome result (λ s. s ≡ option_map state_in state.entry) }
+{
+    match state {
+        None => Some(None),
+        Some(StateRef::Accepted) => Some(Some(DeliveryState::Accepted)),
+        Some(StateRef::Released) => Some(Some(DeliveryState::Released)),
+        _ => None,
+    }
+}
+
+/// Disposition with a state that owns no memory, the common one. None says nothing: then `disposition_fields` is to be asked.
+#[inline(always)]
+pub(crate) fn common_disposition(fields: Fields<'_>) -> Option<DispositionBody>
+    requires { 5 ≤ fields.depth }
+    ensures { IfSome result (λ b. ReadsAll disposition_fields (λ b. where_present is_fair_state b.state) fields.entry (Some b)) }
+{
+    let (role, fields) = fields.role()?;
+    let (first, fields) = fields.required_uint()?;
+    let (last, fields) = fields.uint()?;
+    let (settled, fields) = fields.boolean()?;
+    let (reached, fields) = fields.state()?;
+    let (batchable, fields) = fields.boolean()?;
+    if !fields.is_at_end() {
+        return None;
+    }
+    let Some(state) = bare_state(reached) else {
+        return None;
+    };
+    Some(DispositionBody {
+        role,
+        first,
+        last,
+        settled,
+        state,
+        batchable,
+    })
 }
 
 /// Transfer.

@@ -7,9 +7,9 @@ ghost use Rattle.amqp_decoder.specs.ReadPerformatives.{ReadsKind, open_type, beg
 ghost use Rattle.amqp_decoder.specs.ReadSetup.{open_in, begin_in, attach_in};
 
 use crate::borrowed::ValueRef;
+use crate::fault::BodyFault;
 use crate::fields::Fields;
 use crate::parts::{owned_map, owned_text, owned_value};
-use crate::reading::BodyFault;
 use amqp_performatives::{AttachBody, BeginBody, OpenBody, Performative, Role};
 use amqp_types::{Boxed, Text};
 use std::alloc::{AllocError, Global};

@@ -11,9 +11,9 @@ ghost use Rattle.amqp_decoder.specs.States.{type_of, is_of, received_fields, mod
 
 use crate::borrowed::{StateRef, ValueRef};
 use crate::fields::Fields;
-use crate::opening::{names, open};
+use crate::opening::open;
 use crate::parts::{lone_error, owned_error, owned_value};
-use amqp_performatives::DeliveryState;
+use amqp_performatives::{Composite, DeliveryState};
 use amqp_types::{Descriptor, read_descriptor};
 use std::alloc::{AllocError, Global};
 
@@ -32,19 +32,19 @@ enum StateKind {
 fn state_kind(descriptor: Descriptor<'_>) -> Option<StateKind>
     ensures { MatchOption result (names_state (datum_of descriptor.entry) ≡ false) (λ k. IsDescriptor (type_of k) (datum_of descriptor.entry)) }
 {
-    if names(descriptor, 0x24, "amqp:accepted:list") {
+    if Composite::Accepted.is_named(descriptor) {
         return Some(StateKind::Accepted);
     }
-    if names(descriptor, 0x23, "amqp:received:list") {
+    if Composite::Received.is_named(descriptor) {
         return Some(StateKind::Received);
     }
-    if names(descriptor, 0x25, "amqp:rejected:list") {
+    if Composite::Rejected.is_named(descriptor) {
         return Some(StateKind::Rejected);
     }
-    if names(descriptor, 0x26, "amqp:released:list") {
+    if Composite::Released.is_named(descriptor) {
         return Some(StateKind::Released);
     }
-    if names(descriptor, 0x27, "amqp:modified:list") {
+    if Composite::Modified.is_named(descriptor) {
         return Some(StateKind::Modified);
     }
     None
@@ -135,7 +135,7 @@ impl<'a> Fields<'a> {
         requires present { MissesAbsent self.left self.octets.now }
         ensures { Reads state_part is_fair_state self.entry (option_map (λ r. (state_in r.0, r.1)) result) }
     {
-        match open(self.octets, self.depth) {
+        match open(self.octets, self.depth as u8) {
             Some(opened) => match state_kind(opened.descriptor) {
                 Some(kind) => match state_fields(kind, opened.fields) {
                     Some(state) => Some((state, self.after(opened.used))),

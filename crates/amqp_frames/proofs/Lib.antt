@@ -5,9 +5,15 @@ pub mod Composites
 pub mod Sizes
 pub mod Puts
 pub mod Framed
+pub mod Measuring
+pub mod Brief
 pub mod Octets
 pub mod Framing
 pub mod Performatives
 pub mod Streams
+pub mod OneFrame
 pub mod Feeding
 pub mod Fields
+pub mod Steps
+pub mod Plain
+pub mod Slots

@@ -1,13 +1,22 @@
 -- What was written behind other octets.
 use Rattle.std.proofs.Common.{◌≡◌, ℕ, ◌+◌, ◌-◌, ◌^◌, ◌<◌, Bool, true, false, eqb, ltb, min, List, [], ◌∷◌, ◌++◌, length, Option, Some, None, refl, sym, ap, ◌∙◌, arith, append_assoc}
-use Rattle.std.specs.Prelude.{Result, Ok, Err, OnOk}
+use Rattle.std.specs.Prelude.{Result, Ok, Err, OnOk, ◌&&◌}
 use Rattle.std.proofs.lemmas.Bool.{eqb-true, ltb-true, leb-true}
+use Rattle.std.proofs.lemmas.List.{length-append, append-nil}
 use Rattle.amqp_types.specs.Datum.{Datum, Data, count_of, depth_of}
 use Rattle.amqp_types.specs.Reading.{◌>>=◌}
 use Rattle.amqp_types.specs.Canon.{part_form, parts_form, canon, Appends, AppendsCanon}
 use Rattle.amqp_types.proofs.Canonical.{canon_is}
-use Rattle.amqp_types.proofs.Frames.{guard_some}
-use Rattle.amqp_frames.specs.Field.{added, list_octets, measured, forms_within, composite_datum, with_payload}
+use Rattle.amqp_types.proofs.Frames.{guard_some, bind_some}
+use Rattle.amqp_performatives.specs.declared.performative.Performative.{Performative}
+use Rattle.amqp_performatives.specs.Part.{canonical}
+use Rattle.amqp_performatives.specs.Bodies.{part_of}
+use Rattle.amqp_performatives.specs.Fair.{is_fair}
+use Rattle.amqp_frames.specs.declared.frame.Frame.{Frame}
+use Rattle.amqp_frames.specs.declared.measured.Measured.{Measured}
+use Rattle.amqp_frames.specs.Written.{may_follow, contents_octets, framed, frame_octets}
+use Rattle.amqp_frames.specs.Measuring.{IsMeasureOf}
+use Rattle.amqp_frames.specs.Field.{added, header, list_octets, measured, forms_within, composite_datum, with_payload}
 use Rattle.amqp_frames.proofs.Composites.{composite_form, composite_octets, empty_form}
 
 pub on_ok : {A E : Type 0} (r : Result A E) (P Q : Type 0) → (P → Q) → OnOk r P → OnOk r Q
@@ -71,23 +80,48 @@ described_put code count size depth ds start named headed end some small m n l p
     let same : content.0 ≡ measure.0 = let q : Some content.0 ≡ Some measure.0 = sym content.1 ∙ measure.1.form in cc in
     described_from code count size ds start named headed end measure.0 head.0 some small measure.1 n head.1 head.2 (content.2 ∙ ap (λ (y : List ℕ). headed ++ y) same)
 
--- ---- a frame
+-- ---- a performative
 
-canon_measured : (count size code : ℕ) (ds : Data) → Some (count, size) ≡ measured (count_of ds) (forms_within 30 ds) → canon (composite_datum code ds) ≡ part_form None (composite_datum code ds)
+pub canon_measured : (count size code : ℕ) (ds : Data) → Some (count, size) ≡ measured (count_of ds) (forms_within 30 ds) → canon (composite_datum code ds) ≡ part_form None (composite_datum code ds)
 canon_measured count size code ds m =
     let x = measure_parts count size (count_of ds) (forms_within 30 ds) m in
     let g = guard_some _ (parts_form ds None) x.0 x.1 in
     canon_is (composite_datum code ds) (omega (arith, leb-true _ _ g.0))
 
-payload_behind : (start headed end payload : List ℕ) (form : Option (List ℕ)) → added start form ≡ Some headed → end ≡ headed ++ payload → added start (with_payload form payload) ≡ Some end
-payload_behind start headed end payload (Some x) e s =
-    let q : start ++ x ≡ headed = cc in
-    ap (λ (y : List ℕ). let o : Option (List ℕ) = Some y in o) (sym (append_assoc start x payload) ∙ ap (λ (y : List ℕ). y ++ payload) q ∙ sym s)
-payload_behind start headed end payload None e s = absurd cc
+-- ---- a frame
 
-pub frame_put : (count size code : ℕ) (ds : Data) (start named headed end head payload : List ℕ) → Some (count, size) ≡ measured (count_of ds) (forms_within 30 ds) → named ≡ start ++ head
-    → added named (part_form None (composite_datum code ds)) ≡ Some headed → end ≡ headed ++ payload → added (start ++ head) (with_payload (canon (composite_datum code ds)) payload) ≡ Some end
-frame_put count size code ds start named headed end head payload m n b e =
-    ap (λ (y : List ℕ). added y (with_payload (canon (composite_datum code ds)) payload)) (sym n)
-    ∙ ap (λ (o : Option (List ℕ)). added named (with_payload o payload)) (canon_measured count size code ds m)
-    ∙ payload_behind named headed end payload (part_form None (composite_datum code ds)) b e
+-- the size of the whole, the header and the contents behind others
+whole : (channel size : ℕ) (y o old headed end : List ℕ) → framed channel y ≡ Some o → size ≡ length o → headed ≡ old ++ header size channel → headed ++ y ≡ end → old ++ o ≡ end
+whole channel size y o old headed end f s h e =
+    let g = guard_some (ltb (8 + length y) (2 ^ 32)) (Some (header (8 + length y) channel ++ y)) o f in
+    let q : header (8 + length y) channel ++ y ≡ o = cc in
+    let long : size ≡ 8 + length y = s ∙ sym (ap length q) ∙ length-append (header (8 + length y) channel) y in
+    ap (λ (t : List ℕ). old ++ t) (sym q ∙ ap (λ k. header k channel ++ y) (sym long)) ∙ sym (append_assoc old (header size channel) y) ∙ ap (λ (t : List ℕ). t ++ y) (sym h) ∙ e
+
+-- of a performative with this spelling
+whole_body : (p : Performative) (channel size : ℕ) (payload o old headed end : List ℕ) → (contents_octets (Some p) payload >>= framed channel) ≡ Some o → size ≡ length o → headed ≡ old ++ header size channel
+    → added headed (with_payload (canon (canonical (part_of p))) payload) ≡ Some end → old ++ o ≡ end
+whole_body p channel size payload o old headed end f s h e =
+    let c = bind_some (contents_octets (Some p) payload) (framed channel) o f in
+    let g = guard_some (is_fair p && may_follow payload p) (with_payload (canon (canonical (part_of p))) payload) c.0 c.1 in
+    let q : Some (headed ++ c.0) ≡ Some end = sym (ap (added headed) g.1) ∙ e in
+    whole channel size c.0 o old headed end c.2 s h cc
+
+-- of none
+whole_empty : (channel size : ℕ) (payload o old end : List ℕ) → (contents_octets None payload >>= framed channel) ≡ Some o → size ≡ length o → end ≡ old ++ header size channel → old ++ o ≡ end
+whole_empty channel size [] o old end f s h = whole channel size [] o old end end f s h (append-nil end)
+whole_empty channel size (t ∷ payload) o old end f s h = absurd cc
+
+somewhere : (old end : List ℕ) (form : Option (List ℕ)) (o : List ℕ) → form ≡ Some o → old ++ o ≡ end → added old form ≡ Some end
+somewhere old end form o f e = ap (added old) f ∙ ap (λ (y : List ℕ). let a : Option (List ℕ) = Some y in a) e
+
+pub frame_put : (f : Frame) (p : Performative) (m : Measured) (old headed end : List ℕ) → IsMeasureOf f m → f.body ≡ Some p → headed ≡ old ++ header m.size f.channel
+    → added headed (with_payload (canon (canonical (part_of p))) f.payload) ≡ Some end → added old (frame_octets f) ≡ Some end
+frame_put f p m old headed end w b h e =
+    let form : (contents_octets (Some p) f.payload >>= framed f.channel) ≡ Some w.octets = ap (λ o. contents_octets o f.payload >>= framed f.channel) (sym b) ∙ w.written in
+    somewhere old end (frame_octets f) w.octets w.written (whole_body p f.channel m.size f.payload w.octets old headed end form w.sized h e)
+
+pub empty_put : (f : Frame) (m : Measured) (old end : List ℕ) → IsMeasureOf f m → f.body ≡ None → end ≡ old ++ header m.size f.channel → added old (frame_octets f) ≡ Some end
+empty_put f m old end w b h =
+    let form : (contents_octets None f.payload >>= framed f.channel) ≡ Some w.octets = ap (λ o. contents_octets o f.payload >>= framed f.channel) (sym b) ∙ w.written in
+    somewhere old end (frame_octets f) w.octets w.written (whole_empty f.channel m.size f.payload w.octets old end form w.sized h)

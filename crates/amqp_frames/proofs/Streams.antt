@@ -7,7 +7,7 @@ use Rattle.amqp_frames.specs.declared.fault.FrameFault.{FrameFault}
 use Rattle.amqp_frames.specs.declared.fault.FrameFault.TheVariants.{ShortSize, BadDoff, TooBig, BadKind, BadBody, NoMemory}
 use Rattle.amqp_frames.specs.declared.frame.Frame.{Frame}
 use Rattle.amqp_frames.specs.Framing.{size_of, doff_of, type_of, IsHeader, IsFrame, Shows, IsUnfinished, AreFrames}
-use Rattle.amqp_frames.specs.Framer.{AreAlike}
+use Rattle.amqp_frames.specs.Framer.{BeginsWithFrame}
 use Rattle.amqp_frames.proofs.Framing.{begins_size, begins_header, begins_append, header_of_frame}
 
 -- ---- one answer
@@ -49,7 +49,7 @@ not_unfinished max x h k (inl u) = omega arith
 not_unfinished max x h k (inr (inl u)) = let n : length x < 8 = u.1 in omega arith
 not_unfinished max x h k (inr (inr u)) = let n : length x < size_of x = u.1 in omega arith
 
-same_rest : (x a b : List ℕ) → x ++ a ≡ x ++ b → a ≡ b
+pub same_rest : (x a b : List ℕ) → x ++ a ≡ x ++ b → a ≡ b
 same_rest [] a b e = e
 same_rest (t ∷ x) a b e = same_rest x a b cc
 
@@ -106,12 +106,10 @@ joined max x y r s [] gs e h = subst (λ (t : List ℕ). AreFrames max (t ++ y) 
 joined max x y r s (f ∷ fs) gs (front, back, p, n, e, t) h =
     (front, back ++ y, p, n, ap (λ (z : List ℕ). z ++ y) e ∙ append_assoc front back y, joined max back y r s fs gs t h)
 
-pub unique : (max : ℕ) (x r s : List ℕ) (fs gs : List Frame) → AreFrames max x fs r → IsUnfinished max r → AreFrames max x gs s → IsUnfinished max s → (r ≡ s) × AreAlike fs gs
-unique max x r s [] [] d u e v = (sym d ∙ e, tt)
-unique max x r s [] (g ∷ gs) d u e v = absurd (frame_unfinished g max e.0 e.1 e.2 (subst (λ (t : List ℕ). IsUnfinished max t) (sym d ∙ e.4) u))
-unique max x r s (f ∷ fs) [] d u e v = absurd (frame_unfinished f max d.0 d.1 d.2 (subst (λ (t : List ℕ). IsUnfinished max t) (sym e ∙ d.4) v))
-unique max x r s (f ∷ fs) (g ∷ gs) d u e v =
-    let same = one_front f g d.0 e.0 d.1 e.1 d.2 e.2 (sym d.4 ∙ e.4) in
-    let back : d.1 ≡ e.1 = same_rest d.0 d.1 e.1 (sym d.4 ∙ e.4 ∙ ap (λ (t : List ℕ). t ++ e.1) (sym same)) in
-    let k = unique max d.1 r s fs gs d.5 u (subst (λ (t : List ℕ). AreFrames max t gs s) (sym back) e.5) v in
-    (k.0, ((d.0, d.2, subst (λ (t : List ℕ). IsFrame g t) (sym same) e.2), k.1))
+-- ---- what begins with no frame
+
+pub unfinished_none : (max : ℕ) (x : List ℕ) → IsUnfinished max x → BeginsWithFrame max x → ⊥
+unfinished_none max x u (f, front, back, p, n, e) = frame_unfinished f max front back p (subst (λ (t : List ℕ). IsUnfinished max t) e u)
+
+pub faulty_none : (fault : FrameFault) (max : ℕ) (x : List ℕ) → Shows fault max x → BeginsWithFrame max x → ⊥
+faulty_none fault max x s (f, front, back, p, n, e) = frame_shows fault f max front back p n (subst (λ (t : List ℕ). Shows fault max t) e s)

@@ -1,5 +1,5 @@
 -- A framer: what it holds, and what a piece of octets makes of it.
-use Rattle.std.specs.Prelude.{ℕ, ◌≡◌, ◌≤◌, ◌⊎◌, List, [], ◌∷◌, ◌++◌, length, take, Option, Some, None, Result, Ok, Err}
+use Rattle.std.specs.Prelude.{ℕ, ◌≡◌, ◌≤◌, ◌⊎◌, List, [], ◌++◌, length, take, Option, Some, None, Result, Ok, Err}
 use Rattle.amqp_frames.specs.declared.fault.FrameFault.{FrameFault}
 use Rattle.amqp_frames.specs.declared.fault.FrameFault.TheVariants.{ShortSize, BadDoff, TooBig, BadKind, BadBody, NoMemory}
 use Rattle.amqp_frames.specs.declared.frame.Frame.{Frame}
@@ -47,10 +47,3 @@ Feeds old piece (Ok (used, Some f)) new =
     × (new ≡ keeping old [])
 Feeds old piece (Ok (used, None)) new = (used ≡ length piece) × IsUnfinished old.max_size (old.kept ++ piece) × (new ≡ keeping old (old.kept ++ piece))
 Feeds old piece (Err fault) new = Faulty fault old.max_size (old.kept ++ piece) × (new ≡ old)
-
--- the frames are of the same octets, one by one
-abbrev pub AreAlike : List Frame → List Frame → Type 0
-AreAlike [] [] = Unit {0}
-AreAlike [] (g ∷ gs) = ⊥
-AreAlike (f ∷ fs) [] = ⊥
-AreAlike (f ∷ fs) (g ∷ gs) = ((x : List ℕ) × IsFrame f x × IsFrame g x) × AreAlike fs gs

@@ -1,17 +1,19 @@
 //! What follows a frame's header: nothing, or a performative and a transfer's payload (part 2, 2.3.2).
-ghost use Rattle.std.specs.Prelude.{◌≡◌, ◌≤◌, ◌↔◌, ◌++◌, ℕ, List, IsTrue, MatchResult, length, take};
+ghost use Rattle.std.specs.Prelude.{◌≡◌, ◌≤◌, ◌<◌, ◌-◌, ◌↔◌, ◌++◌, ℕ, List, Ok, IsTrue, IfOk, MatchResult, length, take, drop};
 ghost use Rattle.amqp_performatives.specs.declared.performative.Performative.{Performative};
 ghost use Rattle.amqp_frames.specs.Framing.{is_transfer, MayFollow, AreContents};
 ghost use Rattle.amqp_performatives.specs.Spelling.{IsPerformative};
+ghost use Rattle.amqp_decoder.specs.Slots.{LeavesFront};
 ghost use Rattle.amqp_frames.specs.Contents.{AreNoContents, BeginsWithPerformative};
+ghost use Rattle.amqp_frames.specs.Slots.{holds_transfer};
 
 use crate::fault::FrameFault;
 use crate::frame::Frame;
-use amqp_decoder::{BodyFault, read_performative};
+use amqp_decoder::{BodyFault, read_performative, read_performative_into};
 use amqp_performatives::Performative;
 use amqp_types::{Descriptor, read_descriptor, skip_value};
 use bytes::Bytes;
-use std::alloc::Global;
+use std::alloc::{AllocError, Global};
 
 /// The frame of these contents on the channel. An octet after a performative that is no transfer is a fault, also where memory is refused.
 pub(crate) fn read_contents(alloc: Global, channel: u16, octets: &[u8]) -> Result<Frame, FrameFault>
@@ -91,4 +93,80 @@ fn names_transfer(octets: &[u8]) -> bool
         Some((Descriptor::Name(name), _)) => name == "amqp:transfer:list",
         None => false,
     }
+}
+
+/// Leaves the frame of contents in the slot that lie in shared octets from one place up to another; its payload is a slice of these. After a
+/// fault the slot may hold anything.
+#[inline(always)]
+pub(crate) fn share_contents(
+    alloc: Global,
+    channel: u16,
+    shared: &Bytes,
+    start: usize,
+    end: usize,
+    slot: &mut Frame,
+) -> Result<(), FrameFault>
+    requires some { start < end }
+    requires within { end ≤ length shared.now }
+    ensures { MatchResult result (λ _. (slot.new.channel ≡ channel) × AreContents slot.new.body slot.new.payload (take (end - start) (drop start shared.now))) (λ fault. AreNoContents fault (take (end - start) (drop start shared.now))) }
+{
+    let octets = &shared.as_slice()[start..end];
+    slot.channel = channel;
+    match read_performative_into(alloc, octets, &mut slot.body) {
+        Ok(size) => share_payload(shared, start, end, size, slot),
+        Err(BodyFault::NoBody) => Err(FrameFault::BadBody),
+        Err(BodyFault::NoMemory) => Err(if may_follow(octets) {
+            FrameFault::NoMemory
+        } else {
+            FrameFault::BadBody
+        }),
+    }
+}
+
+/// The payload after the performative in the slot, which so many octets spell.
+#[inline(always)]
+fn share_payload(
+    shared: &Bytes,
+    start: usize,
+    end: usize,
+    size: usize,
+    slot: &mut Frame,
+) -> Result<(), FrameFault>
+    requires within { end ≤ length shared.now }
+    requires order { start ≤ end }
+    requires spelled { size ≤ end - start }
+    requires front { LeavesFront (take (end - start) (drop start shared.now)) (Ok size) slot.old.body }
+    ensures { MatchResult result (λ _. (slot.new.channel ≡ slot.old.channel) × AreContents slot.new.body slot.new.payload (take (end - start) (drop start shared.now))) (λ fault. AreNoContents fault (take (end - start) (drop start shared.now))) }
+{
+    if start + size == end {
+        slot.payload = Bytes::new();
+        return Ok(());
+    }
+    if !holds_transfer(&slot.body) {
+        return Err(FrameFault::BadBody);
+    }
+    match slice(shared, start + size, end) {
+        Ok(payload) => {
+            slot.payload = payload;
+            Ok(())
+        }
+        Err(_) => Err(FrameFault::NoMemory),
+    }
+}
+
+/// A part of the octets, which are not copied.
+#[inline(always)]
+fn slice(shared: &Bytes, start: usize, end: usize) -> Result<Bytes, AllocError>
+    requires order { start ≤ end }
+    requires within { end ≤ length shared.now }
+    ensures { IfOk result (λ part. part ≡ take (end - start) (drop start shared.now)) }
+{
+    shared.slice(start..end)
+}
+
+#[inline(always)]
+fn holds_transfer(body: &Option<Performative>) -> bool
+    ensures { result ≡ holds_transfer body.now }
+{
+    matches!(body, Some(Performative::Transfer(_)))
 }

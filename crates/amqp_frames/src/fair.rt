@@ -42,7 +42,7 @@ fn is_other_state(value: &Value) -> bool
     }
 }
 
-fn any_present(value: &Option<Boxed<Value>>) -> bool
+pub(crate) fn any_present(value: &Option<Boxed<Value>>) -> bool
     ensures { result ≡ where_present is_present value.now }
 {
     match value {
@@ -51,7 +51,7 @@ fn any_present(value: &Option<Boxed<Value>>) -> bool
     }
 }
 
-fn is_sender_mode(mode: Option<u8>) -> bool
+pub(crate) fn is_sender_mode(mode: Option<u8>) -> bool
     ensures { result ≡ where_present is_sender_mode mode }
 {
     match mode {
@@ -60,7 +60,7 @@ fn is_sender_mode(mode: Option<u8>) -> bool
     }
 }
 
-fn is_receiver_mode(mode: Option<u8>) -> bool
+pub(crate) fn is_receiver_mode(mode: Option<u8>) -> bool
     ensures { result ≡ where_present is_receiver_mode mode }
 {
     match mode {
@@ -78,7 +78,7 @@ fn is_tag(tag: &Option<Tag>) -> bool
     }
 }
 
-fn is_fair_error(failed: &Option<Boxed<AmqpError>>) -> bool
+pub(crate) fn is_fair_error(failed: &Option<Boxed<AmqpError>>) -> bool
     ensures { result ≡ where_present is_fair_error failed.now }
 {
     match failed {
@@ -87,7 +87,7 @@ fn is_fair_error(failed: &Option<Boxed<AmqpError>>) -> bool
     }
 }
 
-fn is_fair_state(reached: &Option<DeliveryState>) -> bool
+pub(crate) fn is_fair_state(reached: &Option<DeliveryState>) -> bool
     ensures { result ≡ where_present is_fair_state reached.now }
 {
     match reached {
@@ -112,7 +112,7 @@ fn is_fair_state(reached: &Option<DeliveryState>) -> bool
     }
 }
 
-fn is_fair_open(body: &OpenBody) -> bool
+pub(crate) fn is_fair_open(body: &OpenBody) -> bool
     ensures { result ≡ is_fair_open body.now }
 {
     any_present(&body.outgoing_locales)
@@ -122,7 +122,7 @@ fn is_fair_open(body: &OpenBody) -> bool
         && any_present(&body.properties)
 }
 
-fn is_fair_begin(body: &BeginBody) -> bool
+pub(crate) fn is_fair_begin(body: &BeginBody) -> bool
     ensures { result ≡ is_fair_begin body.now }
 {
     any_present(&body.offered_capabilities)

@@ -1,6 +1,10 @@
+//! What is wrong with octets, and why a frame is not written.
 ghost use Rattle.std.specs.Prelude.{◌≡◌};
 ghost use Rattle.amqp_frames.specs.Numbers.{fault_number, refusal_number};
+ghost use Rattle.amqp_frames.specs.declared.fault.FrameFault.TheVariants as fault;
+ghost use Rattle.amqp_frames.specs.declared.fault.FrameRefusal.TheVariants as refusal;
 
+use std::alloc::AllocError;
 use thiserror::Error;
 
 /// What is wrong with the octets in the place of a frame (part 2, 2.3). The one with the lowest number is told.
@@ -21,8 +25,16 @@ pub enum FrameFault {
     /// The body does not begin with a performative, or octets follow one that is no transfer.
     #[error("a frame's body is no performative")]
     BadBody,
-    #[error("memory was refused")]
+    #[error("out of memory")]
     NoMemory,
+}
+
+impl From<AllocError> for FrameFault {
+    ghost from_gives = { λ _ e. e ≡ fault.NoMemory };
+
+    fn from(_refused: AllocError) -> FrameFault {
+        FrameFault::NoMemory
+    }
 }
 
 impl FrameFault {
@@ -50,8 +62,16 @@ pub enum FrameRefusal {
     /// The frame is longer than allowed.
     #[error("the frame is longer than the peer takes")]
     FrameTooBig,
-    #[error("memory was refused")]
+    #[error("out of memory")]
     NoMemory,
+}
+
+impl From<AllocError> for FrameRefusal {
+    ghost from_gives = { λ _ e. e ≡ refusal.NoMemory };
+
+    fn from(_refused: AllocError) -> FrameRefusal {
+        FrameRefusal::NoMemory
+    }
 }
 
 impl FrameRefusal {

@@ -1,3 +1,4 @@
+//! A frame.
 ghost use Rattle.std.specs.Prelude.{◌≡◌, IfOk};
 
 use amqp_performatives::Performative;
@@ -5,7 +6,7 @@ use bytes::Bytes;
 use std::alloc::AllocError;
 
 /// A frame (part 2, 2.3): a performative on a channel, and a transfer's payload. Without a performative it is an empty frame.
-#[derive(Debug, Drop)]
+#[derive(Debug, PartialEq, Eq, Drop)]
 pub struct Frame {
     pub channel: u16,
     pub body: Option<Performative>,

@@ -1,14 +1,16 @@
 //! Frames out of octets that come in pieces (part 2, 2.3).
-ghost use Rattle.std.specs.Prelude.{◌≡◌, ◌≢◌, ◌≤◌, ◌<◌, ◌*◌, ◌++◌, [], ℕ, List, Some, None, Ok, MatchOption, MatchResult, IsSome, IfOk, IfSome, ◌+◌, length, take};
+ghost use Rattle.std.specs.Prelude.{◌≡◌, ◌≢◌, ◌≤◌, ◌<◌, ◌*◌, ◌++◌, [], ℕ, List, Some, None, Ok, MatchOption, MatchResult, IsSome, IfOk, IfSome, ◌+◌, length, take, drop};
 ghost use Rattle.amqp_frames.specs.Framing.{IsUnfinished, AreContents, size_of};
 ghost use Rattle.amqp_frames.specs.Header.{BeginsWith, IsHeaderPart, IsHeaderFault};
 ghost use Rattle.amqp_frames.specs.Contents.{AreNoContents};
 ghost use Rattle.amqp_frames.specs.Framer.{Feeds};
+ghost use Rattle.amqp_frames.specs.Slots.{FeedsSlot};
 
-use crate::contents::read_contents;
+use crate::contents::{read_contents, share_contents};
 use crate::fault::FrameFault;
 use crate::frame::Frame;
 use crate::header::{Header, examine};
+use bytes::Bytes;
 use std::alloc::Global;
 use std::marker::Model;
 
@@ -182,6 +184,85 @@ impl Framer {
         }
     }
 
+    /// As `feed` of the shared octets from a place on, with the frame left in the caller's slot: it has the frame where the answer is true, and else
+    /// may hold anything. The payload of a frame that lies whole in the octets is a slice of them, without a copy; so the slot keeps them alive.
+    pub fn feed_shared(
+        &mut self,
+        shared: &Bytes,
+        from: usize,
+        slot: &mut Frame,
+    ) -> Result<(usize, bool), FrameFault>
+        requires { from ≤ length shared.now }
+        ensures { FeedsSlot self.old (drop from shared.now) result slot.new self.new }
+    {
+        let piece = rest(shared, from);
+        if piece.is_empty() || !self.kept().is_empty() {
+            return self.feed_apart(piece, slot);
+        }
+        match examine(self.max_size, piece) {
+            Ok(Some(header)) => {
+                if piece.len() < header.size as usize || header.size as usize == header.start() {
+                    return self.feed_apart(piece, slot);
+                }
+                self.share(header, shared, from, slot)
+            }
+            _ => self.feed_apart(piece, slot),
+        }
+    }
+
+    /// The same, by way of `feed`.
+    #[inline(never)]
+    fn feed_apart(&mut self, piece: &[u8], slot: &mut Frame) -> Result<(usize, bool), FrameFault>
+        ensures { FeedsSlot self.old piece.now result slot.new self.new }
+    {
+        match self.feed(piece) {
+            Ok((used, Some(frame))) => {
+                *slot = frame;
+                Ok((used, true))
+            }
+            Ok((used, None)) => Ok((used, false)),
+            Err(fault) => Err(fault),
+        }
+    }
+
+    /// Leaves the frame in the slot that lies whole in the octets from a place on.
+    #[inline(always)]
+    fn share(
+        &mut self,
+        header: Header,
+        shared: &Bytes,
+        from: usize,
+        slot: &mut Frame,
+    ) -> Result<(usize, bool), FrameFault>
+        requires from { from ≤ length shared.now }
+        requires begins { BeginsWith header self.old.max_size (self.old.kept ++ drop from shared.now) }
+        requires none { self.old.kept ≡ [] }
+        requires whole { header.size ≤ length (drop from shared.now) }
+        requires some { 4 * header.doff < header.size }
+        ensures { FeedsSlot self.old (drop from shared.now) result slot.new self.new }
+    {
+        let size = header.size as usize;
+        let alloc = *self.buffer.allocator();
+        // No place is past the count of the octets.
+        let all = shared.len();
+        prove!(from <= all);
+        match share_contents(
+            alloc,
+            header.channel,
+            shared,
+            from + header.start(),
+            from + size,
+            slot,
+        ) {
+            Ok(()) => {
+                self.before = Some(0);
+                self.is_done = true;
+                Ok((size, true))
+            }
+            Err(fault) => Err(fault),
+        }
+    }
+
     /// Puts the framer back to before the last feed that succeeded.
     pub fn unread(&mut self)
         requires { IsSome self.old.before }
@@ -193,6 +274,15 @@ impl Framer {
             self.before = None;
         }
     }
+}
+
+/// The octets from a place on.
+#[inline(always)]
+fn rest(shared: &Bytes, from: usize) -> &[u8]
+    requires { from ≤ length shared.now }
+    ensures { result.now ≡ drop from shared.now }
+{
+    &shared.as_slice()[from..]
 }
 
 /// What the header of the octets that are kept and then come says. Nothing is copied where none are kept.

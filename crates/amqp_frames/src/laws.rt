@@ -1,9 +1,14 @@
 //! Laws of framing: what octets in a frame's place are, and that it does not matter how a stream is cut.
-ghost use Rattle.std.specs.Prelude.{◌≡◌, ◌≤◌, ℕ, List, ◌++◌, length};
+ghost use Rattle.std.specs.Prelude.{◌≡◌, ◌<◌, ◌≤◌, ◌^◌, ℕ, List, None, ◌++◌, length};
 ghost use Rattle.amqp_frames.specs.declared.fault.FrameFault.{FrameFault};
 ghost use Rattle.amqp_frames.specs.declared.frame.Frame.{Frame};
 ghost use Rattle.amqp_frames.specs.Framing.{IsFrame, Shows, IsUnfinished, AreFrames};
-ghost use Rattle.amqp_frames.specs.Framer.{AreAlike};
+ghost use Rattle.amqp_frames.specs.Framer.{BeginsWithFrame};
+ghost use Rattle.amqp_performatives.specs.declared.bodies.FlowBody.{FlowBody};
+ghost use Rattle.amqp_performatives.specs.declared.bodies.DetachBody.{DetachBody};
+ghost use Rattle.amqp_performatives.specs.declared.bodies.EndBody.{EndBody};
+ghost use Rattle.amqp_performatives.specs.declared.performative.Performative.TheVariants as said;
+ghost use Rattle.amqp_frames.specs.Brief.{IsBriefFlow, IsBrief};
 
 /// Octets in a frame's place begin with a frame, are unfinished or show a fault: no two of these, and no two faults. A
 /// stream begins with at most one frame's octets.
@@ -15,9 +20,24 @@ pub fn one_answer()
     ensures one_front { (f g : Frame) (x y a b : List ℕ) → IsFrame f x → IsFrame g y → x ++ a ≡ y ++ b → x ≡ y }
 {}
 
-/// However a stream is cut, its frames are of the same octets: those of a piece and then those of what it left and the next
-/// piece are those of both; one stream has one rest, and any two lists of its frames have the same octets, frame by frame.
+/// However a stream is cut, its frames are the same: those of a piece and then those of what it left and the next piece are those of
+/// both; and one stream has one list of frames and one rest, up to where no frame is in front, as where octets are unfinished or show a fault.
 pub fn cutting()
     ensures joined { (max : ℕ) (x y r s : List ℕ) (fs gs : List Frame) → AreFrames max x fs r → AreFrames max (r ++ y) gs s → AreFrames max (x ++ y) (fs ++ gs) s }
-    ensures unique { (max : ℕ) (x r s : List ℕ) (fs gs : List Frame) → AreFrames max x fs r → IsUnfinished max r → AreFrames max x gs s → IsUnfinished max s → (r ≡ s) × AreAlike fs gs }
+    ensures unique { (max : ℕ) (x r s : List ℕ) (fs gs : List Frame) → AreFrames max x fs r → (BeginsWithFrame max r → ⊥) → AreFrames max x gs s → (BeginsWithFrame max s → ⊥) → (r ≡ s) × (fs ≡ gs) }
+    ensures unfinished { (max : ℕ) (x : List ℕ) → IsUnfinished max x → BeginsWithFrame max x → ⊥ }
+    ensures faulty { (fault : FrameFault) (max : ℕ) (x : List ℕ) → Shows fault max x → BeginsWithFrame max x → ⊥ }
+{}
+
+/// Octets are at most one frame.
+pub fn one_frame()
+    ensures { (f g : Frame) (x : List ℕ) → IsFrame f x → IsFrame g x → f ≡ g }
+{}
+
+/// A flow without properties, a detach without an error and an end without one can always be written, in octets that each peer takes: at
+/// most 512 (part 2, 2.4.1).
+pub fn always_written()
+    ensures flow { (b : FlowBody) → IsBriefFlow b → IsBrief (said.Flow b) }
+    ensures detach { (b : DetachBody) → b.handle < 2 ^ 32 → b.error ≡ None → IsBrief (said.Detach b) }
+    ensures end { (b : EndBody) → b.error ≡ None → IsBrief (said.End b) }
 {}

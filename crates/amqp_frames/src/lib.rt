@@ -1,6 +1,14 @@
 //! Frames (OASIS AMQP 1.0 part 2, 2.3): written into one buffer, and read from a stream however it is cut.
+//!
+//! - [`Frame`]: a channel, a performative and a transfer's payload
+//! - Writing: [`write_frame`] into octets of its own; [`append_frame`] behind others, as for a batch. [`measure_frame`] tells without memory whether
+//!   and in how many octets a frame is written, and [`write_measured`] writes it then; [`frame_refusal`] tells the refusal alone.
+//! - Measures before a body is made, from lent parts: [`measure_open`], [`measure_attach`], [`measure_disposition`], [`measure_detach`], [`measure_end`]
+//! - Reading: [`Framer`] takes pieces of a stream, by `feed`, `feed_shared` or `feed_all`, and tells a [`FrameFault`]
+//! - Laws: [`written_is_framed`], [`always_written`], [`one_answer`], [`one_frame`], [`cutting`]
 #![tactic(auto)]
 
+mod append;
 mod contents;
 mod fair;
 mod fault;
@@ -10,8 +18,9 @@ mod header;
 mod kinds;
 mod laws;
 mod leaf;
+mod lent;
 mod measure;
-mod refused;
+mod measured;
 mod stream;
 mod writing;
 mod written;
@@ -20,13 +29,18 @@ pub use amqp_performatives::{
     AmqpError, AttachBody, BeginBody, CloseBody, DeliveryState, DetachBody, DispositionBody,
     EndBody, FlowBody, OpenBody, Performative, Role, TransferBody,
 };
+pub use append::append_frame;
 pub use fault::{FrameFault, FrameRefusal};
 pub use frame::Frame;
 pub use framer::Framer;
-pub use laws::{cutting, one_answer};
-pub use refused::frame_refusal;
+pub use laws::{always_written, cutting, one_answer, one_frame};
+pub use lent::{
+    AttachParts, measure_attach, measure_begin, measure_detach, measure_disposition, measure_end,
+    measure_open,
+};
+pub use measured::{Measured, frame_refusal, measure_frame};
 pub use stream::Stopped;
-pub use written::{write_frame, written_is_framed};
+pub use written::{write_frame, write_measured, written_is_framed};
 
 #[cfg(test)]
 mod tests;

@@ -23,6 +23,7 @@ impl Framer {
     ///
     /// The first fault, with the number of octets that were used before, which is fewer than the piece has. The frames before it stand behind
     /// `frames`, and nothing of the frame that shows it is taken from the piece: after `NoMemory` the octets from there on may be fed again.
+    /// The framer keeps what it kept before the piece where none were used, and else nothing.
     pub fn feed_all(&mut self, piece: &[u8], frames: &mut Vec<Frame>) -> Result<(), Stopped>
         ensures { FeedsAll self.old piece.now frames.old.items result self.new frames.new.items }
     {

@@ -11,6 +11,24 @@ const UNFAIR: Option<FrameRefusal> = Some(FrameRefusal::NotWritable);
 /// A transfer of a delivery with the payload of one data section.
 const T: &str = "0000001b0200000000 5314c0070443 43a00100 43005375a0026869";
 
+/// A frame of each performative with all its fields, and of each delivery state; those that own memory too.
+const EACH: [&str; 14] = [
+    T,
+    "0000003702000000005310c02a0aa10161a10162700001000060000070000003e8a302656ea302656ea30178a30179c10602a301615201",
+    "0000002c02000000005311c01f0860000043700000080070000008005207a30178a30179c10602a301615201",
+    "0000003c02000000005312c02f0ea1017143415002500000532845005329c00401a10171c10502a0017440414344a30178a30179c10602a301615201",
+    "0000002b02000000005313c01e0b520170000008004370000008004352035209434142c10602a301615201",
+    "0000002d02000000005314c0190b435201a001744342415001005323c0050252015302424241005375a0026869",
+    "0000001802000000005315c00b0641435201410053244541",
+    "0000003c02000000005315c02f0541434040005325c0250100531dc01f03a30e616d71703a6e6f742d666f756e64a104676f6e65c10602a301615201",
+    "0000001602000000005315c009054243404000532645",
+    "0000002202000000005315c0150541434040005327c00b034142c10602a301615201",
+    "0000001b02000000005315c00e0541434040005334c00401a00174",
+    "0000003402000000005316c02703434100531dc01f03a30e616d71703a6e6f742d666f756e64a104676f6e65c10602a301615201",
+    "0000003202000000005317c0250100531dc01f03a30e616d71703a6e6f742d666f756e64a104676f6e65c10602a301615201",
+    "0000003202000000005318c0250100531dc01f03a30e616d71703a6e6f742d666f756e64a104676f6e65c10602a301615201",
+];
+
 /// The octets that the text writes, past its spaces; as many as fit.
 fn octets(alloc: Global, text: &str) -> Result<Vec<u8>, AllocError> {
     let mut octets = Vec::new(alloc);
@@ -50,6 +68,61 @@ fn is_written_back(alloc: Global, text: &str) -> Result<bool, AllocError> {
     let octets = octets(alloc, text)?;
     match written(alloc, octets.as_slice(), 65536) {
         Ok(again) => Ok(again.as_slice() == octets.as_slice()),
+        Err(_) => Ok(false),
+    }
+}
+
+/// What is written for a copy of the frame that these octets are.
+fn written_copy(alloc: Global, octets: &[u8]) -> Result<Bytes, FrameRefusal> {
+    let mut framer = Framer::new(alloc, 65536);
+    match framer.feed(octets) {
+        Ok((_, Some(frame))) => {
+            let copied: Result<Frame, AllocError> = frame.clone();
+            drop(frame);
+            written_of(alloc, copied)
+        }
+        _ => Err(FrameRefusal::NoMemory),
+    }
+}
+
+fn written_of(alloc: Global, copied: Result<Frame, AllocError>) -> Result<Bytes, FrameRefusal> {
+    match copied {
+        Ok(copy) => {
+            let written = write_frame(alloc, &copy, 65536);
+            drop(copy);
+            written
+        }
+        Err(_) => Err(FrameRefusal::NoMemory),
+    }
+}
+
+/// The octets, and behind them what is appended for the frame that they are when they are shared.
+fn appended(alloc: Global, octets: &[u8]) -> Result<Vec<u8>, AllocError> {
+    let mut out = octets.to_vec(alloc)?;
+    let shared = Bytes::copy_from_slice(alloc, octets)?;
+    let mut framer = Framer::new(alloc, 65536);
+    let mut slot = Frame {
+        channel: 0,
+        body: None,
+        payload: Bytes::new(),
+    };
+    let fed = framer.feed_shared(&shared, 0, &mut slot);
+    let written = append_frame(&slot, 65536, &mut out);
+    drop(slot);
+    if fed.is_err() || written.is_err() {
+        out.clear();
+    }
+    Ok(out)
+}
+
+/// The octets are a frame, and each way to read, copy and write it gives them again.
+fn is_written_each_way(alloc: Global, text: &str) -> Result<bool, AllocError> {
+    let octets = octets(alloc, text)?;
+    let twice = appended(alloc, octets.as_slice())?;
+    let is_appended = twice.len() == 2 * octets.len()
+        && twice.as_slice().ends_with(octets.as_slice());
+    match written_copy(alloc, octets.as_slice()) {
+        Ok(again) => Ok(is_appended && again.as_slice() == octets.as_slice()),
         Err(_) => Ok(false),
     }
 }
@@ -352,6 +425,16 @@ fn frames_of_a_session(rt: HostRuntime) -> Result<(), Fail> {
     let flow = "0000001e02000000 005313c01107 43 7000000800 43 707fffffff 43 43 5205";
     assert!(rt; is_written_back(alloc, flow)?);
     assert!(rt; is_written_back(alloc, T)?);
+    Ok(())
+}
+
+/// With memory at hand no call gives up.
+#[test]
+fn each_kind_and_field(rt: HostRuntime) -> Result<(), Fail> {
+    let alloc = rt.alloc();
+    for text in EACH {
+        assert!(rt; is_written_each_way(alloc, text)?, "{text}");
+    }
     Ok(())
 }
 

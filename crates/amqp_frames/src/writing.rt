@@ -1,17 +1,19 @@
 //! Writing fields and composite types behind octets. On an error some of what was to be written may stand there.
-ghost use Rattle.std.specs.Prelude.{◌≡◌, ◌<◌, Some, None, OnOk};
-ghost use Rattle.amqp_types.specs.Canon.{part_form, parts_form};
+ghost use Rattle.std.specs.Prelude.{◌≡◌, Some, None, OnOk};
+ghost use Rattle.amqp_types.specs.Canon.{canon, part_form, parts_form};
 ghost use Rattle.amqp_types.specs.Datum.{count_of};
 ghost use Rattle.amqp_performatives.specs.Part.{canonical};
+ghost use Rattle.amqp_performatives.specs.Composite.{type_of};
 ghost use Rattle.amqp_performatives.specs.Bodies.{symbol, mapping, any, error, state};
-ghost use Rattle.amqp_frames.specs.Field.{forms_within, measured, composite_datum, added};
+ghost use Rattle.amqp_frames.specs.Field.{composite_datum, added};
+ghost use Rattle.amqp_frames.specs.Measuring.{IsListMeasure};
 ghost use Rattle.amqp_performatives.specs.Listed.{part_at, shown_fields};
 
 use crate::leaf::{put_list_head, put_run};
 use crate::measure::{Measure, fields_len};
 use amqp_performatives::field::{Field, any, boolean, failure};
 use amqp_performatives::listed::error_fields;
-use amqp_performatives::{AmqpError, DeliveryState};
+use amqp_performatives::{AmqpError, Composite, DeliveryState};
 use amqp_types::{
     Value, WriteFault, append_map, append_value, is_symbol, write_boolean, write_null, write_ubyte,
     write_uint, write_ulong, write_ushort,
@@ -70,7 +72,7 @@ fn put_any(value: &Value, out: &mut Vec<u8>) -> Result<(), WriteFault>
 fn put_error(failed: &AmqpError, depth: u8, out: &mut Vec<u8>) -> Result<(), WriteFault>
     ensures { OnOk result (added out.old.items (part_form None (canonical (error failed.now))) ≡ Some out.new.items) }
 {
-    put_composite(0x1d, &error_fields(failed), depth, out)
+    put_composite(Composite::Error, &error_fields(failed), depth, out)
 }
 
 #[inline(never)]
@@ -84,15 +86,20 @@ fn put_state(reached: &DeliveryState, depth: u8, out: &mut Vec<u8>) -> Result<()
             section_offset,
         } => {
             put_composite(
-                0x23,
+                Composite::Received,
                 &[Field::Uint(*section_number), Field::Ulong(*section_offset)],
                 depth,
                 out,
             )
         }
-        DeliveryState::Accepted => put_composite(0x24, &[], depth, out),
-        DeliveryState::Rejected(failed) => put_composite(0x25, &[failure(failed)], depth, out),
-        DeliveryState::Released => put_composite(0x26, &[], depth, out),
+        DeliveryState::Accepted => put_composite(Composite::Accepted, &[], depth, out),
+        DeliveryState::Rejected(failed) => put_composite(
+            Composite::Rejected,
+            &[failure(failed)],
+            depth,
+            out,
+        ),
+        DeliveryState::Released => put_composite(Composite::Released, &[], depth, out),
         DeliveryState::Modified {
             delivery_failed,
             undeliverable_here,
@@ -103,7 +110,7 @@ fn put_state(reached: &DeliveryState, depth: u8, out: &mut Vec<u8>) -> Result<()
                 boolean(*undeliverable_here),
                 any(message_annotations),
             ];
-            put_composite(0x27, &fields, depth, out)
+            put_composite(Composite::Modified, &fields, depth, out)
         }
         DeliveryState::Other(value) => append_value(value.get(), out),
     }
@@ -112,39 +119,50 @@ fn put_state(reached: &DeliveryState, depth: u8, out: &mut Vec<u8>) -> Result<()
 /// Writes a described list of the fields.
 #[cycle(writing)]
 fn put_composite(
-    code: u8,
+    composite: Composite,
     fields: &[Field<'_>],
     depth: u8,
     out: &mut Vec<u8>,
 ) -> Result<(), WriteFault>
-    requires { 0 < code }
-    ensures { OnOk result (added out.old.items (part_form None (composite_datum code (shown_fields fields.now))) ≡ Some out.new.items) }
+    ensures { OnOk result (added out.old.items (part_form None (composite_datum (type_of composite).0 (shown_fields fields.now))) ≡ Some out.new.items) }
 {
     if depth < 2 {
         return Err(WriteFault::NotWritable);
     }
     match fields_len(fields, depth - 2) {
-        Some(measure) => put_described(code, fields, measure, depth - 2, out),
+        Some(measure) => put_described(composite, fields, measure, depth - 2, out),
         None => Err(WriteFault::NotWritable),
     }
 }
 
 /// Writes a described list of the fields, each nested at most `depth` deep, whose measure is known.
 #[cycle(writing)]
-pub(crate) fn put_described(
-    code: u8,
+fn put_described(
+    composite: Composite,
     fields: &[Field<'_>],
     measure: Measure,
     depth: u8,
     out: &mut Vec<u8>,
 ) -> Result<(), WriteFault>
-    requires some { 0 < code }
-    requires measure { Some (measure.count, measure.size) ≡ measured (count_of (shown_fields fields.now)) (forms_within depth (shown_fields fields.now)) }
-    ensures { OnOk result (added out.old.items (part_form None (composite_datum code (shown_fields fields.now))) ≡ Some out.new.items) }
+    requires { IsListMeasure depth measure (shown_fields fields.now) }
+    ensures { OnOk result (added out.old.items (part_form None (composite_datum (type_of composite).0 (shown_fields fields.now))) ≡ Some out.new.items) }
 {
-    out.extend_from_slice(&[0x00, 0x53, code])?;
+    out.extend_from_slice(&[0x00, 0x53, composite.number()])?;
     put_list_head(measure.count, measure.size, out)?;
     put_fields(fields, measure.count as usize, depth, out)
+}
+
+/// Writes the described list of a performative's fields, whose measure is known.
+pub(crate) fn put_list(
+    composite: Composite,
+    fields: &[Field<'_>],
+    list: Measure,
+    out: &mut Vec<u8>,
+) -> Result<(), WriteFault>
+    requires { IsListMeasure 30 list (shown_fields fields.now) }
+    ensures { OnOk result (added out.old.items (canon (composite_datum (type_of composite).0 (shown_fields fields.now))) ≡ Some out.new.items) }
+{
+    put_described(composite, fields, list, 30, out)
 }
 
 /// Writes so many of the fields, those up to the last that is present.

@@ -1,35 +1,24 @@
 //! Writing a frame.
-ghost use Rattle.std.specs.Prelude.{◌≡◌, ◌<◌, ◌≤◌, ◌+◌, ◌++◌, length, Some, None, Ok, Err, OnOk, MatchResult};
+ghost use Rattle.std.specs.Prelude.{◌≡◌, ◌++◌, Some, IfOk, OnOk};
 ghost use Rattle.amqp_types.specs.Canon.{canon};
-ghost use Rattle.amqp_types.specs.Datum.{count_of};
-ghost use Rattle.amqp_frames.specs.Field.{forms_within, measured, composite_datum, added, header, size_answer, with_payload, body_answer};
-ghost use Rattle.amqp_performatives.specs.Listed.{shown_fields};
-ghost use Rattle.amqp_frames.specs.Written.{Answers, write_answer, within_size, framed, may_follow, WrittenIsFramed};
+ghost use Rattle.amqp_performatives.specs.Part.{canonical};
+ghost use Rattle.amqp_performatives.specs.Bodies.{part_of};
+ghost use Rattle.amqp_frames.specs.Field.{added, header, with_payload};
+ghost use Rattle.amqp_frames.specs.Written.{Answers, frame_octets, write_answer, WrittenIsFramed};
+ghost use Rattle.amqp_frames.specs.Measuring.{IsListMeasure, IsMeasureOf, listed};
 
-use crate::fair::is_fair;
 use crate::fault::FrameRefusal;
 use crate::frame::Frame;
 use crate::kinds::{
-    write_attach, write_begin, write_close, write_detach, write_disposition, write_end, write_flow,
-    write_open, write_transfer,
+    put_attach, put_begin, put_close, put_detach, put_disposition, put_end, put_flow, put_open,
+    put_transfer,
 };
-use crate::leaf::list_len;
-use crate::measure::{Measure, fields_len};
-use crate::writing::put_described;
+use crate::measure::Measure;
+use crate::measured::{Measured, measure_frame};
 use amqp_performatives::Performative;
-use amqp_performatives::field::Field;
 use amqp_types::WriteFault;
 use bytes::Bytes;
-use std::alloc::Global;
-
-/// What a frame has besides its performative, and where and how long it may be.
-#[derive(Clone, Copy)]
-pub(crate) struct Envelope<'a> {
-    pub(crate) alloc: Global,
-    pub(crate) channel: u16,
-    pub(crate) payload: &'a [u8],
-    pub(crate) max: u32,
-}
+use std::alloc::{AllocError, Global};
 
 /// Writes the frame: its size, the data offset 2, the type 0, the channel, the canonical spelling of the performative without absent fields at
 /// the end, and the payload (OASIS AMQP 1.0, part 2, 2.3).
@@ -43,28 +32,28 @@ pub(crate) struct Envelope<'a> {
 pub fn write_frame(alloc: Global, frame: &Frame, max: u32) -> Result<Bytes, FrameRefusal>
     ensures { Answers result (write_answer frame.now max) }
 {
-    let envelope = Envelope {
-        alloc,
-        channel: frame.channel,
-        payload: frame.payload.as_slice(),
-        max,
-    };
-    let Some(performative) = &frame.body else {
-        return write_empty(&envelope);
-    };
-    if !is_fair(performative) || !may_follow(envelope.payload, performative) {
-        return Err(FrameRefusal::NotWritable);
+    match measure_frame(&frame.body, frame.payload.len(), max) {
+        Ok(measured) => match write_measured(alloc, frame, measured) {
+            Ok(octets) => Ok(octets),
+            Err(_) => Err(FrameRefusal::NoMemory),
+        },
+        Err(refusal) => Err(refusal),
     }
-    match performative {
-        Performative::Open(body) => write_open(&envelope, body.get()),
-        Performative::Begin(body) => write_begin(&envelope, body.get()),
-        Performative::Attach(body) => write_attach(&envelope, body.get()),
-        Performative::Flow(body) => write_flow(&envelope, body),
-        Performative::Transfer(body) => write_transfer(&envelope, body),
-        Performative::Disposition(body) => write_disposition(&envelope, body),
-        Performative::Detach(body) => write_detach(&envelope, body),
-        Performative::End(body) => write_end(&envelope, body),
-        Performative::Close(body) => write_close(&envelope, body),
+}
+
+/// Writes a frame whose measure is known, as `write_frame` does, into room for just as many octets.
+///
+/// # Errors
+///
+/// Memory was refused.
+pub fn write_measured(alloc: Global, frame: &Frame, measured: Measured) -> Result<Bytes, AllocError>
+    requires { IsMeasureOf frame.now measured }
+    ensures { IfOk result (λ octets. frame_octets frame.now ≡ Some octets) }
+{
+    let mut out = Vec::with_capacity(alloc, measured.size as usize)?;
+    match put_frame(frame, measured, &mut out) {
+        Ok(()) => finish(out),
+        Err(_) => Err(AllocError),
     }
 }
 
@@ -73,82 +62,22 @@ pub fn written_is_framed()
     ensures { WrittenIsFramed }
 {}
 
-/// A payload follows a transfer alone.
-pub(crate) fn may_follow(payload: &[u8], performative: &Performative) -> bool
-    ensures { result ≡ may_follow payload.now performative.now }
+/// Writes the frame behind the octets that are there. On an error some of it may stand there.
+pub(crate) fn put_frame(
+    frame: &Frame,
+    measured: Measured,
+    out: &mut Vec<u8>,
+) -> Result<(), WriteFault>
+    requires { IsMeasureOf frame.now measured }
+    ensures { OnOk result (added out.old.items (frame_octets frame.now) ≡ Some out.new.items) }
 {
-    match payload {
-        [] => true,
-        _ => match performative {
-            Performative::Transfer(_) => true,
-            _ => false,
-        },
+    put_header(measured.size, frame.channel, out)?;
+    match &frame.body {
+        Some(performative) => {
+            put_contents(performative, measured.list, frame.payload.as_slice(), out)
+        }
+        None => Ok(()),
     }
-}
-
-/// A frame without a performative.
-fn write_empty(envelope: &Envelope<'_>) -> Result<Bytes, FrameRefusal>
-    ensures { Answers result (write_answer (record { channel = envelope.now.channel; body = None; payload = envelope.now.payload.now }) envelope.now.max) }
-{
-    if !envelope.payload.is_empty() {
-        return Err(FrameRefusal::NotWritable);
-    }
-    let size = frame_size(0, 0, envelope.max)?;
-    let Ok(mut out) = Vec::with_capacity(envelope.alloc, size as usize) else {
-        return Err(FrameRefusal::NoMemory);
-    };
-    match put_header(size, envelope.channel, &mut out) {
-        Ok(()) => finish(out),
-        Err(_) => Err(FrameRefusal::NoMemory),
-    }
-}
-
-/// A frame with a described list of these fields and the payload.
-pub(crate) fn write_body(
-    envelope: &Envelope<'_>,
-    code: u8,
-    fields: &[Field<'_>],
-) -> Result<Bytes, FrameRefusal>
-    requires { 0 < code }
-    ensures { Answers result (body_answer envelope.now.channel envelope.now.max (canon (composite_datum code (shown_fields fields.now))) envelope.now.payload.now) }
-{
-    let Some(measure) = fields_len(fields, 30) else {
-        return Err(FrameRefusal::NotWritable);
-    };
-    let Some(list) = list_len(measure.count, measure.size) else {
-        return Err(FrameRefusal::NotWritable);
-    };
-    let payload = envelope.payload;
-    let size = frame_size(list + 3, payload.len(), envelope.max)?;
-    let Ok(mut out) = Vec::with_capacity(envelope.alloc, size as usize) else {
-        return Err(FrameRefusal::NoMemory);
-    };
-    match put_frame(
-        size,
-        envelope.channel,
-        code,
-        fields,
-        measure,
-        payload,
-        &mut out,
-    ) {
-        Ok(()) => finish(out),
-        Err(_) => Err(FrameRefusal::NoMemory),
-    }
-}
-
-/// The size of a frame with so many octets of a body and of payload.
-pub(crate) fn frame_size(body: u64, payload: usize, max: u32) -> Result<u32, FrameRefusal>
-    ensures { result ≡ size_answer (8 + (body + payload)) max }
-{
-    let size = body.saturating_add(payload as u64).saturating_add(8);
-    if size >= 0x1_0000_0000 {
-        return Err(FrameRefusal::NotWritable);
-    }
-    if size > max as u64 {
-        return Err(FrameRefusal::FrameTooBig);
-    }
-    Ok(size as u32)
 }
 
 fn put_header(size: u32, channel: u16, out: &mut Vec<u8>) -> Result<(), WriteFault>
@@ -160,31 +89,48 @@ fn put_header(size: u32, channel: u16, out: &mut Vec<u8>) -> Result<(), WriteFau
     Ok(())
 }
 
-fn put_frame(
-    size: u32,
-    channel: u16,
-    code: u8,
-    fields: &[Field<'_>],
-    measure: Measure,
+/// The performative and the payload.
+fn put_contents(
+    performative: &Performative,
+    list: Measure,
     payload: &[u8],
     out: &mut Vec<u8>,
 ) -> Result<(), WriteFault>
-    requires some { 0 < code }
-    requires measure { Some (measure.count, measure.size) ≡ measured (count_of (shown_fields fields.now)) (forms_within 30 (shown_fields fields.now)) }
-    ensures { OnOk result (added (out.old.items ++ header size channel) (with_payload (canon (composite_datum code (shown_fields fields.now))) payload.now) ≡ Some out.new.items) }
+    requires { IsListMeasure 30 list (listed (Some performative.now)) }
+    ensures { OnOk result (added out.old.items (with_payload (canon (canonical (part_of performative.now))) payload.now) ≡ Some out.new.items) }
 {
-    put_header(size, channel, out)?;
-    put_described(code, fields, measure, 30, out)?;
+    put_performative(performative, list, out)?;
     out.extend_from_slice(payload)?;
     Ok(())
 }
 
+fn put_performative(
+    performative: &Performative,
+    list: Measure,
+    out: &mut Vec<u8>,
+) -> Result<(), WriteFault>
+    requires { IsListMeasure 30 list (listed (Some performative.now)) }
+    ensures { OnOk result (added out.old.items (canon (canonical (part_of performative.now))) ≡ Some out.new.items) }
+{
+    match performative {
+        Performative::Open(body) => put_open(body.get(), list, out),
+        Performative::Begin(body) => put_begin(body.get(), list, out),
+        Performative::Attach(body) => put_attach(body.get(), list, out),
+        Performative::Flow(body) => put_flow(body, list, out),
+        Performative::Transfer(body) => put_transfer(body, list, out),
+        Performative::Disposition(body) => put_disposition(body, list, out),
+        Performative::Detach(body) => put_detach(body, list, out),
+        Performative::End(body) => put_end(body, list, out),
+        Performative::Close(body) => put_close(body, list, out),
+    }
+}
+
 /// The octets, without a copy.
-fn finish(out: Vec<u8>) -> Result<Bytes, FrameRefusal>
-    ensures { MatchResult result (λ octets. octets ≡ out.items) (λ e. e ≡ FrameRefusal.NoMemory) }
+fn finish(out: Vec<u8>) -> Result<Bytes, AllocError>
+    ensures { IfOk result (λ octets. octets ≡ out.items) }
 {
     match Bytes::from_vec(out) {
         Ok(octets) => Ok(octets),
-        Err(_) => Err(FrameRefusal::NoMemory),
+        Err(_) => Err(AllocError),
     }
 }

@@ -14,10 +14,10 @@ use Rattle.amqp_frames.proofs.writing.+writing.Goals as goal
 pub put_described-returns : goal.put_described-returns
 put_described-returns t c =
     let ds = shown_fields c.args.fields.now in
-    on_ok c.put_fields.result (added c.put_list_head.new.out.items (parts_form ds None) ≡ Some c.put_fields.new.out.items) (added c.args.out.now.items (part_form None (composite_datum c.args.code ds)) ≡ Some c.put_fields.new.out.items)
-    (described_put c.args.code c.args.measure.count c.args.measure.size c.args.depth ds c.args.out.now.items c.extend_from_slice.new.self.items c.put_list_head.new.out.items c.put_fields.new.out.items
-    c.requires.some (omega arith) c.requires.measure c.in_ok-extend_from_slice.ensures.items c.in_ok-put_list_head.ensures)
-    c.put_fields.ensures
+    rw (← c.number.ensures.value) (on_ok c.put_fields.result (added c.put_list_head.new.out.items (parts_form ds None) ≡ Some c.put_fields.new.out.items) (added c.args.out.now.items (part_form None (composite_datum c.number.result ds)) ≡ Some c.put_fields.new.out.items)
+    (described_put c.number.result c.args.measure.count c.args.measure.size c.args.depth ds c.args.out.now.items c.extend_from_slice.new.self.items c.put_list_head.new.out.items c.put_fields.new.out.items
+    c.number.ensures.some (omega arith) c.requires c.in_ok-extend_from_slice.ensures.items c.in_ok-put_list_head.ensures)
+    c.put_fields.ensures)
 
 pub put_field-returns-in_ok-write_null-in-Absent : goal.put_field-returns-in_ok-write_null-in-Absent
 put_field-returns-in_ok-write_null-in-Absent t c = rw c.in-Absent.is (canon_appended (number Kind.Null 0) c.args.out.now.items c.write_null.new.out.items refl c.in_ok-write_null-in-Absent.ensures.ok)

@@ -1,0 +1,18 @@
+-- What the readers promise that leave a performative in a slot.
+use Rattle.std.specs.Prelude.{ℕ, ◌≡◌, Bool, true, false, Option, Some, None, Result, Ok, Err, List}
+use Rattle.amqp_types.specs.Datum.{Datum}
+use Rattle.amqp_decoder.specs.declared.fields.Fields.{Fields as Cursor}
+use Rattle.amqp_performatives.specs.declared.performative.Performative.{Performative}
+use Rattle.amqp_decoder.specs.declared.fault.BodyFault.{BodyFault}
+use Rattle.amqp_decoder.specs.ReadPerformatives.{ReadsDescribed, ReadsFront}
+
+-- where the answer is good the slot has the performative
+abbrev pub LeavesDescribed : Datum → Cursor → Result (Unit {0}) BodyFault → Option Performative → Type 0
+LeavesDescribed descriptor from (Ok u) (Some p) = ReadsDescribed descriptor from (Ok p)
+LeavesDescribed descriptor from (Ok u) None = ⊥
+LeavesDescribed descriptor from (Err fault) slot = ReadsDescribed descriptor from (Err fault)
+
+abbrev pub LeavesFront : List ℕ → Result ℕ BodyFault → Option Performative → Type 0
+LeavesFront octets (Ok used) (Some p) = ReadsFront octets (Ok (p, used))
+LeavesFront octets (Ok used) None = ⊥
+LeavesFront octets (Err fault) slot = ReadsFront octets (Err fault)

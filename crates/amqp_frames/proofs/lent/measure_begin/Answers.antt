@@ -1,0 +1,8 @@
+use Rattle.std.proofs.Common.{refl, sym, ◌∙◌, arith}
+use Rattle.amqp_performatives.specs.declared.performative.Performative.TheVariants.{Begin}
+use Rattle.amqp_frames.proofs.Measuring.{measures_lent}
+use Rattle.amqp_frames.proofs.lent.measure_begin.Goals as goal
+
+pub returns : goal.returns
+returns c channel =
+    measures_lent c.measure_list.result (Begin c.args.body.now) channel c.args.max _ (sym c.if-not-is_fair_begin.false ∙ c.is_fair_begin.ensures) c.begin_fields.ensures (c.measure_list.ensures 0x11 channel _ (omega arith) (omega arith) refl)

@@ -1,0 +1,37 @@
+-- The bodies of parts that are lent; a field that is not among the parts is absent.
+use Rattle.std.specs.Prelude.{ℕ, Bool, Option, None}
+use Rattle.amqp_performatives.specs.declared.bodies.Role.{Role}
+use Rattle.amqp_performatives.specs.declared.bodies.AttachBody.{AttachBody}
+use Rattle.amqp_performatives.specs.declared.bodies.DispositionBody.{DispositionBody}
+use Rattle.amqp_performatives.specs.declared.bodies.DetachBody.{DetachBody}
+use Rattle.amqp_performatives.specs.declared.bodies.EndBody.{EndBody}
+use Rattle.amqp_performatives.specs.declared.error.AmqpError.{AmqpError}
+use Rattle.amqp_performatives.specs.declared.state.DeliveryState.{DeliveryState}
+use Rattle.amqp_frames.specs.declared.lent.AttachParts.{AttachParts}
+
+abbrev pub attach_of : AttachParts → AttachBody
+attach_of p = record {
+  name = p.name.now;
+  handle = p.handle;
+  role = p.role;
+  snd_settle_mode = p.snd_settle_mode;
+  rcv_settle_mode = p.rcv_settle_mode;
+  source = p.source.now;
+  target = p.target.now;
+  unsettled = None;
+  incomplete_unsettled = None;
+  initial_delivery_count = p.initial_delivery_count;
+  max_message_size = p.max_message_size;
+  offered_capabilities = None;
+  desired_capabilities = None;
+  properties = None;
+}
+
+abbrev pub disposition_of : Role → ℕ → Option ℕ → Option Bool → Option DeliveryState → DispositionBody
+disposition_of role first last settled state = record { role = role; first = first; last = last; settled = settled; state = state; batchable = None }
+
+abbrev pub detach_of : ℕ → Option Bool → Option AmqpError → DetachBody
+detach_of handle closed error = record { handle = handle; closed = closed; error = error }
+
+abbrev pub end_of : Option AmqpError → EndBody
+end_of error = record { error = error }

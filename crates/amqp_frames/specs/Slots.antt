@@ -1,0 +1,17 @@
+-- A slot that a frame is left in.
+use Rattle.std.specs.Prelude.{ℕ, Bool, true, false, Option, Some, None, Result, Ok, Err, List}
+use Rattle.amqp_performatives.specs.declared.performative.Performative.{Performative}
+use Rattle.amqp_frames.specs.declared.fault.FrameFault.{FrameFault}
+use Rattle.amqp_frames.specs.declared.frame.Frame.{Frame}
+use Rattle.amqp_frames.specs.Framing.{is_transfer}
+use Rattle.amqp_frames.specs.Framer.{FramerState, Feeds}
+
+abbrev pub holds_transfer : Option Performative → Bool
+holds_transfer None = false
+holds_transfer (Some p) = is_transfer p
+
+-- What a feed answers and leaves: the slot has the frame where one was whole.
+abbrev pub FeedsSlot : FramerState → List ℕ → Result (ℕ × Bool) FrameFault → Frame → FramerState → Type 0
+FeedsSlot old piece (Ok (used, true)) slot new = Feeds old piece (Ok (used, Some slot)) new
+FeedsSlot old piece (Ok (used, false)) slot new = Feeds old piece (Ok (used, None)) new
+FeedsSlot old piece (Err fault) slot new = Feeds old piece (Err fault) new

@@ -1,0 +1,473 @@
+//! Frames written behind octets: transfers, flows and dispositions of plain fields by way of a small buffer, any other as `write_frame` does.
+ghost use Rattle.std.specs.Prelude.{◌≡◌, ◌≤◌, ◌<◌, ◌+◌, ◌-◌, ◌++◌, [], ◌∷◌, ℕ, List, Option, Some, None, IfSome, length, take, option_map, if◌then◌else◌, nat_lt, nat_eq};
+ghost use Rattle.std.specs.Int.{to_be_bytes, w32};
+ghost use Rattle.amqp_frames.specs.Plain.{Holds, full, trim, uint_octets, boolean_octets, ubyte_octets, binary_octets, bare_octets, state_of, IsShown, AreShown, Appended};
+ghost use Rattle.amqp_types.specs.Datum.{Data, count_of, greatest_depth_of};
+ghost use Rattle.amqp_types.specs.Canon.{canon, parts_form};
+ghost use Rattle.amqp_performatives.specs.Part.{canonical_fields};
+ghost use Rattle.amqp_performatives.specs.Bodies.{uint, boolean, ubyte, binary, role as role_part, optional, transfer_fields, flow_fields, disposition_fields};
+ghost use Rattle.amqp_frames.specs.Field.{composite_datum, body_answer, header};
+ghost use Rattle.amqp_frames.specs.Written.{write_answer};
+
+use crate::fair::is_fair;
+use crate::fault::FrameRefusal;
+use crate::frame::Frame;
+use crate::measured::frame_size;
+use crate::written::write_frame;
+use amqp_performatives::{
+    DeliveryState, DispositionBody, FlowBody, Performative, Role, TransferBody,
+};
+use amqp_types::Tag;
+
+/// What a frame has besides its performative, and how long it may be.
+#[derive(Clone, Copy)]
+struct Envelope<'a> {
+    channel: u16,
+    payload: &'a [u8],
+    max: u32,
+}
+
+/// A state without fields, or none.
+#[derive(Clone, Copy)]
+pub(crate) enum BareState {
+    Absent,
+    Accepted,
+    Released,
+}
+
+#[inline]
+fn bare_state(state: &Option<DeliveryState>) -> Option<BareState>
+    ensures { IfSome result (λ b. state.now ≡ state_of b) }
+{
+    match state {
+        None => Some(BareState::Absent),
+        Some(DeliveryState::Accepted) => Some(BareState::Accepted),
+        Some(DeliveryState::Released) => Some(BareState::Released),
+        _ => None,
+    }
+}
+
+/// Room for the octets of a frame without its payload.
+const ROOM: usize = 96;
+
+/// Writes the octets at their place, and answers where they end.
+#[inline(always)]
+fn put(head: &mut [u8; ROOM], at: usize, octets: &[u8]) -> usize
+    requires { at + length octets.now ≤ 96 }
+    ensures end { result ≡ at + length octets.now }
+    ensures front { take result head.new ≡ take at head.old ++ octets.now }
+{
+    let end = at + octets.len();
+    head[at..end].copy_from_slice(octets);
+    end
+}
+
+/// Where fields are written: where the next one goes, where the last one that is present ended, and how many there were then.
+#[derive(Clone, Copy)]
+struct Spot {
+    at: usize,
+    end: usize,
+    count: usize,
+}
+
+/// An absent field.
+#[inline(always)]
+fn absent(head: &mut [u8; ROOM], spot: Spot) -> Spot
+    requires { spot.at + 1 ≤ 96 }
+    ensures bound { result.at ≤ spot.at + 1 }
+    ensures holds { (front : List ℕ) (os : List (Option (List ℕ))) → Holds front head.old spot.at spot.end spot.count os → Holds front head.new result.at result.end result.count (os ++ None ∷ []) }
+{
+    let at = put(head, spot.at, &[0x40]);
+    Spot {
+        at,
+        end: spot.end,
+        count: spot.count,
+    }
+}
+
+/// The octets of a uint, written at their place.
+#[inline(always)]
+fn put_uint(head: &mut [u8; ROOM], at: usize, n: u32) -> usize
+    requires { at + 5 ≤ 96 }
+    ensures bound { (at ≤ result) × (result ≤ at + 5) }
+    ensures front { take result head.new ≡ take at head.old ++ uint_octets n }
+{
+    if n == 0 {
+        return put(head, at, &[0x43]);
+    }
+    if n < 256 {
+        return put(head, at, &[0x52, n as u8]);
+    }
+    let [a, b, c, d] = n.to_be_bytes();
+    put(head, at, &[0x70, a, b, c, d])
+}
+
+/// A uint, where it is there, as the field of this number.
+#[inline(always)]
+fn uint(head: &mut [u8; ROOM], spot: Spot, number: usize, n: Option<u32>) -> Spot
+    requires { spot.at + 5 ≤ 96 }
+    ensures bound { result.at ≤ spot.at + 5 }
+    ensures holds { (front : List ℕ) (os : List (Option (List ℕ))) → Holds front head.old spot.at spot.end spot.count os → number ≡ length os + 1 → Holds front head.new result.at result.end result.count (os ++ option_map uint_octets n ∷ []) }
+    ensures shown { IsShown (optional uint n) (option_map uint_octets n) }
+{
+    match n {
+        Some(n) => {
+            let at = put_uint(head, spot.at, n);
+            Spot {
+                at,
+                end: at,
+                count: number,
+            }
+        }
+        None => absent(head, spot),
+    }
+}
+
+#[inline(always)]
+fn boolean_code(b: bool) -> u8
+    ensures { result ≡ (if b then 0x41 else 0x42) }
+{
+    if b { 0x41 } else { 0x42 }
+}
+
+/// A boolean, where it is there, as the field of this number.
+#[inline(always)]
+fn boolean(head: &mut [u8; ROOM], spot: Spot, number: usize, b: Option<bool>) -> Spot
+    requires { spot.at + 1 ≤ 96 }
+    ensures bound { result.at ≤ spot.at + 1 }
+    ensures holds { (front : List ℕ) (os : List (Option (List ℕ))) → Holds front head.old spot.at spot.end spot.count os → number ≡ length os + 1 → Holds front head.new result.at result.end result.count (os ++ option_map boolean_octets b ∷ []) }
+    ensures shown { IsShown (optional boolean b) (option_map boolean_octets b) }
+{
+    match b {
+        Some(b) => {
+            let at = put(head, spot.at, &[boolean_code(b)]);
+            Spot {
+                at,
+                end: at,
+                count: number,
+            }
+        }
+        None => absent(head, spot),
+    }
+}
+
+/// A ubyte, where it is there, as the field of this number.
+#[inline(always)]
+fn ubyte(head: &mut [u8; ROOM], spot: Spot, number: usize, n: Option<u8>) -> Spot
+    requires { spot.at + 2 ≤ 96 }
+    ensures bound { result.at ≤ spot.at + 2 }
+    ensures holds { (front : List ℕ) (os : List (Option (List ℕ))) → Holds front head.old spot.at spot.end spot.count os → number ≡ length os + 1 → Holds front head.new result.at result.end result.count (os ++ option_map ubyte_octets n ∷ []) }
+    ensures shown { IsShown (optional ubyte n) (option_map ubyte_octets n) }
+{
+    match n {
+        Some(n) => {
+            let at = put(head, spot.at, &[0x50, n]);
+            Spot {
+                at,
+                end: at,
+                count: number,
+            }
+        }
+        None => absent(head, spot),
+    }
+}
+
+/// The octets of a short binary, written at their place.
+#[inline(always)]
+fn put_binary(head: &mut [u8; ROOM], at: usize, octets: &[u8]) -> usize
+    requires short { length octets.now ≤ 32 }
+    requires room { at + 34 ≤ 96 }
+    ensures bound { (at ≤ result) × (result ≤ at + 34) }
+    ensures front { take result head.new ≡ take at head.old ++ binary_octets octets.now }
+{
+    let start = put(head, at, &[0xa0, octets.len() as u8]);
+    put(head, start, octets)
+}
+
+/// A tag, where it is there, as the field of this number.
+#[inline(always)]
+fn tag(head: &mut [u8; ROOM], spot: Spot, number: usize, tag: &Option<Tag>) -> Spot
+    requires { spot.at + 34 ≤ 96 }
+    ensures bound { result.at ≤ spot.at + 34 }
+    ensures holds { (front : List ℕ) (os : List (Option (List ℕ))) → Holds front head.old spot.at spot.end spot.count os → number ≡ length os + 1 → Holds front head.new result.at result.end result.count (os ++ option_map binary_octets tag.now ∷ []) }
+    ensures shown { IsShown (optional binary tag.now) (option_map binary_octets tag.now) }
+{
+    match tag {
+        Some(tag) => {
+            let at = put_binary(head, spot.at, tag.octets());
+            Spot {
+                at,
+                end: at,
+                count: number,
+            }
+        }
+        None => absent(head, spot),
+    }
+}
+
+/// A state without fields, where it is there, as the field of this number.
+#[inline(always)]
+fn state(head: &mut [u8; ROOM], spot: Spot, number: usize, state: BareState) -> Spot
+    requires { spot.at + 4 ≤ 96 }
+    ensures bound { result.at ≤ spot.at + 4 }
+    ensures holds { (front : List ℕ) (os : List (Option (List ℕ))) → Holds front head.old spot.at spot.end spot.count os → number ≡ length os + 1 → Holds front head.new result.at result.end result.count (os ++ bare_octets state ∷ []) }
+{
+    match state {
+        BareState::Absent => absent(head, spot),
+        BareState::Accepted => {
+            let at = put(head, spot.at, &[0x00, 0x53, 0x24, 0x45]);
+            Spot {
+                at,
+                end: at,
+                count: number,
+            }
+        }
+        BareState::Released => {
+            let at = put(head, spot.at, &[0x00, 0x53, 0x26, 0x45]);
+            Spot {
+                at,
+                end: at,
+                count: number,
+            }
+        }
+    }
+}
+
+/// Before the first field.
+const START: Spot = Spot {
+    at: 14,
+    end: 14,
+    count: 0,
+};
+
+/// A transfer's fields, from the fifteenth place on: where they end, and how many are shown.
+#[inline(never)]
+fn put_transfer(body: &TransferBody, reached: BareState, head: &mut [u8; ROOM]) -> (usize, usize)
+    requires bare { body.now.state ≡ state_of reached }
+    ensures bound { (14 ≤ result.0) × (result.0 ≤ 96) × (result.1 ≤ 11) }
+    ensures some { 0 < result.1 }
+    ensures shown { (os : List (Option (List ℕ))) × AreShown (transfer_fields body.now) os × (take result.0 head.new ≡ take 14 head.old ++ full (trim os)) × (result.1 ≡ length (trim os)) }
+{
+    let handle = uint(head, START, 1, Some(body.handle));
+    let id = uint(head, handle, 2, body.delivery_id);
+    let named = tag(head, id, 3, &body.delivery_tag);
+    let format = uint(head, named, 4, body.message_format);
+    let settled = boolean(head, format, 5, body.settled);
+    let more = boolean(head, settled, 6, body.more);
+    let mode = ubyte(head, more, 7, body.rcv_settle_mode);
+    let outcome = state(head, mode, 8, reached);
+    let resume = boolean(head, outcome, 9, body.resume);
+    let aborted = boolean(head, resume, 10, body.aborted);
+    let last = boolean(head, aborted, 11, body.batchable);
+    (last.end, last.count)
+}
+
+/// A flow's fields.
+#[inline(never)]
+fn put_flow(body: &FlowBody, head: &mut [u8; ROOM]) -> (usize, usize)
+    requires bare { body.now.properties ≡ None }
+    ensures bound { (14 ≤ result.0) × (result.0 ≤ 96) × (result.1 ≤ 11) }
+    ensures some { 0 < result.1 }
+    ensures shown { (os : List (Option (List ℕ))) × AreShown (flow_fields body.now) os × (take result.0 head.new ≡ take 14 head.old ++ full (trim os)) × (result.1 ≡ length (trim os)) }
+{
+    let incoming = uint(head, START, 1, body.next_incoming_id);
+    let window = uint(head, incoming, 2, Some(body.incoming_window));
+    let outgoing = uint(head, window, 3, Some(body.next_outgoing_id));
+    let theirs = uint(head, outgoing, 4, Some(body.outgoing_window));
+    let handle = uint(head, theirs, 5, body.handle);
+    let counted = uint(head, handle, 6, body.delivery_count);
+    let credit = uint(head, counted, 7, body.link_credit);
+    let available = uint(head, credit, 8, body.available);
+    let drain = boolean(head, available, 9, body.drain);
+    let echo = boolean(head, drain, 10, body.echo);
+    let last = absent(head, echo);
+    (last.end, last.count)
+}
+
+/// A disposition's fields.
+#[inline(never)]
+fn put_disposition(
+    body: &DispositionBody,
+    reached: BareState,
+    head: &mut [u8; ROOM],
+) -> (usize, usize)
+    requires bare { body.now.state ≡ state_of reached }
+    ensures bound { (14 ≤ result.0) × (result.0 ≤ 96) × (result.1 ≤ 6) }
+    ensures some { 0 < result.1 }
+    ensures shown { (os : List (Option (List ℕ))) × AreShown (disposition_fields body.now) os × (take result.0 head.new ≡ take 14 head.old ++ full (trim os)) × (result.1 ≡ length (trim os)) }
+{
+    let role = boolean(head, START, 1, Some(is_receiver(body.role)));
+    let first = uint(head, role, 2, Some(body.first));
+    let last = uint(head, first, 3, body.last);
+    let settled = boolean(head, last, 4, body.settled);
+    let outcome = state(head, settled, 5, reached);
+    let end = boolean(head, outcome, 6, body.batchable);
+    (end.end, end.count)
+}
+
+/// A role as it is spelled.
+#[inline(always)]
+fn is_receiver(role: Role) -> bool
+    ensures { role_part role ≡ boolean result }
+{
+    match role {
+        Role::Sender => false,
+        Role::Receiver => true,
+    }
+}
+
+/// A frame's header, the descriptor and the head of a short list.
+#[inline(always)]
+fn plain_head(size: u32, channel: u16, code: u8, end: usize, count: usize) -> [u8; 14]
+    requires end { (14 ≤ end) × (end ≤ 96) }
+    requires count { count < 256 }
+    ensures { result ≡ header size channel ++ 0x00 ∷ 0x53 ∷ code ∷ 0xc0 ∷ (end - 13) ∷ count ∷ [] }
+{
+    let [a, b, c, d] = size.to_be_bytes();
+    let [e, f] = channel.to_be_bytes();
+    [
+        a,
+        b,
+        c,
+        d,
+        2,
+        0,
+        e,
+        f,
+        0x00,
+        0x53,
+        code,
+        0xc0,
+        (end - 13) as u8,
+        count as u8,
+    ]
+}
+
+/// Appends the frame whose fields stand in the buffer from its fifteenth place on, so many as are shown.
+#[inline(always)]
+fn append_plain(
+    envelope: &Envelope<'_>,
+    code: u8,
+    shown: (usize, usize),
+    head: &mut [u8; ROOM],
+    out: &mut Vec<u8>,
+) -> Result<(), FrameRefusal>
+    requires some { (0 < code) × (0 < shown.1) × (shown.1 < 256) }
+    requires bound { (14 ≤ shown.0) × (shown.0 ≤ 96) }
+    ensures { (ds : Data) (x : List ℕ) → parts_form ds None ≡ Some x → count_of ds ≡ shown.1 → greatest_depth_of ds ≤ 3 → take shown.0 head.old ≡ take 14 head.old ++ x → Appended result (body_answer envelope.now.channel envelope.now.max (canon (composite_datum code ds)) envelope.now.payload.now) out.old.items out.new.items }
+{
+    let (end, count) = shown;
+    let payload = envelope.payload;
+    let size = match frame_size((end - 8) as u64, payload.len(), envelope.max) {
+        Ok(size) => size,
+        Err(refusal) => return Err(refusal),
+    };
+    head[..14].copy_from_slice(&plain_head(size, envelope.channel, code, end, count));
+    let Ok(()) = out.reserve(size as usize) else {
+        return Err(FrameRefusal::NoMemory);
+    };
+    out.extend_from_slice(&head[..end]).unwrap();
+    out.extend_from_slice(payload).unwrap();
+    Ok(())
+}
+
+/// Appends the frame with the transfer and the payload.
+#[inline(always)]
+fn append_transfer(
+    envelope: &Envelope<'_>,
+    body: &TransferBody,
+    reached: BareState,
+    out: &mut Vec<u8>,
+) -> Result<(), FrameRefusal>
+    requires { body.now.state ≡ state_of reached }
+    ensures { Appended result (body_answer envelope.now.channel envelope.now.max (canon (composite_datum 0x14 (canonical_fields (transfer_fields body.now)))) envelope.now.payload.now) out.old.items out.new.items }
+{
+    let mut head = [0; ROOM];
+    let shown = put_transfer(body, reached, &mut head);
+    append_plain(envelope, 0x14, shown, &mut head, out)
+}
+
+#[inline(always)]
+fn append_flow(
+    envelope: &Envelope<'_>,
+    body: &FlowBody,
+    out: &mut Vec<u8>,
+) -> Result<(), FrameRefusal>
+    requires { body.now.properties ≡ None }
+    ensures { Appended result (body_answer envelope.now.channel envelope.now.max (canon (composite_datum 0x13 (canonical_fields (flow_fields body.now)))) envelope.now.payload.now) out.old.items out.new.items }
+{
+    let mut head = [0; ROOM];
+    let shown = put_flow(body, &mut head);
+    append_plain(envelope, 0x13, shown, &mut head, out)
+}
+
+#[inline(always)]
+fn append_disposition(
+    envelope: &Envelope<'_>,
+    body: &DispositionBody,
+    reached: BareState,
+    out: &mut Vec<u8>,
+) -> Result<(), FrameRefusal>
+    requires { body.now.state ≡ state_of reached }
+    ensures { Appended result (body_answer envelope.now.channel envelope.now.max (canon (composite_datum 0x15 (canonical_fields (disposition_fields body.now)))) envelope.now.payload.now) out.old.items out.new.items }
+{
+    let mut head = [0; ROOM];
+    let shown = put_disposition(body, reached, &mut head);
+    append_plain(envelope, 0x15, shown, &mut head, out)
+}
+
+/// Appends the frame's octets as `write_frame` writes them.
+#[inline(never)]
+fn append_written(frame: &Frame, max: u32, out: &mut Vec<u8>) -> Result<(), FrameRefusal>
+    ensures { Appended result (write_answer frame.now max) out.old.items out.new.items }
+{
+    match write_frame(*out.allocator(), frame, max) {
+        Ok(octets) => match out.extend_from_slice(octets.as_slice()) {
+            Ok(()) => Ok(()),
+            Err(_) => Err(FrameRefusal::NoMemory),
+        },
+        Err(refusal) => Err(refusal),
+    }
+}
+
+/// Writes the frame behind the octets that are there: the octets that `write_frame` gives. On an error these stand alone, as they were.
+///
+/// # Errors
+///
+/// Those of `write_frame`.
+pub fn append_frame(frame: &Frame, max: u32, out: &mut Vec<u8>) -> Result<(), FrameRefusal>
+    ensures { Appended result (write_answer frame.now max) out.old.items out.new.items }
+{
+    let Some(performative) = &frame.body else {
+        return append_written(frame, max, out);
+    };
+    if !is_fair(performative) {
+        return append_written(frame, max, out);
+    }
+    let envelope = Envelope {
+        channel: frame.channel,
+        payload: frame.payload.as_slice(),
+        max,
+    };
+    match performative {
+        Performative::Transfer(body) => {
+            if let Some(reached) = bare_state(&body.state) {
+                return append_transfer(&envelope, body, reached, out);
+            }
+        }
+        Performative::Flow(body) => {
+            if body.properties.is_none() && envelope.payload.is_empty() {
+                return append_flow(&envelope, body, out);
+            }
+        }
+        Performative::Disposition(body) => {
+            if envelope.payload.is_empty() {
+                if let Some(reached) = bare_state(&body.state) {
+                    return append_disposition(&envelope, body, reached, out);
+                }
+            }
+        }
+        _ => (),
+    }
+    append_written(frame, max, out)
+}

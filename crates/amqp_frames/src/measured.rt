@@ -1,0 +1,156 @@
+//! What a frame measures, told before anything is written and without memory.
+ghost use Rattle.std.specs.Prelude.{◌≡◌, ◌<◌, ◌+◌, ℕ, List, None, length};
+ghost use Rattle.std.specs.Result.{result_err};
+ghost use Rattle.amqp_performatives.specs.Part.{canonical_fields};
+ghost use Rattle.amqp_performatives.specs.Bodies.{descriptor_of, fields_of};
+ghost use Rattle.amqp_performatives.specs.Listed.{shown_fields};
+ghost use Rattle.amqp_frames.specs.Field.{size_answer};
+ghost use Rattle.amqp_frames.specs.Written.{may_follow, write_answer};
+ghost use Rattle.amqp_frames.specs.Measuring.{Measures, MeasuresList};
+
+use crate::fair::is_fair;
+use crate::fault::FrameRefusal;
+use crate::kinds::{
+    measure_attach_body, measure_begin_body, measure_close_body, measure_detach_body,
+    measure_disposition_body, measure_end_body, measure_flow_body, measure_open_body,
+    measure_transfer_body,
+};
+use crate::leaf::list_len;
+use crate::measure::{Measure, fields_len};
+use amqp_performatives::Performative;
+use amqp_performatives::field::Field;
+
+/// The measure of a frame that can be written: how many octets the whole frame takes, and the fields of its performative.
+#[derive(Clone, Copy)]
+pub struct Measured {
+    pub(crate) size: u32,
+    pub(crate) list: Measure,
+}
+
+impl Measured {
+    /// How many octets the whole frame takes.
+    pub fn size(&self) -> u32
+        ensures { result ≡ self.now.size }
+    {
+        self.size
+    }
+}
+
+/// The measure of a frame with this performative and so many octets of payload, whatever its channel, where it can be written in at most `max`
+/// octets. It asks for no memory, and costs what the fields' sizes cost.
+///
+/// # Errors
+///
+/// In this order: `NotWritable` where a field holds what no reader would find there, a payload stands without a transfer, a value has no spelling,
+/// or the size would not fit 32 bits; `FrameTooBig` where the frame is longer than `max` octets. Never `NoMemory`.
+pub fn measure_frame(
+    body: &Option<Performative>,
+    payload_len: usize,
+    max: u32,
+) -> Result<Measured, FrameRefusal>
+    ensures { (channel : ℕ) (payload : List ℕ) → length payload ≡ payload_len → Measures result (record { channel = channel; body = body.now; payload = payload }) max }
+{
+    let Some(performative) = body else {
+        return measure_empty(payload_len, max);
+    };
+    if !is_fair(performative) || !may_follow(payload_len, performative) {
+        return Err(FrameRefusal::NotWritable);
+    }
+    measure_performative(performative, payload_len, max)
+}
+
+/// The refusal that `write_frame` would answer to a frame of these parts, want of memory aside; none where it would write it. It asks for
+/// no memory, and costs what the fields' sizes cost: the payload's octets are not looked at.
+pub fn frame_refusal(
+    channel: u16,
+    body: &Option<Performative>,
+    payload: &[u8],
+    max: u32,
+) -> Option<FrameRefusal>
+    ensures { result ≡ result_err (write_answer (record { channel = channel; body = body.now; payload = payload.now }) max) }
+{
+    let _channel = channel;
+    measure_frame(body, payload.len(), max).err()
+}
+
+/// Of a frame with this performative and so many octets of payload, whatever they hold.
+fn measure_performative(
+    performative: &Performative,
+    payload_len: usize,
+    max: u32,
+) -> Result<Measured, FrameRefusal>
+    ensures { (channel : ℕ) (payload : List ℕ) → length payload ≡ payload_len → MeasuresList result channel max (descriptor_of performative.now).0 (canonical_fields (fields_of performative.now)) payload }
+{
+    match performative {
+        Performative::Open(body) => measure_open_body(body.get(), payload_len, max),
+        Performative::Begin(body) => measure_begin_body(body.get(), payload_len, max),
+        Performative::Attach(body) => measure_attach_body(body.get(), payload_len, max),
+        Performative::Flow(body) => measure_flow_body(body, payload_len, max),
+        Performative::Transfer(body) => measure_transfer_body(body, payload_len, max),
+        Performative::Disposition(body) => measure_disposition_body(body, payload_len, max),
+        Performative::Detach(body) => measure_detach_body(body, payload_len, max),
+        Performative::End(body) => measure_end_body(body, payload_len, max),
+        Performative::Close(body) => measure_close_body(body, payload_len, max),
+    }
+}
+
+/// Whether so many octets of payload may follow: some follow a transfer alone.
+fn may_follow(payload_len: usize, performative: &Performative) -> bool
+    ensures { (payload : List ℕ) → length payload ≡ payload_len → result ≡ may_follow payload performative.now }
+{
+    if payload_len == 0 {
+        return true;
+    }
+    match performative {
+        Performative::Transfer(_) => true,
+        _ => false,
+    }
+}
+
+/// Of a frame without a performative.
+fn measure_empty(payload_len: usize, max: u32) -> Result<Measured, FrameRefusal>
+    ensures { (channel : ℕ) (payload : List ℕ) → length payload ≡ payload_len → Measures result (record { channel = channel; body = None; payload = payload }) max }
+{
+    if payload_len != 0 {
+        return Err(FrameRefusal::NotWritable);
+    }
+    let size = frame_size(0, 0, max)?;
+    Ok(Measured {
+        size,
+        list: Measure { count: 0, size: 0 },
+    })
+}
+
+/// Of a frame with a described list of these fields.
+pub(crate) fn measure_list(
+    fields: &[Field<'_>],
+    payload_len: usize,
+    max: u32,
+) -> Result<Measured, FrameRefusal>
+    ensures { (code channel : ℕ) (payload : List ℕ) → 0 < code → code < 256 → length payload ≡ payload_len → MeasuresList result channel max code (shown_fields fields.now) payload }
+{
+    let Some(list) = fields_len(fields, 30) else {
+        return Err(FrameRefusal::NotWritable);
+    };
+    let Some(size) = list_len(list.count, list.size) else {
+        return Err(FrameRefusal::NotWritable);
+    };
+    match frame_size(size + 3, payload_len, max) {
+        Ok(size) => Ok(Measured { size, list }),
+        Err(refusal) => Err(refusal),
+    }
+}
+
+/// The size of a frame with so many octets of a body and of payload.
+pub(crate) fn frame_size(body: u64, payload: usize, max: u32) -> Result<u32, FrameRefusal>
+    ensures { result ≡ size_answer (8 + (body + payload)) max }
+{
+    let size = body.saturating_add(payload as u64).saturating_add(8);
+    if size >= 0x1_0000_0000 {
+        return Err(FrameRefusal::NotWritable);
+    }
+    if size > max as u64 {
+        return Err(FrameRefusal::FrameTooBig);
+    }
+    Ok(size as u32)
+}
