@@ -1,0 +1,9 @@
+pub mod Accepted
+pub mod Listed
+pub mod Free
+pub mod Told
+pub mod Soundness
+pub mod Unfinished
+pub mod Counts
+pub mod InRange
+pub mod Writing

@@ -1,0 +1,86 @@
+//! What an endpoint of AMQP 1.0 answers to each step, and what each step leaves: the types of steps and replies, and the definitions. A step
+//! is an operation of the application, or a frame that is heard of the peer. The definitions are in `specs/`, one file for each kind of step:
+//! a table of refusals or violations in the order of their numbers, the answer, and the change of the view (`specs/View`).
+//!
+//! # The session (part 2, 2.5.5)
+//!
+//! ```text
+//!                 Begin                  begin heard
+//!   Unmapped -------------> BeginSent ----------------+
+//!       |                                             |
+//!       | begin heard                  Begin          v        End
+//!       +-------------> BeginHeard ---------------> Mapped ----------> EndSent
+//!                           |                         |                   |
+//!                           | end heard               | end heard         | end heard
+//!                           |                         | (answered)        |
+//!                           +-------------------------+-----> Ended <-----+
+//! ```
+//!
+//! After our end each frame but the peer's end is dropped. No session begins after it has ended.
+//!
+//! # A link (part 2, 2.6.3 to 2.6.6)
+//!
+//! ```text
+//!                 Attach                attach heard
+//!      --------------------> Asked ------------------+
+//!                                                    |
+//!        attach heard                  Attach        v       Detach
+//!      ----------------> Offered -------------> Attached --------------> Leaving
+//!                           |                        |                      |
+//!                           | detach heard           | detach heard         | detach heard
+//!                           |                        | (answered)           |
+//!                           +------------------------+-------> gone <-------+
+//! ```
+//!
+//! An attach meets the link of its name and role that waits for it, or else makes one. An end of the session, by either end, takes all links
+//! away.
+//!
+//! # The kinds of step
+//!
+//! | operation | session, link | sends | gives |
+//! |---|---|---|---|
+//! | `Begin` | unmapped or begin heard | begin | |
+//! | `Attach` | mapped | attach | `Link` |
+//! | `Start` | mapped, attached sender | transfer | `Delivery` |
+//! | `Carry`, `Abort` | mapped, attached sender | transfer | |
+//! | `Dispose` | mapped | disposition | |
+//! | `Learn` | sender | | `Learned` |
+//! | `Grant` | mapped, attached receiver | flow | |
+//! | `Offer`, `Drained` | mapped, attached sender | flow | |
+//! | `Refresh` | mapped | flow | |
+//! | `Take` | receiver | | `Taken` |
+//! | `Detach` | mapped, attached | detach | |
+//! | `End` | mapped | end | |
+//! | `Beat` | any | empty frame | |
+//!
+//! | frame heard | session | sends | gives |
+//! |---|---|---|---|
+//! | begin | unmapped or begin sent | | |
+//! | attach | begin heard or mapped | | `Attached`, `Offered` |
+//! | flow | begin heard or mapped | flow, where one is asked for | |
+//! | transfer | begin heard or mapped | | `Ready` |
+//! | disposition | begin heard or mapped | | |
+//! | detach | begin heard or mapped | detach, where the link is attached | `Gone` |
+//! | end | begin heard, mapped or end sent | end, where the session is mapped | |
+//!
+//! Deliveries that a step ends are named in its reply, by role and id.
+//!
+//! | module | what it has |
+//! |---|---|
+//! | `config` | what is settled before the first step |
+//! | `op`, `reply` | operations, and what a step gives |
+//! | `refusal`, `violation` | why an operation is refused, and a frame |
+//! | `status` | the windows and a link as they are shown |
+//! | `laws` | the frames of each reply have octets |
+#![tactic(auto)]
+
+pub mod config;
+mod copying;
+mod frame_refusal;
+pub mod laws;
+pub mod op;
+pub mod refusal;
+pub mod reply;
+pub mod status;
+pub mod violation;
+mod violation_answer;

@@ -1,0 +1,189 @@
+//! Operations of the application.
+ghost use Rattle.std.specs.Prelude.{◌≡◌};
+
+use crate::copying::{copy_error, copy_state, copy_value};
+use amqp_frames::{AmqpError, DeliveryState, Role};
+use amqp_types::{Boxed, Tag, Text, Value};
+use bytes::Bytes;
+use std::alloc::AllocError;
+
+/// An operation of the application.
+#[derive(Debug, PartialEq, Eq, Drop)]
+pub enum Op {
+    /// Begins the session, or answers the peer's begin (part 2, 2.5.1).
+    Begin,
+    /// Attaches a link, or answers the peer's attach (part 2, 2.6.3).
+    Attach {
+        name: Text,
+        /// Our end of it.
+        role: Role,
+        snd: u8,
+        rcv: u8,
+        source: Option<Boxed<Value>>,
+        target: Option<Boxed<Value>>,
+        /// A sender's first delivery-count.
+        count: u32,
+        /// In octets; no limit where it is 0.
+        max_message: u64,
+    },
+    /// Begins a delivery on the link, with its first transfer (part 2, 2.6.12).
+    Start {
+        link: u32,
+        tag: Tag,
+        format: u32,
+        settled: bool,
+        payload: Bytes,
+        more: bool,
+    },
+    /// Sends a further transfer of the delivery that is unfinished on the link (part 2, 2.6.14).
+    Carry {
+        link: u32,
+        payload: Bytes,
+        more: bool,
+    },
+    /// Gives up the delivery that is unfinished on the link (part 2, 2.7.5).
+    Abort {
+        link: u32,
+    },
+    /// Tells the state of unsettled deliveries of this role of ours, from first to last, and settles them (part 2, 2.7.6).
+    Dispose {
+        role: Role,
+        first: u32,
+        last: u32,
+        settled: bool,
+        state: Option<DeliveryState>,
+    },
+    /// Takes the first thing that was told of a delivery on a link on which we send.
+    Learn {
+        link: u32,
+    },
+    /// Gives credit to the peer on a link on which we receive (part 2, 2.6.7).
+    Grant {
+        link: u32,
+        credit: u32,
+        drain: bool,
+        echo: bool,
+    },
+    /// Tells the peer how many messages are available on a link on which we send (part 2, 2.6.7).
+    Offer {
+        link: u32,
+        available: u32,
+    },
+    /// Gives up the credit that is left, as the peer wished by its drain (part 2, 2.6.7).
+    Drained {
+        link: u32,
+    },
+    /// Tells the peer our window anew; with `echo` the peer is asked for a flow in return (part 2, 2.5.6 and 2.7.4).
+    Refresh {
+        echo: bool,
+    },
+    /// Takes the first delivery that waits on a link on which we receive.
+    Take {
+        link: u32,
+    },
+    /// Detaches a link for good (part 2, 2.6.6).
+    Detach {
+        link: u32,
+        error: Option<Boxed<AmqpError>>,
+    },
+    /// Ends the session (part 2, 2.5.2).
+    End {
+        error: Option<Boxed<AmqpError>>,
+    },
+    /// Sends an empty frame, so that the peer does not take us for gone (part 2, 2.4.5).
+    Beat,
+}
+
+impl Clone for Op {
+    ghost is_clone = { λ a b. b ≡ a };
+
+    fn clone(&self) -> Result<Op, AllocError> {
+        match self {
+            Op::Begin => Ok(Op::Begin),
+            Op::Attach {
+                name,
+                role,
+                snd,
+                rcv,
+                source,
+                target,
+                count,
+                max_message,
+            } => Ok(Op::Attach {
+                name: name.clone()?,
+                role: *role,
+                snd: *snd,
+                rcv: *rcv,
+                source: copy_value(source)?,
+                target: copy_value(target)?,
+                count: *count,
+                max_message: *max_message,
+            }),
+            Op::Start {
+                link,
+                tag,
+                format,
+                settled,
+                payload,
+                more,
+            } => Ok(Op::Start {
+                link: *link,
+                tag: *tag,
+                format: *format,
+                settled: *settled,
+                payload: payload.clone()?,
+                more: *more,
+            }),
+            Op::Carry {
+                link,
+                payload,
+                more,
+            } => Ok(Op::Carry {
+                link: *link,
+                payload: payload.clone()?,
+                more: *more,
+            }),
+            Op::Abort { link } => Ok(Op::Abort { link: *link }),
+            Op::Dispose {
+                role,
+                first,
+                last,
+                settled,
+                state,
+            } => Ok(Op::Dispose {
+                role: *role,
+                first: *first,
+                last: *last,
+                settled: *settled,
+                state: copy_state(state)?,
+            }),
+            Op::Learn { link } => Ok(Op::Learn { link: *link }),
+            Op::Grant {
+                link,
+                credit,
+                drain,
+                echo,
+            } => Ok(Op::Grant {
+                link: *link,
+                credit: *credit,
+                drain: *drain,
+                echo: *echo,
+            }),
+            Op::Offer { link, available } => Ok(Op::Offer {
+                link: *link,
+                available: *available,
+            }),
+            Op::Drained { link } => Ok(Op::Drained { link: *link }),
+            Op::Refresh { echo } => Ok(Op::Refresh { echo: *echo }),
+            Op::Take { link } => Ok(Op::Take { link: *link }),
+            Op::Detach { link, error } => Ok(Op::Detach {
+                link: *link,
+                error: copy_error(error)?,
+            }),
+            Op::End { error } => Ok(Op::End {
+                error: copy_error(error)?,
+            }),
+            Op::Beat => Ok(Op::Beat),
+        }
+    }
+}

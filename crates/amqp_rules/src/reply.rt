@@ -1,0 +1,159 @@
+//! What a step gives: frames with their octets, deliveries that it ended, and what it tells.
+ghost use Rattle.std.specs.Prelude.{◌≡◌, IfOk};
+
+use crate::copying::copy_state;
+use amqp_frames::{DeliveryState, Frame, Role};
+use amqp_types::{Items, Tag};
+use bytes::Bytes;
+use std::alloc::AllocError;
+
+/// A frame that is sent, with its octets.
+#[derive(Drop, Debug)]
+pub struct Sent {
+    pub frame: Frame,
+    pub bytes: Bytes,
+}
+
+/// A delivery that the application takes.
+#[derive(Debug, PartialEq, Eq, Drop)]
+pub struct Taken {
+    pub id: u32,
+    pub link: u32,
+    pub tag: Tag,
+    pub format: u32,
+    pub payload: Bytes,
+    pub settled: bool,
+    pub second: bool,
+}
+
+/// What the peer told of a delivery.
+#[derive(Debug, PartialEq, Eq, Drop)]
+pub struct Learned {
+    pub id: u32,
+    pub link: u32,
+    pub tag: Tag,
+    pub state: Option<DeliveryState>,
+    pub settled: bool,
+}
+
+/// What a step tells the application.
+#[derive(Debug, PartialEq, Eq, Drop)]
+pub enum Given {
+    Nothing,
+    /// Our attach was sent on this link.
+    Link(u32),
+    /// The peer offers this link.
+    Offered(u32),
+    /// The peer has answered our attach of this link.
+    Attached(u32),
+    /// This link is gone.
+    Gone(u32),
+    /// A delivery was begun, with this id.
+    Delivery(u32),
+    /// A delivery waits on this link, with this id.
+    Ready(u32, u32),
+    Taken(Taken),
+    Learned(Learned),
+}
+
+/// What a step gives: the frames to send, the deliveries that it ended by role and id, and what it tells.
+#[derive(Drop, Debug)]
+pub struct Reply {
+    pub sent: Items<Sent>,
+    pub ended: Items<(Role, u32)>,
+    pub given: Given,
+}
+
+impl Clone for Sent {
+    ghost is_clone = { λ a b. b ≡ a };
+
+    fn clone(&self) -> Result<Sent, AllocError> {
+        let bytes = self.bytes.clone()?;
+        match self.frame.clone() {
+            Ok(frame) => Ok(Sent { frame, bytes }),
+            Err(error) => Err(error),
+        }
+    }
+}
+
+impl Clone for Taken {
+    ghost is_clone = { λ a b. b ≡ a };
+
+    fn clone(&self) -> Result<Taken, AllocError> {
+        let payload = self.payload.clone()?;
+        Ok(Taken {
+            id: self.id,
+            link: self.link,
+            tag: self.tag,
+            format: self.format,
+            payload,
+            settled: self.settled,
+            second: self.second,
+        })
+    }
+}
+
+impl Clone for Learned {
+    ghost is_clone = { λ a b. b ≡ a };
+
+    fn clone(&self) -> Result<Learned, AllocError> {
+        let state = copy_state(&self.state)?;
+        Ok(Learned {
+            id: self.id,
+            link: self.link,
+            tag: self.tag,
+            state,
+            settled: self.settled,
+        })
+    }
+}
+
+impl Clone for Given {
+    ghost is_clone = { λ a b. b ≡ a };
+
+    fn clone(&self) -> Result<Given, AllocError> {
+        match self {
+            Given::Nothing => Ok(Given::Nothing),
+            Given::Link(link) => Ok(Given::Link(*link)),
+            Given::Offered(link) => Ok(Given::Offered(*link)),
+            Given::Attached(link) => Ok(Given::Attached(*link)),
+            Given::Gone(link) => Ok(Given::Gone(*link)),
+            Given::Delivery(id) => Ok(Given::Delivery(*id)),
+            Given::Ready(link, id) => Ok(Given::Ready(*link, *id)),
+            Given::Taken(taken) => Ok(Given::Taken(taken.clone()?)),
+            Given::Learned(learned) => Ok(Given::Learned(learned.clone()?)),
+        }
+    }
+}
+
+impl Clone for Reply {
+    ghost is_clone = { λ a b. b ≡ a };
+
+    fn clone(&self) -> Result<Reply, AllocError> {
+        let ended = copy_ended(&self.ended)?;
+        let given = self.given.clone()?;
+        let sent = copy_sent(&self.sent)?;
+        Ok(Reply { sent, ended, given })
+    }
+}
+
+fn copy_sent(sent: &Items<Sent>) -> Result<Items<Sent>, AllocError>
+    ensures { IfOk result (λ copy. copy ≡ sent.now) }
+{
+    let mut copies = Vec::new(sent.allocator());
+    for frame in sent.as_slice() {
+        let copy = frame.clone()?;
+        copies.push(copy)?;
+    }
+    Ok(Items { items: copies })
+}
+
+fn copy_ended(ended: &Items<(Role, u32)>) -> Result<Items<(Role, u32)>, AllocError>
+    ensures { IfOk result (λ copy. copy ≡ ended.now) }
+{
+    let mut copies = Vec::new(ended.allocator());
+    for named in ended.as_slice() {
+        copies.push(*named)?;
+    }
+    Ok(Items { items: copies })
+}
