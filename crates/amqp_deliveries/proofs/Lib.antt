@@ -1,0 +1,10 @@
+pub mod Serials
+pub mod Search
+pub mod Runs
+pub mod Index
+pub mod Kept
+pub mod Items
+pub mod Spoken
+pub mod Both
+pub mod Ended
+pub mod Joins

@@ -1,0 +1,53 @@
+use Rattle.std.proofs.Common.{◌≡◌, ◌∙◌, true, false, sym, subst}
+use Rattle.std.proofs.lemmas.Result.{on_ok_weaker}
+use Rattle.amqp_performatives.specs.declared.bodies.Role.{Role}
+use Rattle.amqp_performatives.specs.declared.bodies.Role.TheVariants.{Sender, Receiver}
+use Rattle.std.specs.List.{list_any}
+use Rattle.amqp_events.specs.Event as event
+use Rattle.amqp_events.specs.Event.{Item}
+use Rattle.amqp_deliveries.specs.Change.{TablesView, AreOlder, held_items, is_tagged_as, tables_after}
+use Rattle.amqp_deliveries.specs.declared.change.Change.TheVariants as change
+use Rattle.amqp_deliveries.proofs.Both.{both, sent_alone, received_alone, older_past}
+use Rattle.amqp_deliveries.proofs.Spoken.{begin_adds}
+use Rattle.amqp_deliveries.proofs.Items.{any_item}
+use Rattle.amqp_deliveries.proofs.tables.Tables.begin.Goals as goal
+
+abbrev fresh_in : Item → Role → TablesView → Type 0
+fresh_in item r t = list_any (is_tagged_as item) (held_items r t) ≡ false
+
+abbrev older_in : Item → Role → TablesView → Type 0
+older_in item r t = AreOlder item.id (held_items r t)
+
+pub add-requires-clause-follows : goal.add-requires-clause-follows
+add-requires-clause-follows c =
+    let h = subst (older_in c.args.item Sender) (sym c.self.view_is) (subst (λ r. older_in c.args.item r c.args.self.now) c.in-Sender.is c.requires.older) in
+    older_past c.self.inside.sent c.args.item.id h
+
+pub add-requires-clause-fresh : goal.add-requires-clause-fresh
+add-requires-clause-fresh c =
+    let h = subst (fresh_in c.args.item Sender) (sym c.self.view_is) (subst (λ r. fresh_in c.args.item r c.args.self.now) c.in-Sender.is c.requires.fresh) in
+    sym (any_item (is_tagged_as c.args.item) c.self.inside.sent) ∙ h
+
+pub add-requires-in-Receiver-clause-follows : goal.add-requires-in-Receiver-clause-follows
+add-requires-in-Receiver-clause-follows c =
+    let h = subst (older_in c.args.item Receiver) (sym c.self.view_is) (subst (λ r. older_in c.args.item r c.args.self.now) c.in-Receiver.is c.requires.older) in
+    older_past c.self.inside.received c.args.item.id h
+
+pub add-requires-in-Receiver-clause-fresh : goal.add-requires-in-Receiver-clause-fresh
+add-requires-in-Receiver-clause-fresh c =
+    let h = subst (fresh_in c.args.item Receiver) (sym c.self.view_is) (subst (λ r. fresh_in c.args.item r c.args.self.now) c.in-Receiver.is c.requires.fresh) in
+    sym (any_item (is_tagged_as c.args.item) c.self.inside.received) ∙ h
+
+pub returns-in-Sender-clause-ok : goal.returns-in-Sender-clause-ok
+returns-in-Sender-clause-ok c =
+    let P : Role → TablesView → Type 0 = λ r t. both c.add.new.self c.self.inside.received ≡ tables_after (change.Begins r c.args.item) t in
+    on_ok_weaker c.add.result
+    (λ h. subst (λ r. P r c.args.self.now) (sym c.in-Sender.is) (subst (P Sender) c.self.view_is (sent_alone (event.Begins c.args.item true) c.self.inside.sent c.add.new.self c.self.inside.received (h ∙ sym (begin_adds c.args.item c.self.inside.sent)))))
+    c.add.ensures.ok
+
+pub returns-in-Receiver-clause-ok : goal.returns-in-Receiver-clause-ok
+returns-in-Receiver-clause-ok c =
+    let P : Role → TablesView → Type 0 = λ r t. both c.self.inside.sent c.add-in-Receiver.new.self ≡ tables_after (change.Begins r c.args.item) t in
+    on_ok_weaker c.add-in-Receiver.result
+    (λ h. subst (λ r. P r c.args.self.now) (sym c.in-Receiver.is) (subst (P Receiver) c.self.view_is (received_alone (event.Begins c.args.item true) c.self.inside.sent c.self.inside.received c.add-in-Receiver.new.self (h ∙ sym (begin_adds c.args.item c.self.inside.received)))))
+    c.add-in-Receiver.ensures.ok

@@ -1,0 +1,23 @@
+use Rattle.std.proofs.Common.{◌≡◌, sym, subst}
+use Rattle.std.proofs.lemmas.Result.{on_ok_weaker}
+use Rattle.amqp_performatives.specs.declared.bodies.Role.{Role}
+use Rattle.amqp_performatives.specs.declared.bodies.Role.TheVariants.{Sender, Receiver}
+use Rattle.amqp_events.specs.Event as event
+use Rattle.amqp_deliveries.specs.Change.{TablesView, tables_after}
+use Rattle.amqp_deliveries.specs.declared.change.Change.TheVariants as change
+use Rattle.amqp_deliveries.proofs.Both.{both, sent_changed, received_changed}
+use Rattle.amqp_deliveries.proofs.tables.Tables.hear.Goals as goal
+
+pub returns-in-Sender-clause-ok : goal.returns-in-Sender-clause-ok
+returns-in-Sender-clause-ok c =
+    let P : Role → TablesView → Type 0 = λ r t. both c.hear.new.self c.self.inside.received ≡ tables_after (change.Hears r c.args.said.now) t in
+    on_ok_weaker c.hear.result
+    (λ h. subst (λ r. P r c.args.self.now) (sym c.in-Sender.is) (subst (P Sender) c.self.view_is (sent_changed (event.Hears c.args.said.now) c.self.inside.sent c.hear.new.self c.self.inside.received h)))
+    c.hear.ensures.ok
+
+pub returns-in-Receiver-clause-ok : goal.returns-in-Receiver-clause-ok
+returns-in-Receiver-clause-ok c =
+    let P : Role → TablesView → Type 0 = λ r t. both c.self.inside.sent c.hear-in-Receiver.new.self ≡ tables_after (change.Hears r c.args.said.now) t in
+    on_ok_weaker c.hear-in-Receiver.result
+    (λ h. subst (λ r. P r c.args.self.now) (sym c.in-Receiver.is) (subst (P Receiver) c.self.view_is (received_changed (event.Hears c.args.said.now) c.self.inside.sent c.self.inside.received c.hear-in-Receiver.new.self h)))
+    c.hear-in-Receiver.ensures.ok

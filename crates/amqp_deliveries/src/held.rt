@@ -1,0 +1,148 @@
+//! The unsettled deliveries of one role.
+ghost use Rattle.std.specs.Prelude.{◌≡◌, ◌==◌, ◌++◌, ◌∷◌, [], false, IsTrue, ◌↔◌, length, find, option_map, slice_get, IfErr, OnOk, OnErr};
+ghost use Rattle.std.specs.List.{list_any};
+ghost use Rattle.amqp_events.specs.Laws.{AreInOrder, IsPast};
+ghost use Rattle.amqp_events.specs.Tags.{AreApart, is_tagged};
+ghost use Rattle.amqp_deliveries.specs.Held.{IsHeld, items_of, untold, has_tag};
+ghost use Rattle.amqp_deliveries.specs.Run.{IsRun};
+
+use crate::item::{Entry, HeldItem};
+use crate::run::{Run, run_of};
+use crate::tags::TagIndex;
+use amqp_flow::serial::Serial;
+use amqp_types::Tag;
+use std::alloc::{AllocError, Global};
+use std::collections::VecDeque;
+use std::marker::Model;
+
+mod edits;
+mod lists;
+mod loops;
+
+/// The unsettled deliveries of one role, in serial order of their ids, which lie less than 2^31 apart. On a link each has a tag of its own.
+/// Contracts see it as the list of its deliveries, each with a mark whether what became of it was told.
+///
+/// With n deliveries held, k of them covered by a range of ids, and h ids between the first and the last that are not held:
+///
+/// | call | steps |
+/// |---|---|
+/// | `len`, `at`, `follows` | one |
+/// | `has_tag`, `add` | one on average; n where the tags were chosen to collide as they are hashed |
+/// | `find`, `run` | O(log h), and never more than O(log n) |
+/// | `any_second`, `any_fixed`, `ids_at` | k |
+/// | `say`, `hear`, `go_on` | those of `run`, and k; where deliveries end, the shorter side of the run moves: none for a run at either end |
+/// | `tellings` | those of `run`, and k |
+/// | `ids`, `ids_of`, `end_link`, `end_all` | n |
+#[derive(Drop)]
+pub struct Held {
+    alloc: Global,
+    items: VecDeque<Entry>,
+    tags: TagIndex,
+}
+
+impl Model for Held {
+    ghost use Rattle.std.specs.Coded.{codes};
+    ghost use Rattle.amqp_types.specs.contracts.value.Value as value;
+    ghost use Rattle.std.specs.Prelude.{List};
+    ghost use Rattle.amqp_events.specs.Told.{SentItem};
+
+    ghost Value = { List SentItem };
+
+    ghost coded = { Prim.hlevel (codes, value.the_row.coded) };
+
+    ghost use Rattle.amqp_deliveries.specs.Held.{IsHeld};
+    ghost use Rattle.amqp_deliveries.specs.Tags.{IsIndex};
+
+    ghost view = { λ h. h.items.items };
+
+    ghost invariant = { λ h. IsHeld h.items.items × IsIndex h.tags h.items.items };
+}
+
+impl Held {
+    /// Nothing is held. It allocates nothing.
+    pub fn new(alloc: Global) -> Held
+        ensures { result ≡ [] }
+    {
+        Held {
+            alloc,
+            items: VecDeque::new(alloc),
+            tags: TagIndex::new(alloc),
+        }
+    }
+
+    /// How many are held.
+    pub fn len(&self) -> usize
+        ensures count { result ≡ length self.now }
+        ensures in_order { AreInOrder (items_of self.now) }
+        ensures apart { AreApart (items_of self.now) }
+    {
+        self.items.len()
+    }
+
+    pub fn is_empty(&self) -> bool
+        ensures { IsTrue result ↔ (self.now ≡ []) }
+    {
+        self.items.is_empty()
+    }
+
+    /// The delivery at place `i`.
+    pub fn at(&self, i: usize) -> Option<&HeldItem>
+        ensures { option_map (λ x. x.now) result ≡ slice_get (items_of self.now) i }
+    {
+        match self.items.get(i) {
+            None => None,
+            Some(entry) => Some(&entry.item),
+        }
+    }
+
+    /// The delivery with this id.
+    pub fn find(&self, id: u32) -> Option<&HeldItem>
+        ensures { option_map (λ x. x.now) result ≡ find (λ i. i.id == id) (items_of self.now) }
+    {
+        let run = self.run(id, id);
+        if run.start < run.end {
+            self.at(run.start)
+        } else {
+            None
+        }
+    }
+
+    /// Whether a delivery of this link with this tag is held.
+    pub fn has_tag(&self, link: u32, tag: &Tag) -> bool
+        ensures { result ≡ list_any (has_tag link tag.now) self.now }
+    {
+        self.tags.has(link, tag)
+    }
+
+    /// Whether this id comes after all that are held.
+    pub fn follows(&self, id: u32) -> bool
+        ensures { IsTrue result ↔ IsPast id (items_of self.now) }
+    {
+        let (Some(first), Some(last)) = (self.items.front(), self.items.back()) else {
+            return true;
+        };
+        Serial(first.id()).is_before(Serial(id)) && Serial(last.id()).is_before(Serial(id))
+    }
+
+    /// A delivery begins.
+    pub fn add(&mut self, item: HeldItem) -> Result<(), AllocError>
+        requires follows { IsPast item.id (items_of self.old) }
+        requires fresh { list_any (has_tag item.link item.tag) self.old ≡ false }
+        ensures ok { OnOk result (self.new ≡ self.old ++ untold item ∷ []) }
+        ensures err { OnErr result (self.new ≡ self.old) }
+    {
+        self.items.reserve(1)?;
+        let entry = Entry::new(item);
+        self.tags.put(&entry)?;
+        self.items.push_back_reserved(entry);
+        Ok(())
+    }
+
+    /// The places of the deliveries that the ids `first` to `last` cover; none where those are 2^31 or more apart.
+    pub fn run(&self, first: u32, last: u32) -> Run
+        ensures run { IsRun first last self.now result }
+        ensures held { IsHeld self.now }
+    {
+        run_of(&self.items, first, last)
+    }
+}

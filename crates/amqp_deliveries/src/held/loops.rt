@@ -1,0 +1,122 @@
+//! What happens to the deliveries of a run.
+ghost use Rattle.std.specs.Prelude.{◌≡◌, ◌-◌, ◌≤◌, ◌+◌, ◌++◌, ◌∷◌, [], false, length, filter_map, IfOk, OnOk};
+ghost use Rattle.std.specs.List.{All};
+ghost use Rattle.amqp_performatives.specs.declared.state.DeliveryState.{DeliveryState};
+ghost use Rattle.amqp_events.specs.Event as event;
+ghost use Rattle.amqp_deliveries.specs.Held.{IsHeld};
+ghost use Rattle.amqp_deliveries.specs.Edits.{stated, told_first};
+ghost use Rattle.amqp_deliveries.specs.Run.{IsWithin, without, part, change_part};
+ghost use Rattle.amqp_deliveries.specs.Tags.{IsIndex};
+ghost use Rattle.amqp_deliveries.specs.declared.item.Side.TheVariants.{Remote};
+
+use crate::disposition::{Disposition, Telling};
+use crate::item::{Entry, Side};
+use crate::run::Run;
+use crate::tags::TagIndex;
+use amqp_performatives::DeliveryState;
+use std::alloc::{AllocError, Global};
+use std::collections::VecDeque;
+
+/// The tags of the deliveries at these places are not in use any more.
+pub(super) fn forget(tags: &mut TagIndex, items: &VecDeque<Entry>, run: Run)
+    requires within { IsWithin run items.now.items }
+    requires held { IsHeld items.now.items }
+    requires index { IsIndex tags.old items.now.items }
+    ensures { IsIndex tags.new (without run items.now.items) }
+{
+    for place in run.start..run.end {
+        let item = &items[place];
+        tags.remove(item);
+    }
+}
+
+/// The deliveries at these places go. Of one alone the shorter side moves once, of more twice.
+pub(super) fn cut(items: &mut VecDeque<Entry>, run: Run)
+    requires { IsWithin run items.old.items }
+    ensures { items.new.items ≡ without run items.old.items }
+{
+    if run.len() == 1 {
+        drop(items.remove(run.start));
+    } else {
+        drop(items.drain(run.start..run.end));
+    }
+}
+
+/// So many copies of a state.
+pub(super) fn copies(
+    alloc: Global,
+    state: &DeliveryState,
+    count: usize,
+) -> Result<Vec<DeliveryState>, AllocError>
+    ensures count { IfOk result (λ v. length v.items ≡ count) }
+    ensures same { IfOk result (λ v. All (λ copy. copy ≡ state.now) v.items) }
+{
+    let mut copies = Vec::with_capacity(alloc, count)?;
+    for _ in 0..count {
+        let copy = state.clone()?;
+        copies.push(copy)?;
+    }
+    Ok(copies)
+}
+
+/// Each delivery at these places keeps one of the copies of a state.
+pub(super) fn keep(
+    items: &mut VecDeque<Entry>,
+    run: Run,
+    side: Side,
+    tells: bool,
+    mut copies: Vec<DeliveryState>,
+)
+    requires within { IsWithin run items.old.items }
+    requires count { length copies.items ≡ run.end - run.start }
+    ensures { (state : DeliveryState) → All (λ copy. copy ≡ state) copies.items → items.new.items ≡ change_part run (stated side tells state) items.old.items }
+{
+    let mut place = run.start;
+    while let Some(copy) = copies.pop() {
+        let item = &mut items[place];
+        item.set_state(side, tells, copy);
+        place += 1;
+    }
+}
+
+/// The peer gives this state to the one delivery at these places, if there is one.
+pub(super) fn set_first(items: &mut VecDeque<Entry>, run: Run, state: DeliveryState)
+    requires within { IsWithin run items.old.items }
+    requires few { run.end ≤ run.start + 1 }
+    ensures { items.new.items ≡ change_part run (stated Remote false state) items.old.items }
+{
+    if run.start < run.end {
+        let item = &mut items[run.start];
+        item.set_state(Side::Remote, false, state);
+    }
+}
+
+/// What a disposition tells of the deliveries at these places.
+pub(super) fn tellings(
+    alloc: Global,
+    items: &VecDeque<Entry>,
+    run: Run,
+    said: &Disposition,
+) -> Result<Vec<Telling>, AllocError>
+    requires { IsWithin run items.now.items }
+    ensures { IfOk result (λ v. v.items ≡ filter_map (told_first said.now) (part run items.now.items)) }
+{
+    let mut told = Vec::new(alloc);
+    for place in run.start..run.end {
+        let entry = &items[place];
+        add_telling(&mut told, entry, said)?;
+    }
+    Ok(told)
+}
+
+/// What a disposition tells of this delivery goes behind the others, where it was not told before.
+fn add_telling(told: &mut Vec<Telling>, entry: &Entry, said: &Disposition) -> Result<(), AllocError>
+    ensures { OnOk result (told.new.items ≡ told.old.items ++ filter_map (told_first said.now) (entry.now ∷ [])) }
+{
+    if entry.is_told() {
+        return Ok(());
+    }
+    let telling = said.telling(&entry.item)?;
+    told.push(telling)?;
+    Ok(())
+}

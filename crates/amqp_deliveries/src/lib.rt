@@ -1,0 +1,35 @@
+//! What one end of a session knows of its deliveries (OASIS AMQP 1.0, part 2, 2.6.12).
+//!
+//! | module | what it holds |
+//! |---|---|
+//! | `item` | an unsettled delivery |
+//! | `disposition` | what is said of deliveries, and what is told of one |
+//! | `held` | the unsettled deliveries of one role, in serial order |
+//! | `run` | neighbouring places among them: what a disposition covers |
+//! | `tags` | which tags are in use on which link |
+//! | `change` | what a step makes of unsettled deliveries, as data |
+//! | `tables` | the unsettled deliveries of both roles |
+//! | `partial` | the payloads of a delivery whose transfers go on, as slices that are shared |
+//!
+//! With n deliveries held, a look-up by id or by tag takes O(log n), and what a disposition does as many steps more as it covers deliveries.
+//! A call that is refused memory changes nothing.
+#![tactic(auto)]
+
+mod change;
+mod disposition;
+mod held;
+mod item;
+mod partial;
+mod run;
+mod tables;
+mod tags;
+#[cfg(test)]
+mod tests;
+
+pub use change::Change;
+pub use disposition::{Disposition, Telling};
+pub use held::Held;
+pub use item::HeldItem;
+pub use partial::{Partial, Parts};
+pub use run::Run;
+pub use tables::Tables;

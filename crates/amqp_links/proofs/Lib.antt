@@ -1,0 +1,10 @@
+pub mod Stored
+pub mod Written
+pub mod Answered
+pub mod Scans
+pub mod Firsts
+pub mod Offered
+pub mod Removed
+pub mod Asked
+pub mod Tellings
+pub mod Handles

@@ -1,0 +1,256 @@
+//! A transfer that is heard, and the deliveries that it begins, goes on with or completes.
+ghost use Rattle.std.specs.Prelude.{◌≡◌, ◌||◌, Some, None, MatchOption, IfOk, OnOk, OnErr, false};
+ghost use Rattle.amqp_links.specs.Fate.{with_heard};
+ghost use Rattle.amqp_links.specs.Arrivals.{completed_as, goes_on_with, opened_after, opened_by, with_piece, IsProgress, IsProgressOf};
+
+use crate::link::Link;
+use crate::marks::Marks;
+use amqp_deliveries::{Partial, Parts};
+use amqp_types::Tag;
+use bytes::Bytes;
+use std::alloc::{AllocError, Global};
+use std::marker::Model;
+
+/// A transfer that is heard on a link (part 2, 2.7.5). A later transfer of a delivery says nothing new by its id, tag, format and mode.
+#[derive(Drop)]
+pub struct Piece {
+    pub id: u32,
+    pub tag: Tag,
+    pub format: u32,
+    pub second: bool,
+    pub settled: bool,
+    pub more: bool,
+    pub aborted: bool,
+    pub payload: Bytes,
+}
+
+impl Model for Piece {
+    ghost use Rattle.amqp_events.specs.Joined.{Transferred};
+
+    ghost Value = { Transferred };
+
+    ghost view = { λ p. record { id = p.id; tag = p.tag; format = p.format; second = p.second; settled = p.settled; more = p.more; aborted = p.aborted; payload = p.payload } };
+}
+
+/// A delivery of the peer's that is unfinished.
+#[derive(Drop)]
+pub struct Unfinished {
+    id: u32,
+    tag: Tag,
+    format: u32,
+    second: bool,
+    settled: bool,
+    parts: Partial,
+    size: u128,
+}
+
+impl Model for Unfinished {
+    ghost use Rattle.std.specs.List.{concat};
+    ghost use Rattle.amqp_events.specs.Joined.{Delivery, Open};
+
+    ghost Value = { Delivery };
+
+    ghost view = { λ u. record { id = u.id; tag = u.tag; format = u.format; second = u.second; settled = u.settled; payload = concat u.parts; status = Open } };
+
+    ghost use Rattle.std.specs.Prelude.{◌≡◌};
+    ghost use Rattle.amqp_links.specs.Arrivals.{size_told};
+
+    ghost invariant = { λ u. u.size ≡ size_told (concat u.parts) };
+}
+
+/// How far the unfinished delivery of the peer's has come.
+#[derive(Clone, Copy)]
+pub struct Progress {
+    pub id: u32,
+    /// A transfer of it said so.
+    pub settled: bool,
+    /// How long its payloads are, in octets.
+    pub size: u128,
+}
+
+/// A delivery of the peer's that waits to be taken.
+#[derive(Drop)]
+pub struct Waiting {
+    id: u32,
+    tag: Tag,
+    format: u32,
+    second: bool,
+    settled: bool,
+    parts: Parts,
+}
+
+impl Model for Waiting {
+    ghost use Rattle.std.specs.List.{concat};
+    ghost use Rattle.amqp_events.specs.Joined.{Delivery, Complete};
+
+    ghost Value = { Delivery };
+
+    ghost view = { λ u. record { id = u.id; tag = u.tag; format = u.format; second = u.second; settled = u.settled; payload = concat u.parts; status = Complete } };
+}
+
+impl Unfinished {
+    /// The delivery that a first transfer begins, as it stands if more is to come.
+    fn begin(alloc: Global, piece: Piece) -> Result<Unfinished, AllocError>
+        requires { piece.aborted ≡ false }
+        ensures { IfOk result (λ u. u ≡ opened_by piece) }
+    {
+        let mut parts = Partial::start(alloc);
+        let size = piece.payload.len() as u128;
+        parts.append(piece.payload)?;
+        Ok(Unfinished {
+            id: piece.id,
+            tag: piece.tag,
+            format: piece.format,
+            second: piece.second,
+            settled: piece.settled,
+            parts,
+            size,
+        })
+    }
+
+    /// A further transfer of it, as it stands if more is to come.
+    fn go_on(&mut self, piece: Piece) -> Result<(), AllocError>
+        requires { piece.aborted ≡ false }
+        ensures ok { OnOk result (self.new ≡ goes_on_with piece self.old) }
+        ensures err { OnErr result (self.new ≡ self.old) }
+    {
+        let settled = piece.settled;
+        let size = self.size.saturating_add(piece.payload.len() as u128);
+        self.parts.append(piece.payload)?;
+        self.settled = either(self.settled, settled);
+        self.size = size;
+        Ok(())
+    }
+
+    /// How far it has come.
+    fn progress(&self) -> Progress
+        ensures { IsProgressOf self.now result }
+    {
+        Progress {
+            id: self.id,
+            settled: self.settled,
+            size: self.size,
+        }
+    }
+
+    /// It is complete.
+    fn complete(mut self) -> Waiting
+        ensures { result ≡ completed_as self }
+    {
+        Waiting {
+            id: self.id,
+            tag: self.tag,
+            format: self.format,
+            second: self.second,
+            settled: self.settled,
+            parts: self.parts.finish(),
+        }
+    }
+}
+
+impl Waiting {
+    pub fn id(&self) -> u32
+        ensures { result ≡ self.now.id }
+    {
+        self.id
+    }
+
+    pub fn tag(&self) -> &Tag
+        ensures { result.now ≡ self.now.tag }
+    {
+        &self.tag
+    }
+
+    pub fn format(&self) -> u32
+        ensures { result ≡ self.now.format }
+    {
+        self.format
+    }
+
+    pub fn is_second(&self) -> bool
+        ensures { result ≡ self.now.second }
+    {
+        self.second
+    }
+
+    pub fn is_settled(&self) -> bool
+        ensures { result ≡ self.now.settled }
+    {
+        self.settled
+    }
+
+    /// Its payload in one piece. Where it came in one transfer it is shared, else copied once.
+    pub fn payload(&self) -> Result<Bytes, AllocError>
+        ensures { IfOk result (λ p. p ≡ self.now.payload) }
+    {
+        self.parts.join()
+    }
+}
+
+fn either(a: bool, b: bool) -> bool
+    ensures { result ≡ (a || b) }
+{
+    a || b
+}
+
+/// The transfer begins a delivery, or goes on with the unfinished one: as it stands if more is to come.
+fn go_on(alloc: Global, receiving: &mut Option<Unfinished>, piece: Piece) -> Result<(), AllocError>
+    requires { piece.aborted ≡ false }
+    ensures ok { OnOk result (receiving.new ≡ Some (opened_after piece receiving.old)) }
+    ensures err { OnErr result (receiving.new ≡ receiving.old) }
+{
+    match receiving {
+        Some(unfinished) => unfinished.go_on(piece),
+        None => {
+            *receiving = Some(Unfinished::begin(alloc, piece)?);
+            Ok(())
+        }
+    }
+}
+
+impl Link {
+    /// How far the unfinished delivery of the peer's has come.
+    pub fn progress(&self) -> Option<Progress>
+        ensures { MatchOption result (self.now.receiving ≡ None) (IsProgress self.now.receiving) }
+    {
+        match &self.receiving {
+            Some(unfinished) => Some(unfinished.progress()),
+            None => None,
+        }
+    }
+
+    /// A transfer is heard on it.
+    pub(crate) fn hear(&mut self, piece: Piece) -> Result<(), AllocError>
+        ensures ok { OnOk result (self.new ≡ with_piece piece self.old) }
+        ensures err { OnErr result (self.new ≡ self.old) }
+    {
+        if piece.aborted {
+            drop(piece);
+            self.receiving = None;
+            return Ok(());
+        }
+        let more = piece.more;
+        self.ready.reserve(1)?;
+        go_on(self.alloc, &mut self.receiving, piece)?;
+        if more {
+            return Ok(());
+        }
+        match self.receiving.take() {
+            Some(unfinished) => self.ready.push_back_reserved(unfinished.complete()),
+            None => {}
+        }
+        Ok(())
+    }
+
+    /// The same, and it has these marks.
+    pub(crate) fn hear_with(&mut self, piece: Piece, marks: &Marks) -> Result<(), AllocError>
+        ensures ok { OnOk result (self.new ≡ with_heard marks.now piece self.old) }
+        ensures number { self.new.number ≡ self.old.number }
+        ensures theirs { self.new.theirs ≡ self.old.theirs }
+        ensures err { OnErr result (self.new ≡ self.old) }
+    {
+        self.hear(piece)?;
+        self.set_marks(marks);
+        Ok(())
+    }
+}

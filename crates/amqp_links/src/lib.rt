@@ -1,0 +1,26 @@
+//! The links of one session (OASIS AMQP 1.0, part 2, 2.6): what is kept of each, and all of them in a slab with their indexes.
+//!
+//! | module | what it holds |
+//! |---|---|
+//! | `end` | what the attach of one end tells that stays with the link |
+//! | `credit` | the credit of our end, by which its role is told |
+//! | `marks` | what most steps change of a link |
+//! | `arrival` | a transfer that is heard, and the deliveries that it begins, goes on with or completes |
+//! | `link`, `readers`, `waiting`, `learning` | a link, and what it is asked |
+//! | `links` | the links that are not gone, by their number, by the peer's handle and in the order in which they were made |
+//! | `telling` | what is told of deliveries waits on their links |
+//! | `fate` | what becomes of the links, as data |
+#![tactic(auto)]
+
+pub mod arrival;
+pub mod credit;
+pub mod end;
+pub mod fate;
+mod learning;
+pub mod link;
+pub mod links;
+pub mod marks;
+mod ours;
+mod readers;
+mod telling;
+mod waiting;

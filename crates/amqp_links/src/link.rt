@@ -1,0 +1,229 @@
+//! A link, as it is kept.
+ghost use Rattle.std.specs.Prelude.{◌≡◌, is_some, option_map, IfOk, OnOk, OnErr};
+ghost use Rattle.amqp_links.specs.Arrivals.{with_piece};
+ghost use Rattle.amqp_links.specs.Credits.{role_of};
+ghost use Rattle.amqp_links.specs.Fate.{with_ours, with_theirs, with_heard};
+ghost use Rattle.amqp_links.specs.Marks.{IsMarksOf, with_marks};
+ghost use Rattle.amqp_rules.specs.Detach.{left_by_us};
+ghost use Rattle.amqp_rules.specs.Learn.{learnt_from};
+ghost use Rattle.amqp_rules.specs.Status.{link_status, phase_of};
+ghost use Rattle.amqp_rules.specs.Take.{taken_from};
+ghost use Rattle.amqp_rules.specs.View.{new_link, has_name, is_asked_as, is_offered_as, is_ours, is_theirs, is_attached, handle_of, snd_mode, rcv_mode, max_of};
+
+use crate::arrival::{Piece, Unfinished, Waiting};
+use crate::credit::{Credit, same_role};
+use crate::end::End;
+use crate::marks::{Marks, Sending};
+use amqp_deliveries::Telling;
+use amqp_performatives::Role;
+use amqp_types::Text;
+use std::alloc::{AllocError, Global};
+use std::collections::VecDeque;
+use std::marker::Model;
+
+/// A link that is not gone.
+#[derive(Drop)]
+pub struct Link {
+    pub(crate) alloc: Global,
+    pub(crate) number: u32,
+    name: Text,
+    pub(crate) ours: Option<End>,
+    pub(crate) theirs: Option<End>,
+    pub(crate) left: bool,
+    pub(crate) credit: Credit,
+    available: u32,
+    pub(crate) sending: Option<Sending>,
+    pub(crate) receiving: Option<Unfinished>,
+    pub(crate) ready: VecDeque<Waiting>,
+    pub(crate) told: VecDeque<Telling>,
+}
+
+impl Model for Link {
+    ghost use Rattle.std.specs.Coded.{codes};
+    ghost use Rattle.amqp_types.specs.contracts.value.Value as value;
+    ghost use Rattle.amqp_rules.specs.View.{LinkView};
+
+    ghost Value = { LinkView };
+
+    ghost coded = { Prim.hlevel (codes, value.the_row.coded) };
+
+    ghost use Rattle.amqp_links.specs.Credits.{role_of, credit_in};
+
+    ghost view = { λ l. record { number = l.number; name = l.name; role = role_of l.credit; ours = l.ours; theirs = l.theirs; left = l.left; credit = credit_in l.credit; available = l.available; sending = l.sending; receiving = l.receiving; ready = l.ready.items; told = l.told.items } };
+}
+
+impl Link {
+    /// It has these marks from now on.
+    pub(crate) fn set_marks(&mut self, marks: &Marks)
+        ensures { self.new ≡ with_marks marks.now self.old }
+    {
+        self.left = marks.left;
+        self.credit = marks.credit;
+        self.available = marks.available;
+        self.sending = marks.sending;
+    }
+
+    /// Our attach of it was sent.
+    pub(crate) fn set_ours(&mut self, end: End, marks: &Marks)
+        ensures { self.new ≡ with_ours end marks.now self.old }
+    {
+        self.ours = Some(end);
+        self.left = marks.left;
+        self.credit = marks.credit;
+        self.available = marks.available;
+        self.sending = marks.sending;
+    }
+
+    /// The peer's attach of it was heard.
+    pub(crate) fn set_theirs(&mut self, end: End, marks: &Marks)
+        ensures { self.new ≡ with_theirs end marks.now self.old }
+    {
+        self.theirs = Some(end);
+        self.left = marks.left;
+        self.credit = marks.credit;
+        self.available = marks.available;
+        self.sending = marks.sending;
+    }
+
+    /// Our detach was sent: what is unfinished is dropped.
+    pub(crate) fn leave(&mut self)
+        ensures { self.new ≡ left_by_us self.old }
+    {
+        self.left = true;
+        self.sending = None;
+        self.receiving = None;
+    }
+
+    /// The first delivery that waits is taken.
+    pub(crate) fn take_ready(&mut self)
+        ensures { self.new ≡ taken_from self.old }
+    {
+        let _ = self.ready.pop_front();
+    }
+
+    /// The first thing that was told is learnt.
+    pub(crate) fn take_told(&mut self)
+        ensures { self.new ≡ learnt_from self.old }
+    {
+        let _ = self.told.pop_front();
+    }
+
+    /// A link that we ask for.
+    pub(crate) fn asked(alloc: Global, number: u32, name: Text, end: End, marks: &Marks) -> Link
+        ensures { result ≡ with_ours end marks.now (new_link number (role_of marks.now.credit) name) }
+    {
+        Link {
+            alloc,
+            number,
+            name,
+            ours: Some(end),
+            theirs: None,
+            left: marks.left,
+            credit: marks.credit,
+            available: marks.available,
+            sending: marks.sending,
+            receiving: None,
+            ready: VecDeque::new(alloc),
+            told: VecDeque::new(alloc),
+        }
+    }
+
+    /// A link that the peer offers.
+    pub(crate) fn offered(alloc: Global, number: u32, name: Text, end: End, marks: &Marks) -> Link
+        ensures { result ≡ with_theirs end marks.now (new_link number (role_of marks.now.credit) name) }
+    {
+        Link {
+            alloc,
+            number,
+            name,
+            ours: None,
+            theirs: Some(end),
+            left: marks.left,
+            credit: marks.credit,
+            available: marks.available,
+            sending: marks.sending,
+            receiving: None,
+            ready: VecDeque::new(alloc),
+            told: VecDeque::new(alloc),
+        }
+    }
+
+    /// Both attaches were, and no detach of ours.
+    pub fn is_attached(&self) -> bool
+        ensures { result ≡ is_attached self.now }
+    {
+        self.ours.is_some() && self.theirs.is_some() && !self.left
+    }
+
+    pub fn has_name(&self, role: Role, name: &Text) -> bool
+        ensures { result ≡ has_name role name.now self.now }
+    {
+        same_role(role, self.credit.role()) && *name == self.name
+    }
+
+    /// Of this role and name, asked for by us.
+    pub fn is_asked_as(&self, role: Role, name: &Text) -> bool
+        ensures { result ≡ is_asked_as role name.now self.now }
+    {
+        self.has_name(role, name) && self.ours.is_some() && self.theirs.is_none()
+    }
+
+    /// Of this role and name, with an attach of the peer's.
+    pub fn is_theirs(&self, role: Role, name: &Text) -> bool
+        ensures { result ≡ is_theirs role name.now self.now }
+    {
+        self.has_name(role, name) && self.theirs.is_some()
+    }
+
+    pub fn number(&self) -> u32
+        ensures { result ≡ self.now.number }
+    {
+        self.number
+    }
+
+    /// Our detach was sent.
+    pub fn has_left(&self) -> bool
+        ensures { result ≡ self.now.left }
+    {
+        self.left
+    }
+
+    /// Our attach was sent.
+    pub fn is_ours(&self) -> bool
+        ensures { result ≡ is_some self.now.ours }
+    {
+        self.ours.is_some()
+    }
+
+    /// Our handle of it; 0 before our attach.
+    pub fn our_handle(&self) -> u32
+        ensures { result ≡ handle_of self.now.ours }
+    {
+        match self.ours {
+            Some(end) => end.handle,
+            None => 0,
+        }
+    }
+
+    /// The peer's handle of it, once its attach was heard.
+    pub fn peer_handle(&self) -> Option<u32>
+        ensures { result ≡ option_map (λ e. e.handle) self.now.theirs }
+    {
+        match self.theirs {
+            Some(end) => Some(end.handle()),
+            None => None,
+        }
+    }
+
+    /// Its marks, as they are.
+    pub fn marks(&self) -> Marks
+        ensures { IsMarksOf self.now result }
+    {
+        Marks {
+            left: self.left,
+            credit: self.credit,
+            available: self.available,
+            sending: self.sending,
+        }
+    }
+}
