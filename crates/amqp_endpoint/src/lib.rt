@@ -1,22 +1,20 @@
-//! One end of an AMQP 1.0 session (OASIS AMQP 1.0 part 2, 2.5 and 2.6): it takes the application's operations and
-//! the frames that are heard, and answers each with the frames to send. It keeps no history and does no input or output.
+//! One end of an AMQP 1.0 session (OASIS AMQP 1.0 part 2, 2.5 to 2.7): it takes the application's operations and the frames that are
+//! heard, and answers each with the frames to send. It keeps no history and does no input or output.
+//!
+//! A step is planned, then committed: a plan changes nothing, and is refused or owns all that the step needs; `commit` asks for the memory
+//! that is left to ask for, and then changes what cannot fail.
 //!
 //! | module | what it has |
 //! |---|---|
-//! | `config` | what is settled before the first step |
-//! | `op` | the operations of the application |
-//! | `reply` | what a step gives |
-//! | `refusal`, `violation` | why an operation is refused, and what is wrong with a frame |
-//! | `status` | the windows and a link, as they stand |
-//! | `endpoint` | the endpoint itself |
+//! | `plan` | a step as it is planned |
+//! | `stores` | the links and the unsettled deliveries, and what a step makes of both |
+//! | `sending` | frames as they are sent |
+//! | `endpoint` | the endpoint, and one module for each kind of step |
 #![tactic(auto)]
 
-pub mod config;
 pub mod endpoint;
-pub mod op;
-pub mod refusal;
-pub mod reply;
-pub mod status;
-#[cfg(test)]
-mod tests;
-pub mod violation;
+pub mod plan;
+mod sending;
+mod stores;
+
+pub use amqp_rules::{config, op, refusal, reply, status, violation};

@@ -1,8 +1,4 @@
-pub mod Counting
-pub mod StartLaw
-pub mod OfferLaw
-pub mod DrainedLaw
-pub mod FlowLaw
-pub mod Law
-pub mod Journal
-pub mod Granted
+pub mod UnitLaws
+pub mod Keeping
+pub mod Due
+pub mod Same

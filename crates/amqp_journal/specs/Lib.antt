@@ -1,7 +1,4 @@
-pub mod Past
-pub mod Said
-pub mod Windows
-pub mod Sending
-pub mod At
-pub mod Lawful
 pub mod Log
+pub mod Units
+pub mod Kept
+pub mod Planning

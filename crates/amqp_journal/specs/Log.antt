@@ -1,36 +1,54 @@
--- A session as callers see it: its settings and its journal.
-use Rattle.std.specs.Prelude.{◌≡◌, ◌++◌, ◌⊎◌, nat_le, Result, Ok, Err, IsOk, List, [], ◌∷◌, length, cond}
-use Rattle.amqp_endpoint.specs.declared.op.Op.{Op}
-use Rattle.amqp_endpoint.specs.declared.reply.Reply.{Reply}
-use Rattle.amqp_endpoint.specs.declared.reply.Given.{Given}
-use Rattle.amqp_endpoint.specs.declared.refusal.Refusal.{Refusal}
-use Rattle.amqp_endpoint.specs.declared.refusal.Refusal.TheVariants.{JournalFull}
-use Rattle.amqp_endpoint.specs.declared.violation.Violation.{Violation}
-use Rattle.amqp_endpoint.specs.declared.violation.ViolationKind.TheVariants.{JournalFull as Full}
+-- A session as callers see it: its settings, its journal, and what was put among the frames that it sends.
+use Rattle.std.specs.Prelude.{ℕ, ◌≡◌, ◌⊎◌, ◌+◌, ◌++◌, nat_le, Result, Ok, Err, IsOk, List, [], ◌∷◌, length, cond}
+use Rattle.amqp_rules.specs.declared.op.Op.{Op}
+use Rattle.amqp_rules.specs.declared.reply.Reply.{Reply}
+use Rattle.amqp_rules.specs.declared.reply.Given.{Given}
+use Rattle.amqp_rules.specs.declared.refusal.Refusal.{Refusal}
+use Rattle.amqp_rules.specs.declared.refusal.Refusal.TheVariants.{JournalFull}
+use Rattle.amqp_rules.specs.declared.violation.Violation.{Violation}
+use Rattle.amqp_rules.specs.declared.violation.ViolationKind.TheVariants.{JournalFull as Full}
 use Rattle.amqp_frames.specs.declared.frame.Frame.{Frame}
-use Rattle.amqp_endpoint.specs.declared.config.Config.{Config}
-use Rattle.amqp_endpoint.specs.Refusing.{unlinked}
-use Rattle.amqp_endpoint.specs.Answer.{own_answer, heard_answer}
-use Rattle.amqp_journal.specs.declared.entry.Entry.{Entry}
-use Rattle.amqp_journal.specs.declared.entry.Step.{Step}
-use Rattle.amqp_journal.specs.Past.{past}
-use Rattle.amqp_journal.specs.At.{at}
+use Rattle.amqp_rules.specs.declared.config.Config.{Config}
+use Rattle.amqp_rules.specs.Refusing.{unlinked}
+use Rattle.amqp_rules.specs.Answer.{own_answer, heard_answer}
+use Rattle.amqp_laws.specs.declared.entry.Entry.{Entry}
+use Rattle.amqp_laws.specs.declared.entry.Step.{Step}
+use Rattle.amqp_laws.specs.Past.{past}
+use Rattle.amqp_laws.specs.At.{at}
 
 pub record Log : Type 0 where
   pub config : Config
   pub journal : List Entry
+  -- octets that no step sent, each with the number of entries before it
+  pub put : List (ℕ × List ℕ)
+  -- how many units were popped
+  pub popped : ℕ
 
 -- what is due to an operation: a full journal refuses it, else the view decides
-abbrev pub own_answer_of : Log → Op → Result Reply Refusal
-own_answer_of l op = cond (nat_le l.config.journal_limit (length l.journal)) (Err JournalFull) (own_answer (at l.config (past l.journal)) op)
+unfoldable pub own_due : Log → Op → Result Reply Refusal
+own_due l op = cond (nat_le l.config.journal_limit (length l.journal)) (Err JournalFull) (own_answer (at l.config (past l.journal)) op)
 
-abbrev pub heard_answer_of : Log → Frame → Result Reply Violation
-heard_answer_of l frame = cond (nat_le l.config.journal_limit (length l.journal)) (Err (unlinked Full)) (heard_answer (at l.config (past l.journal)) frame)
+unfoldable pub heard_due : Log → Frame → Result Reply Violation
+heard_due l frame = cond (nat_le l.config.journal_limit (length l.journal)) (Err (unlinked Full)) (heard_answer (at l.config (past l.journal)) frame)
+
+abbrev pub new_log : Config → Log
+new_log c = record { config = c; journal = []; put = []; popped = 0 }
+
+-- one entry more
+abbrev pub logging : Log → Step → Reply → Log
+logging l step reply = record l { journal = l.journal ++ record { step = step; reply = reply } ∷ [] }
+
+-- octets put behind all that was sent so far
+abbrev pub putting : Log → List ℕ → Log
+putting l octets = record l { put = l.put ++ (length l.journal, octets) ∷ [] }
+
+-- one unit more is popped
+abbrev pub popping : Log → Log
+popping l = record l { popped = l.popped + 1 }
 
 -- the log has one entry more, with the reply that is due
 abbrev pub Appends : {E : Type 0} → Log → Step → Result Reply E → Given → Log → Type 0
-Appends old step (Ok reply) given new =
-    (new ≡ record old { journal = old.journal ++ record { step = step; reply = reply } ∷ [] }) × (given ≡ reply.given)
+Appends old step (Ok reply) given new = (new ≡ logging old step reply) × (given ≡ reply.given)
 Appends old step (Err e) given new = ⊥
 
 -- this refusal is due, or memory was refused where a reply is due

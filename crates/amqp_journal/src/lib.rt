@@ -1,12 +1,17 @@
-//! The endpoint with the journal of its steps: the journal decides what the endpoint is, by formulas over all of it.
+//! The endpoint with the journal of its steps, and the units that go out to the peer.
 //!
 //! | module | what it has |
 //! |---|---|
-//! | `entry` | a step with its reply |
-//! | `logged` | the endpoint and its journal, kept together |
+//! | `logged` | the endpoint, its journal and the waiting units, kept together |
+//! | `unit` | what goes out to the peer, with its number |
+//! | `receipt` | what stands for an operation that was done |
+//!
+//! A step is planned by the endpoint, room is made for its entry, its copy and its unit, and only then the endpoint changes: a step that is
+//! refused, or for which memory is wanting, leaves all as it was. Entries, and the laws of whole journals, are those of `amqp_laws`.
 #![tactic(auto)]
 
-pub mod entry;
 pub mod logged;
-#[cfg(test)]
-mod tests;
+pub mod receipt;
+pub mod unit;
+
+pub use amqp_laws::entry;

@@ -1,42 +1,56 @@
-ghost use Rattle.amqp_endpoint.specs.declared.config.Config.{Config};
-ghost use Rattle.amqp_endpoint.specs.Limits.{IsWithinLimits};
-ghost use Rattle.amqp_endpoint.specs.Refusing.{no_memory};
-ghost use Rattle.amqp_journal.specs.declared.entry.Entry.{Entry};
-ghost use Rattle.std.specs.Prelude.{ℕ, List, ◌≡◌, ◌<◌, ◌≤◌, ◌^◌, ◌+◌, ◌++◌, ◌∷◌, length, [], vec_len, vec_capacity, IfErr, IfSome, OnOk, OnErr, IfOk};
-ghost use Rattle.amqp_journal.specs.Log.{Log, Appends, IsRefusal, own_answer_of, heard_answer_of};
-ghost use Rattle.amqp_journal.specs.Past.{past};
-ghost use Rattle.amqp_journal.specs.At.{at};
-ghost use Rattle.amqp_journal.specs.Sending.{last_credit, passed, passed_then};
-ghost use Rattle.amqp_journal.specs.Lawful.{IsLawful, NeverWithoutCredit, SendsSerials, GoesOn};
+//! An endpoint with the journal of its steps and the units that wait.
+ghost use Rattle.std.specs.Prelude.{ℕ, List, ◌≡◌, ◌≢◌, ◌<◌, ◌≤◌, ◌⊎◌, ◌+◌, ◌++◌, ◌∷◌, ◌↔◌, length, [], drop, map, vec_len, vec_capacity, option_to_list, Option, Some, None, Ok, IsTrue, IfErr, IfSome, OnOk, OnErr, IfOk, slice_get};
+ghost use Rattle.std.specs.VecDeque.{deque_len, deque_capacity};
+ghost use Rattle.amqp_rules.specs.declared.config.Config.{Config};
+ghost use Rattle.amqp_rules.specs.Limits.{IsWithinLimits};
+ghost use Rattle.amqp_rules.specs.Refusing.{no_memory};
+ghost use Rattle.amqp_rules.specs.Opened.{no_reply};
+ghost use Rattle.amqp_endpoint.specs.Plan.{plan_reply};
+ghost use Rattle.amqp_laws.specs.Past.{past};
+ghost use Rattle.amqp_laws.specs.At.{at};
+ghost use Rattle.amqp_laws.specs.Lawful.{IsLawful, NeverWithoutCredit};
+ghost use Rattle.amqp_laws.specs.DeliveryLaws.{AreLeft, NeverTwice, SendsSerials};
+ghost use Rattle.amqp_laws.specs.declared.entry.Step.TheVariants as step;
+ghost use Rattle.amqp_journal.specs.Log.{Log, Appends, IsRefusal, own_due, heard_due, new_log, logging, putting, popping};
+ghost use Rattle.amqp_journal.specs.Planning.{PlansStep};
+ghost use Rattle.amqp_journal.specs.Units.{units, waiting, Stands, given_link, given_id};
 
-use crate::entry::{Entry, Step};
-use amqp_endpoint::config::Config;
+use crate::receipt::Receipt;
+use crate::unit::Unit;
 use amqp_endpoint::endpoint::Endpoint;
-use amqp_endpoint::op::Op;
-use amqp_endpoint::refusal::Refusal;
-use amqp_endpoint::reply::Given;
-use amqp_endpoint::violation::{Violation, ViolationKind};
+use amqp_endpoint::plan::Plan;
 use amqp_frames::Frame;
+use amqp_laws::entry::{Entry, Step};
+use amqp_laws::laws::laws;
+use amqp_rules::config::Config;
+use amqp_rules::op::Op;
+use amqp_rules::refusal::Refusal;
+use amqp_rules::reply::{Given, Reply};
+use amqp_rules::violation::{Violation, ViolationKind};
+use amqp_types::Items;
+use bytes::Bytes;
 use std::alloc::{AllocError, Global};
+use std::collections::VecDeque;
 use std::marker::Model;
 
-/// An endpoint with the journal of its steps. The journal is lawful: each entry has the reply that is due after the entries before it;
-/// and the endpoint is what the journal makes it.
+/// An endpoint with the journal of its steps, and the units that wait to go out.
+///
+/// The journal is lawful: each entry has the reply that is due after the entries before it; and the endpoint is what the journal makes it.
+/// The units that wait are those of the journal, with what was put among them, without those that were popped.
 #[derive(Drop)]
 pub struct Logged {
     config: Config,
     endpoint: Endpoint,
     journal: Vec<Entry>,
+    /// What was put, each with the number of entries before it.
+    put: Vec<(u64, Bytes)>,
+    waiting: VecDeque<Bytes>,
+    popped: u64,
 }
 
 impl Model for Logged {
-    ghost use Rattle.std.specs.Prelude.{◌≡◌, ◌≤◌, ◌^◌};
     ghost use Rattle.amqp_journal.specs.Log.{Log};
-    ghost use Rattle.amqp_journal.specs.Past.{past};
-    ghost use Rattle.amqp_journal.specs.At.{at};
-    ghost use Rattle.amqp_journal.specs.Sending.{last_credit, passed, passed_then};
-    ghost use Rattle.amqp_journal.specs.Lawful.{IsLawful};
-    ghost use Rattle.amqp_endpoint.specs.Limits.{IsWithinLimits};
+    ghost use Rattle.amqp_journal.specs.Kept.{IsKept};
     ghost use Rattle.amqp_types.specs.contracts.value.Value as value;
     ghost use Rattle.std.specs.Coded.{codes};
 
@@ -44,32 +58,45 @@ impl Model for Logged {
 
     ghost coded = { Prim.hlevel (codes, value.the_row.coded) };
 
-    ghost view = { λ l. record { config = l.config; journal = l.journal.items } };
+    ghost view = { λ l. record { config = l.config; journal = l.journal.items; put = l.put.items; popped = l.popped } };
 
-    ghost invariant = { λ l. IsLawful l.config (past l.journal.items) × (l.endpoint ≡ at l.config (past l.journal.items)) × IsWithinLimits l.config };
+    ghost invariant = { λ l. IsKept (record { config = l.config; journal = l.journal.items; put = l.put.items; popped = l.popped }) l.endpoint l.waiting.items };
 }
 
 impl Logged {
-    /// An endpoint with an empty journal.
+    /// An endpoint with an empty journal. It takes no memory but the endpoint's.
     pub fn new(alloc: Global, config: &Config) -> Result<Logged, AllocError>
         requires { IsWithinLimits config.now }
-        ensures { IfOk result (λ l. l ≡ record { config = config.now; journal = [] }) }
+        ensures { IfOk result (λ l. l ≡ new_log config.now) }
     {
-        let endpoint = Endpoint::new(alloc, config)?;
-        Ok(Logged {
-            config: *config,
-            endpoint,
-            journal: Vec::new(alloc),
-        })
+        laws();
+        match Endpoint::new(alloc, config) {
+            Ok(endpoint) => Ok(Logged {
+                config: *config,
+                endpoint,
+                journal: Vec::new(alloc),
+                put: Vec::new(alloc),
+                waiting: VecDeque::new(alloc),
+                popped: 0,
+            }),
+            Err(error) => Err(error),
+        }
     }
 
     /// The steps that were accepted, with their replies, the oldest first.
+    ///
+    /// Each has the reply that is due after those before it. No delivery begins without credit, at either end (part 2, 2.6.7); the i-th first
+    /// transfer that is sent has the i-th serial number from the configured first one on (part 2, 2.8.9); no delivery is named twice as
+    /// ended; and the unsettled deliveries are those that began unsettled, less those that were named.
     pub fn journal(&self) -> &[Entry]
         ensures value { result.now ≡ self.now.journal }
         ensures lawful { IsLawful self.now.config (past self.now.journal) }
-        ensures credit { NeverWithoutCredit self.now.journal }
+        ensures credit { NeverWithoutCredit self.now.config self.now.journal }
         ensures serials { SendsSerials self.now.config.first_id self.now.journal }
+        ensures twice { NeverTwice self.now.journal }
+        ensures left { AreLeft self.now.config self.now.journal }
     {
+        laws();
         self.journal.as_slice()
     }
 
@@ -80,102 +107,250 @@ impl Logged {
         &self.endpoint
     }
 
-    /// Does an operation: one entry more, or a refusal that leaves all as it was. A full journal is told first, and want of memory last.
-    pub fn apply(&mut self, op: &Op) -> Result<Given, Refusal>
-        ensures step { IfOk result (λ given. Appends self.old (Step.Own op.now) (own_answer_of self.old op.now) given self.new) }
-        ensures refusal { IfErr result (IsRefusal Refusal.NoMemory (own_answer_of self.old op.now)) }
+    /// The step Opened: the peer takes frames of so many octets (part 2, 2.7.1). It is refused where the journal is full, and for want of memory.
+    pub fn opened(&mut self, max: u32) -> Result<(), Refusal>
+        ensures step { OnOk result (self.new ≡ logging self.old (step.Opened max) no_reply) }
+        ensures full { IfErr result (λ e. (e ≡ Refusal.NoMemory) ⊎ ((e ≡ Refusal.JournalFull) × (self.old.config.journal_limit ≤ length self.old.journal))) }
+        ensures room { length self.old.journal < self.old.config.journal_limit → IfErr result (λ e. e ≡ Refusal.NoMemory) }
         ensures err { OnErr result (self.new ≡ self.old) }
     {
         if self.journal.len() >= self.config.journal_limit as usize {
             return Err(Refusal::JournalFull);
         }
-        let Ok(copy) = room_for_own(&mut self.journal, op) else {
-            return Err(self.endpoint.refusal(op).unwrap_or(Refusal::NoMemory));
+        let Ok(()) = self.journal.reserve(1) else {
+            return Err(Refusal::NoMemory);
         };
-        let (reply, again) = match self.endpoint.apply(op) {
-            Ok(both) => both,
-            Err(refusal) => return Err(refusal),
+        laws();
+        self.endpoint.opened(max);
+        let reply = Reply {
+            sent: Items::new(*self.journal.allocator()),
+            ended: Items::new(*self.journal.allocator()),
+            given: Given::Nothing,
         };
-        push_within(
-            &mut self.journal,
-            Entry {
-                step: Step::Own(copy),
-                reply,
-            },
-        );
-        Ok(again.given)
+        self.journal.push_reserved(Entry {
+            step: Step::Opened(max),
+            reply,
+        });
+        Ok(())
     }
 
-    /// Takes a frame that is heard: one entry more, or a violation that leaves all as it was. A full journal is told first, and want of memory last.
+    /// Does an operation: one entry more, or a refusal that leaves all as it was. A full journal is told first, and want of memory last.
+    /// It costs what the endpoint's step costs, and one copy of the operation and of what is given; payloads are shared.
+    pub fn apply(&mut self, op: &Op) -> Result<Given, Refusal>
+        ensures step { IfOk result (λ given. Appends self.old (step.Own op.now) (own_due self.old op.now) given self.new) }
+        ensures refusal { IfErr result (IsRefusal Refusal.NoMemory (own_due self.old op.now)) }
+        ensures err { OnErr result (self.new ≡ self.old) }
+    {
+        if self.journal.len() >= self.config.journal_limit as usize {
+            return Err(Refusal::JournalFull);
+        }
+        let plan = match self.endpoint.plan_own(op) {
+            Ok(plan) => plan,
+            Err(refusal) => return Err(refusal),
+        };
+        match op.clone() {
+            Ok(copy) => match self.append(Step::Own(copy), plan) {
+                Ok(given) => Ok(given),
+                Err(_) => Err(Refusal::NoMemory),
+            },
+            Err(_) => {
+                drop(plan);
+                Err(Refusal::NoMemory)
+            }
+        }
+    }
+
+    /// Takes a frame that is heard: one entry more, or a violation that leaves all as it was. A full journal is told first, and want of
+    /// memory last. Its cost is as that of `apply`.
     pub fn receive(&mut self, frame: &Frame) -> Result<Given, Violation>
-        ensures step { IfOk result (λ given. Appends self.old (Step.Heard frame.now) (heard_answer_of self.old frame.now) given self.new) }
-        ensures violation { IfErr result (IsRefusal no_memory (heard_answer_of self.old frame.now)) }
+        ensures step { IfOk result (λ given. Appends self.old (step.Heard frame.now) (heard_due self.old frame.now) given self.new) }
+        ensures violation { IfErr result (IsRefusal no_memory (heard_due self.old frame.now)) }
         ensures err { OnErr result (self.new ≡ self.old) }
     {
         if self.journal.len() >= self.config.journal_limit as usize {
             return Err(Violation::unlinked(ViolationKind::JournalFull));
         }
-        let Ok(copy) = room_for_heard(&mut self.journal, frame) else {
-            return Err(
-                self.endpoint
-                    .violation(frame)
-                    .unwrap_or(Violation::unlinked(ViolationKind::NoMemory)),
-            );
+        let plan = match self.endpoint.plan_heard(frame) {
+            Ok(plan) => plan,
+            Err(violation) => return Err(violation),
         };
-        let (reply, again) = match self.endpoint.receive(frame) {
-            Ok(both) => both,
-            Err(violation) => {
-                drop(copy);
-                return Err(violation);
+        match frame.clone() {
+            Ok(copy) => match self.append(Step::Heard(copy), plan) {
+                Ok(given) => Ok(given),
+                Err(_) => Err(Violation::unlinked(ViolationKind::NoMemory)),
+            },
+            Err(_) => {
+                drop(plan);
+                Err(Violation::unlinked(ViolationKind::NoMemory))
+            }
+        }
+    }
+
+    /// One entry more, by the plan of its step: room is made first, and the endpoint changes last.
+    fn append(&mut self, step: Step, plan: Plan) -> Result<Given, AllocError>
+        requires room { length self.old.journal < self.old.config.journal_limit }
+        requires due { PlansStep (at self.old.config (past self.old.journal)) step plan }
+        ensures ok { IfOk result (λ given. (self.new ≡ logging self.old step (plan_reply plan (at self.old.config (past self.old.journal)))) × (given ≡ plan.given)) }
+        ensures err { OnErr result (self.new ≡ self.old) }
+    {
+        let given = match ready(&mut self.journal, &mut self.waiting, &plan) {
+            Ok(given) => given,
+            Err(error) => {
+                drop(step);
+                drop(plan);
+                return Err(error);
             }
         };
-        push_within(
-            &mut self.journal,
-            Entry {
-                step: Step::Heard(copy),
-                reply,
-            },
-        );
-        Ok(again.given)
+        laws();
+        match self.endpoint.commit(plan) {
+            Ok((reply, unit)) => {
+                self.journal.push_reserved(Entry { step, reply });
+                queue(&mut self.waiting, unit);
+                Ok(given)
+            }
+            Err(error) => {
+                drop(given);
+                drop(step);
+                Err(error)
+            }
+        }
+    }
+
+    /// Puts octets behind all that was put out.
+    pub fn put_unit(&mut self, octets: Bytes) -> Result<(), AllocError>
+        ensures ok { OnOk result (self.new ≡ putting self.old octets) }
+        ensures err { OnErr result (self.new ≡ self.old) }
+    {
+        let copy = octets.clone()?;
+        room_for_put(&mut self.put, &mut self.waiting)?;
+        self.put.push_reserved((self.journal.len() as u64, octets));
+        self.waiting.push_back_reserved(copy);
+        Ok(())
+    }
+
+    /// The first unit that waits, with its number. It takes no memory.
+    pub fn pop_unit(&mut self) -> Option<Unit>
+        ensures some { IfSome result (λ unit. (unit.number ≡ self.old.popped) × (slice_get (units self.old) self.old.popped ≡ Some unit.bytes) × (self.new ≡ popping self.old)) }
+        ensures none { result ≡ None → (waiting self.old ≡ []) × (self.new ≡ self.old) }
+    {
+        let bytes = self.waiting.pop_front()?;
+        let number = self.popped;
+        self.popped = number + 1;
+        Some(Unit { number, bytes })
+    }
+
+    /// The entry at the receipt's place is this operation's, and gave this link and this delivery. It costs the comparison of two operations.
+    pub fn stands(&self, op: &Op, receipt: &Receipt) -> bool
+        ensures { IsTrue result ↔ Stands self.now op.now receipt.now.place receipt.now.link receipt.now.id }
+    {
+        match self.journal.get(receipt.place as usize) {
+            Some(entry) => stands_in(entry, op, receipt),
+            None => false,
+        }
+    }
+
+    /// In octets: the longest frame that the peer takes (part 2, 2.7.1); 512 before it told one.
+    pub fn peer_max_frame(&self) -> u32
+        ensures { result ≡ (at self.now.config (past self.now.journal)).max_frame }
+    {
+        self.endpoint.max_frame()
+    }
+
+    /// How many units were put out, popped ones included.
+    pub fn put_out(&self) -> u64
+        ensures { result ≡ length (units self.now) }
+    {
+        self.popped + self.waiting.len() as u64
     }
 }
 
-/// Room for one entry more, and a copy of the frame.
-fn room_for_heard(journal: &mut Vec<Entry>, frame: &Frame) -> Result<Frame, AllocError>
-    ensures items { journal.new.items ≡ journal.old.items }
+/// Room for one entry and one unit more, and what the step will give.
+fn ready(
+    journal: &mut Vec<Entry>,
+    waiting: &mut VecDeque<Bytes>,
+    plan: &Plan,
+) -> Result<Given, AllocError>
+    ensures journal { journal.new.items ≡ journal.old.items }
+    ensures waiting { waiting.new.items ≡ waiting.old.items }
     ensures room { OnOk result (vec_len journal.new < vec_capacity journal.new) }
-    ensures copy { IfOk result (λ copy. copy ≡ frame.now) }
+    ensures place { OnOk result (deque_len waiting.new < deque_capacity waiting.new) }
+    ensures given { IfOk result (λ given. given ≡ plan.now.given) }
 {
     journal.reserve(1)?;
-    frame.clone()
+    waiting.reserve(1)?;
+    plan.given()
 }
 
-/// Room for one entry more, and a copy of the operation.
-fn room_for_own(journal: &mut Vec<Entry>, op: &Op) -> Result<Op, AllocError>
-    ensures items { journal.new.items ≡ journal.old.items }
-    ensures room { OnOk result (vec_len journal.new < vec_capacity journal.new) }
-    ensures copy { IfOk result (λ copy. copy ≡ op.now) }
+/// Room for what is put, in its list and in the queue.
+fn room_for_put(
+    put: &mut Vec<(u64, Bytes)>,
+    waiting: &mut VecDeque<Bytes>,
+) -> Result<(), AllocError>
+    ensures put { put.new.items ≡ put.old.items }
+    ensures waiting { waiting.new.items ≡ waiting.old.items }
+    ensures room { OnOk result (vec_len put.new < vec_capacity put.new) }
+    ensures place { OnOk result (deque_len waiting.new < deque_capacity waiting.new) }
 {
-    journal.reserve(1)?;
-    op.clone()
+    put.reserve(1)?;
+    waiting.reserve(1)
 }
 
-fn push_within(journal: &mut Vec<Entry>, entry: Entry)
-    requires { vec_len journal.old < vec_capacity journal.old }
-    ensures { journal.new.items ≡ journal.old.items ++ entry ∷ [] }
+/// The unit of a step waits behind the others; there is room for it.
+fn queue(waiting: &mut VecDeque<Bytes>, unit: Option<Bytes>)
+    requires { deque_len waiting.old < deque_capacity waiting.old }
+    ensures { waiting.new.items ≡ waiting.old.items ++ option_to_list unit }
 {
-    match journal.push(entry) {
-        Ok(()) => {}
-        Err(_) => unreachable!(),
+    if let Some(bytes) = unit {
+        waiting.push_back_reserved(bytes);
     }
 }
 
-/// Along every lawful journal each entry changes the view as its step does, no delivery begins without credit,
-/// and the ids that are sent are consecutive serial numbers from the configured first one on. The credit of a link is counted from the
-/// deliveries that had passed on it before the last flow that said one.
-pub fn laws()
-    ensures goes_on { (c : Config) (journal : List Entry) → IsWithinLimits c → IsLawful c (past journal) → GoesOn c journal }
-    ensures credit { (c : Config) (journal : List Entry) → IsLawful c (past journal) → NeverWithoutCredit journal }
-    ensures serials { (c : Config) (journal : List Entry) → IsLawful c (past journal) → SendsSerials c.first_id journal }
-    ensures granted { (k : ℕ) (past : List Entry) → IfSome (last_credit k past) (λ said. passed_then k past ≡ passed k said.1) }
-{}
+/// The entry is this operation's, and gave this link and this delivery.
+fn stands_in(entry: &Entry, op: &Op, receipt: &Receipt) -> bool
+    ensures { IsTrue result ↔ (entry.now.step ≡ step.Own op.now) × (given_link entry.now.reply.given ≡ receipt.now.link) × (given_id entry.now.reply.given ≡ receipt.now.id) }
+{
+    match &entry.step {
+        Step::Own(own) => is_same(own, op) && gives(&entry.reply.given, receipt),
+        Step::Opened(_) | Step::Heard(_) => false,
+    }
+}
+
+fn is_same(own: &Op, op: &Op) -> bool
+    ensures { IsTrue result ↔ own.now ≡ op.now }
+{
+    own == op
+}
+
+/// It names the link and the delivery of the receipt.
+fn gives(given: &Given, receipt: &Receipt) -> bool
+    ensures { IsTrue result ↔ (given_link given.now ≡ receipt.now.link) × (given_id given.now ≡ receipt.now.id) }
+{
+    link_of(given) == receipt.link && id_of(given) == receipt.id
+}
+
+fn link_of(given: &Given) -> Option<u32>
+    ensures { result ≡ given_link given.now }
+{
+    match given {
+        Given::Link(link)
+        | Given::Offered(link)
+        | Given::Attached(link)
+        | Given::Gone(link)
+        | Given::Ready(link, _) => Some(*link),
+        Given::Taken(taken) => Some(taken.link),
+        Given::Learned(learned) => Some(learned.link),
+        Given::Delivery(_) | Given::Nothing => None,
+    }
+}
+
+fn id_of(given: &Given) -> Option<u32>
+    ensures { result ≡ given_id given.now }
+{
+    match given {
+        Given::Delivery(id) | Given::Ready(_, id) => Some(*id),
+        Given::Taken(taken) => Some(taken.id),
+        Given::Learned(learned) => Some(learned.id),
+        Given::Link(_) | Given::Offered(_) | Given::Attached(_) | Given::Gone(_) | Given::Nothing =>
+            None,
+    }
+}

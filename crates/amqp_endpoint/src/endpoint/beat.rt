@@ -1,35 +1,19 @@
-ghost use Rattle.std.specs.Prelude.{◌≡◌, ◌<◌, ◌^◌, OnOk, OnErr};
-ghost use Rattle.std.specs.Result.{result_err};
-ghost use Rattle.amqp_endpoint.specs.Beat.{beat_answer, next_beat};
-ghost use Rattle.amqp_endpoint.specs.Refusing.{Gives};
+//! Beat: an empty frame, by which the peer knows that we are there (part 2, 2.4.5).
+ghost use Rattle.amqp_rules.specs.Beat.{beat_answer, next_beat};
+ghost use Rattle.amqp_endpoint.specs.Plan.{Plans};
 
 use crate::endpoint::Endpoint;
-use crate::endpoint::sending::{notice_twice, sending_refusal};
+use crate::plan::{Plan, plan_sending};
 use crate::refusal::Refusal;
-use crate::reply::Reply;
+use crate::reply::Given;
+use amqp_deliveries::Change;
+use amqp_links::fate::Fate;
 
 impl Endpoint {
-    /// The refusal that it would meet, memory aside.
-    pub(super) fn beat_refusal(&self) -> Option<Refusal>
-        ensures { result ≡ result_err (beat_answer self.now) }
+    /// Sends an empty frame. O(1).
+    pub(crate) fn plan_beat(&self) -> Result<Plan, Refusal>
+        ensures { Plans Refusal.NoMemory self.now (beat_answer self.now) (next_beat self.now) result }
     {
-        sending_refusal(None, &[], self.max_frame)
-    }
-
-    /// Sends an empty frame.
-    pub(super) fn beat(&mut self) -> Result<(Reply, Reply), Refusal>
-        requires { self.old.steps < 2 ^ 30 }
-        ensures answer { Gives Refusal.NoMemory (beat_answer self.old) result }
-        ensures next { OnOk result (self.new ≡ next_beat self.old) }
-        ensures err { OnErr result (self.new ≡ self.old) }
-    {
-        if let Some(refusal) = self.beat_refusal() {
-            return Err(refusal);
-        }
-        let Ok(both) = notice_twice(self.alloc, None, self.max_frame) else {
-            return Err(Refusal::NoMemory);
-        };
-        self.steps += 1;
-        Ok(both)
+        plan_sending(self.session, Fate::Stay, Change::Stay, None, Given::Nothing)
     }
 }

@@ -1,76 +1,106 @@
-ghost use Rattle.std.specs.Prelude.{◌≡◌, ◌<◌, ◌^◌, OnOk, OnErr, Err, MatchResult};
-ghost use Rattle.std.specs.Result.{result_err};
-ghost use Rattle.amqp_endpoint.specs.Drained.{drained, drained_body, drained_answer, next_drained};
-ghost use Rattle.amqp_endpoint.specs.Refusing.{Gives};
+//! Drained: the credit that is left is given up, as the peer's drain wishes (part 2, 2.6.7).
+ghost use Rattle.std.specs.Prelude.{◌≡◌, true, Some, Err, MatchResult};
+ghost use Rattle.amqp_flow.specs.Sender.{sender_drained};
+ghost use Rattle.amqp_rules.specs.Drained.{drained, drained_refusals, drained_answer, next_drained};
+ghost use Rattle.amqp_rules.specs.Telling.{sender_flow};
+ghost use Rattle.amqp_rules.specs.View.{LinkView, handle_of};
+ghost use Rattle.amqp_links.specs.Marks.{with_marks};
+ghost use Rattle.amqp_endpoint.specs.Plan.{Plans};
+ghost use Rattle.amqp_endpoint.specs.Taking.{IsTaken};
 
 use crate::endpoint::Endpoint;
-use crate::endpoint::link::{Link, Placed, with_number};
-use crate::endpoint::sending::{notice_twice, sending_refusal};
-use crate::endpoint::telling::link_flow;
+use crate::endpoint::onlink::OnLink;
+use crate::plan::{Plan, plan_sending};
 use crate::refusal::Refusal;
-use crate::reply::Reply;
+use crate::reply::Given;
+use amqp_deliveries::Change;
+use amqp_flow::sender::SenderCredit;
 use amqp_flow::windows::Windows;
-use amqp_frames::Performative;
+use amqp_frames::{FlowBody, Performative};
+use amqp_links::credit::Credit;
+use amqp_links::fate::Fate;
+use amqp_links::marks::Marks;
 
-/// The link once its credit is given up.
-fn drained(mut link: Link) -> Link
-    ensures { result ≡ drained link }
+/// The credit once what is left of it is given up.
+fn drained(mut sender: SenderCredit) -> SenderCredit
+    ensures { result ≡ sender_drained sender }
 {
-    link.credit.drain();
-    link
+    sender.drain();
+    sender
 }
 
-/// The flow that tells of it.
-fn drained_body(windows: &Windows, link: &Link) -> Option<Performative>
-    ensures { result ≡ drained_body windows.now link.now }
+/// The flow that tells that the link with these marks is drained.
+fn drained_flow(windows: &Windows, handle: u32, marks: &Marks) -> FlowBody
+    ensures { (l : LinkView) → handle ≡ handle_of l.ours → result ≡ sender_flow windows.now (with_marks marks.now l) (Some true) }
 {
-    Some(Performative::Flow(link_flow(windows, link, Some(true))))
+    let (count, credit) = match &marks.credit {
+        Credit::Sending(credit) => (credit.count(), credit.credit()),
+        Credit::Receiving(credit) => (credit.count(), credit.credit()),
+    };
+    FlowBody {
+        next_incoming_id: windows.next_incoming(),
+        incoming_window: windows.window(),
+        next_outgoing_id: windows.next_outgoing(),
+        outgoing_window: 2147483647,
+        handle: Some(handle),
+        delivery_count: Some(count),
+        link_credit: Some(credit),
+        available: Some(marks.available),
+        drain: Some(true),
+        echo: None,
+        properties: None,
+    }
 }
 
 impl Endpoint {
-    ghost use Rattle.amqp_endpoint.specs.Ready.{IsDrained};
-
     /// The first refusal that is due, or the link as it will be.
-    fn check_drained(&self, link: u32) -> Result<Placed, Refusal>
-        ensures { MatchResult result (IsDrained self.now link) (λ e. drained_answer self.now link ≡ Err e) }
+    fn check_drained(&self, link: u32) -> Result<OnLink, Refusal>
+        ensures { MatchResult result (IsTaken self.now link drained_refusals drained) (λ e. drained_answer self.now link ≡ Err e) }
     {
-        let Some(found) = with_number(self.links.as_slice(), link) else {
+        if !self.session.is_mapped() {
+            return Err(Refusal::NotMapped);
+        }
+        let Some(found) = self.stores.links.by_number(link) else {
             return Err(Refusal::NoLink);
         };
-        if !found.link.credit.is_draining() {
+        let l = found.link;
+        if !l.is_attached() {
+            return Err(Refusal::NotAttached);
+        }
+        let mut marks = l.marks();
+        let Some(sender) = marks.credit.sending() else {
+            return Err(Refusal::WrongRole);
+        };
+        if !sender.is_draining() {
             return Err(Refusal::NotDraining);
         }
-        let place = found.place;
-        let link = drained(found.link);
-        match sending_refusal(drained_body(&self.windows, &link), &[], self.max_frame) {
-            Some(refusal) => Err(refusal),
-            None => Ok(Placed { place, link }),
-        }
+        marks.credit = Credit::Sending(drained(sender));
+        Ok(OnLink {
+            key: found.key,
+            handle: l.our_handle(),
+            marks,
+        })
     }
 
-    /// The refusal that it would meet, memory aside.
-    pub(super) fn drained_refusal(&self, link: u32) -> Option<Refusal>
-        ensures { result ≡ result_err (drained_answer self.now link) }
+    /// Gives up the credit that is left. O(log n) for n links.
+    pub(crate) fn plan_drained(&self, link: u32) -> Result<Plan, Refusal>
+        ensures { Plans Refusal.NoMemory self.now (drained_answer self.now link) (next_drained self.now link) result }
     {
-        match self.check_drained(link) {
-            Ok(_) => None,
-            Err(refusal) => Some(refusal),
-        }
-    }
-
-    /// Gives up the credit that is left.
-    pub(super) fn drained(&mut self, link: u32) -> Result<(Reply, Reply), Refusal>
-        requires { self.old.steps < 2 ^ 30 }
-        ensures answer { Gives Refusal.NoMemory (drained_answer self.old link) result }
-        ensures next { OnOk result (self.new ≡ next_drained self.old link) }
-        ensures err { OnErr result (self.new ≡ self.old) }
-    {
-        let drained = self.check_drained(link)?;
-        let body = drained_body(&self.windows, &drained.link);
-        let Ok(both) = notice_twice(self.alloc, body, self.max_frame) else {
-            return Err(Refusal::NoMemory);
+        let on = self.check_drained(link)?;
+        let mut session = self.session;
+        let told = drained_flow(&session.windows, on.handle, &on.marks);
+        session.windows.renew();
+        let fate = Fate::Marked {
+            key: on.key,
+            number: link,
+            marks: on.marks,
         };
-        self.told_flow(drained);
-        Ok(both)
+        plan_sending(
+            session,
+            fate,
+            Change::Stay,
+            Some(Performative::Flow(told)),
+            Given::Nothing,
+        )
     }
 }

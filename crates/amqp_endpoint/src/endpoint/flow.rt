@@ -1,38 +1,38 @@
-ghost use Rattle.std.specs.Prelude.{◌≡◌, ◌<◌, ◌^◌, true, false, cond, None, Some, OnOk, OnErr, IfOk, MatchOption, MatchResult, option_map, ℕ};
-ghost use Rattle.std.specs.Result.{result_err};
-ghost use Rattle.amqp_performatives.specs.declared.bodies.FlowBody.{FlowBody};
-ghost use Rattle.amqp_flow.specs.Windows.{windows_renewed, windows_heard, session_is_ahead};
-ghost use Rattle.amqp_flow.specs.Sender.{link_is_ahead};
-ghost use Rattle.amqp_endpoint.specs.Flow.{
+//! A flow that is heard.
+ghost use Rattle.std.specs.Prelude.{◌≡◌, true, false, cond, is_some, None, Some, MatchOption, MatchResult};
+ghost use Rattle.amqp_flow.specs.Windows.{windows_renewed};
+ghost use Rattle.amqp_links.specs.Links.{IsFirst};
+ghost use Rattle.amqp_links.specs.Marks.{with_marks};
+ghost use Rattle.amqp_endpoint.specs.Flowing.{credit_ahead, echo_frame, echo_plan, session_after, sends_echo, session_ahead, windows_told_by, IsCreditAfter};
+ghost use Rattle.amqp_endpoint.specs.Plan.{IsWritable, Plans};
+ghost use Rattle.amqp_rules.specs.Flow.{
   session_part,
   link_part,
   asks_echo,
-  names_no_link,
-  flow_windows,
-  flow_link,
-  flow_links,
-  named_link,
-  is_ahead,
   echo_body,
-  flow_reply,
   flow_answer,
-  flow_violation,
+  flow_link,
+  is_ahead_of_link,
   next_flow,
 };
-ghost use Rattle.amqp_endpoint.specs.Ready.{AreTaken, IsTaken, IsTakenAt, IsNamed, IsNamedChanged, AreInside, link_in, heard_at};
-ghost use Rattle.amqp_endpoint.specs.Refusing.{Gives, no_memory, unlinked};
+ghost use Rattle.amqp_rules.specs.Refusing.{no_memory};
+ghost use Rattle.amqp_rules.specs.View.{has_peer_handle, takes_frames};
 
 use crate::endpoint::Endpoint;
-use crate::endpoint::link::{Link, Placed, change_link, with_peer_handle};
-use crate::endpoint::offer::offer_body;
-use crate::endpoint::sending::{no_reply, notice_twice};
-use crate::endpoint::telling::session_flow;
-use crate::reply::Reply;
+use crate::endpoint::telling::{session_flow, standing_flow};
+use crate::plan::{Plan, Session, plan_answering, plan_quiet};
+use crate::reply::Given;
 use crate::violation::{Violation, ViolationKind};
+use amqp_deliveries::Change;
 use amqp_flow::flow::{LinkFlow, SessionFlow};
+use amqp_flow::receiver::ReceiverCredit;
+use amqp_flow::sender::SenderCredit;
 use amqp_flow::windows::Windows;
 use amqp_frames::{FlowBody, Performative};
-use std::alloc::{AllocError, Global};
+use amqp_links::credit::Credit;
+use amqp_links::fate::Fate;
+use amqp_links::link::Link;
+use amqp_links::marks::Marks;
 
 fn session_part(b: &FlowBody) -> SessionFlow
     ensures { result ≡ session_part b.now }
@@ -72,154 +72,185 @@ fn renewed_if(sends: bool, mut windows: Windows) -> Windows
     windows
 }
 
-/// The windows after the flow; none where it counts transfers that were not sent.
-fn flow_windows(b: &FlowBody, mut windows: Windows) -> Option<Windows>
-    ensures { MatchOption result (session_is_ahead (session_part b.now) windows ≡ true) (AreTaken b.now windows) }
+/// The windows that the flow tells; none where it counts transfers that were not sent.
+fn told_windows(begun: bool, b: &FlowBody, mut windows: Windows) -> Option<Windows>
+    ensures { MatchOption result (session_ahead begun b.now windows ≡ true) (λ w. (session_ahead begun b.now windows ≡ false) × (w ≡ windows_told_by begun b.now windows)) }
 {
+    if !begun {
+        windows.on_early_flow(&session_part(b));
+        return Some(windows);
+    }
     match windows.on_flow(&session_part(b)) {
-        Ok(()) => Some(renewed_if(asks_echo(b), windows)),
+        Ok(()) => Some(windows),
         Err(_) => None,
     }
 }
 
-/// The link after the flow; none where it counts deliveries that did not begin.
-fn flow_link(b: &FlowBody, mut link: Link) -> Option<Link>
-    ensures { MatchOption result (link_is_ahead (link_part b.now) link.credit ≡ true) (IsTaken b.now link) }
+/// A flow is sent in return.
+fn sends_echo(session: &Session, b: &FlowBody) -> bool
+    ensures { result ≡ sends_echo session.now.begin_sent b.now }
 {
-    match link.credit.on_flow(&link_part(b)) {
-        Ok(()) => Some(link),
+    asks_echo(b) && session.begin_sent
+}
+
+/// The session after the flow; none where that counts transfers that were not sent.
+fn heard_session(b: &FlowBody, mut session: Session) -> Option<Session>
+    ensures { MatchOption result (session_ahead session.begin_sent b.now session.windows ≡ true) (λ s. (session_ahead session.begin_sent b.now session.windows ≡ false) × (s ≡ session_after b.now session)) }
+{
+    let windows = told_windows(session.begin_sent, b, session.windows)?;
+    session.windows = renewed_if(sends_echo(&session, b), windows);
+    Some(session)
+}
+
+fn sender_after(ours: bool, b: &FlowBody, mut c: SenderCredit) -> Option<Credit>
+    ensures { MatchOption result (credit_ahead ours b.now (Credit.Sending c) ≡ true) (λ n. (credit_ahead ours b.now (Credit.Sending c) ≡ false) × IsCreditAfter ours b.now (Credit.Sending c) n) }
+{
+    if !ours {
+        c.on_early_flow(&link_part(b));
+        return Some(Credit::Sending(c));
+    }
+    match c.on_flow(&link_part(b)) {
+        Ok(()) => Some(Credit::Sending(c)),
         Err(_) => None,
     }
 }
 
-/// The link that a handle names, if one is given.
-fn named_link(links: &[Link], handle: Option<u32>) -> Result<Option<Placed>, Violation>
-    ensures { MatchResult result (λ p. (names_no_link links.now handle ≡ false) × IsNamed links.now handle p) (λ e. (names_no_link links.now handle ≡ true) × (e ≡ unlinked ViolationKind.BadHandle)) }
+fn receiver_after(ours: bool, b: &FlowBody, mut c: ReceiverCredit) -> Option<Credit>
+    ensures { MatchOption result (credit_ahead ours b.now (Credit.Receiving c) ≡ true) (λ n. (credit_ahead ours b.now (Credit.Receiving c) ≡ false) × IsCreditAfter ours b.now (Credit.Receiving c) n) }
 {
-    let Some(handle) = handle else {
-        return Ok(None);
-    };
-    match with_peer_handle(links, handle) {
-        Some(found) => Ok(Some(found)),
-        None => Err(Violation::unlinked(ViolationKind::BadHandle)),
+    if !ours {
+        return Some(Credit::Receiving(c));
+    }
+    match c.on_flow(&link_part(b)) {
+        Ok(()) => Some(Credit::Receiving(c)),
+        Err(_) => None,
     }
 }
 
-/// The link that was named, after the flow; a violation where the flow counts deliveries that did not begin.
-fn heard_link(b: &FlowBody, found: Option<Placed>) -> Result<Option<Placed>, Violation>
-    ensures { MatchResult result (IsTakenAt b.now found) (λ e. (is_ahead b.now (link_in found) ≡ true) × (e ≡ unlinked ViolationKind.CountAhead)) }
+/// The credit after the flow; none where that counts deliveries that did not begin, or gives up more than there is.
+fn heard_credit(ours: bool, b: &FlowBody, c: &Credit) -> Option<Credit>
+    ensures { MatchOption result (credit_ahead ours b.now c.now ≡ true) (λ n. (credit_ahead ours b.now c.now ≡ false) × IsCreditAfter ours b.now c.now n) }
 {
-    let Some(Placed { place, link }) = found else {
-        return Ok(None);
-    };
-    match flow_link(b, link) {
-        Some(link) => Ok(Some(Placed { place, link })),
-        None => Err(Violation::unlinked(ViolationKind::CountAhead)),
+    match c {
+        Credit::Sending(c) => sender_after(ours, b, *c),
+        Credit::Receiving(c) => receiver_after(ours, b, *c),
     }
 }
 
-/// What a flow leaves: the windows, and the link that it names.
-#[derive(Clone, Copy)]
-pub(super) struct Heard {
-    windows: Windows,
-    link: Option<Placed>,
+/// The marks of a link that we have not left, after the flow.
+fn heard_marks(b: &FlowBody, l: &Link) -> Option<Marks>
+    requires theirs { is_some l.now.theirs ≡ true }
+    requires stays { l.now.left ≡ false }
+    ensures { MatchOption result (is_ahead_of_link b.now (Some l.now) ≡ true) (λ m. (is_ahead_of_link b.now (Some l.now) ≡ false) × (with_marks m l.now ≡ flow_link b.now l.now)) }
+{
+    let mut marks = l.marks();
+    marks.credit = heard_credit(l.is_ours(), b, &marks.credit)?;
+    Some(marks)
 }
 
-/// The flow in return.
-fn echo_body(windows: &Windows, link: Option<Placed>) -> Option<Performative>
-    ensures { result ≡ echo_body windows.now (link_in link) }
+/// The plan that sends this flow in return, or none.
+fn plan_echo(session: Session, fate: Fate, echo: bool, body: FlowBody) -> Result<Plan, Violation>
+    ensures { MatchResult result (λ p. (p ≡ echo_plan session fate echo body) × IsWritable session.max_frame (echo_frame echo body)) (λ e. e ≡ no_memory) }
 {
-    match link {
-        None => Some(Performative::Flow(session_flow(windows))),
-        Some(placed) => offer_body(windows, &placed.link),
+    if echo {
+        let body = Some(Performative::Flow(body));
+        plan_answering(session, fate, Change::Stay, body, Given::Nothing)
+    } else {
+        drop(body);
+        Ok(plan_quiet(session, fate, Change::Stay, Given::Nothing))
     }
 }
 
-/// The reply to a flow, twice.
-fn flow_reply(
-    alloc: Global,
-    echo: bool,
-    heard: &Heard,
-    max: u32,
-) -> Result<(Reply, Reply), AllocError>
-    ensures { IfOk result (λ both. both ≡ (flow_reply echo heard.now.windows (link_in heard.now.link), flow_reply echo heard.now.windows (link_in heard.now.link))) }
+/// The flow in return, of a link with these marks: where it is attached, its own.
+fn flow_in_return(windows: &Windows, l: &Link, marks: &Marks) -> FlowBody
+    requires { marks.now.left ≡ l.now.left }
+    ensures { result ≡ echo_body windows.now (Some (with_marks marks.now l.now)) }
 {
-    if !echo {
-        return Ok((no_reply(alloc), no_reply(alloc)));
-    }
-    notice_twice(alloc, echo_body(&heard.windows, heard.link), max)
-}
-
-/// The link becomes what the flow made it, if one was named.
-fn put_link(links: &mut [Link], to: Option<Placed>)
-    requires { AreInside to links.old }
-    ensures { (b : FlowBody) → IsNamedChanged (flow_link b) links.old b.handle to → links.new ≡ flow_links b b.handle links.old }
-{
-    if let Some(placed) = to {
-        change_link(links, placed);
+    if l.is_attached() {
+        standing_flow(windows, l.our_handle(), marks)
+    } else {
+        session_flow(windows)
     }
 }
 
 impl Endpoint {
-    ghost use Rattle.amqp_endpoint.specs.Ready.{IsHeard};
-
-    /// The violation that is due, or what the flow leaves.
-    fn check_flow(&self, b: &FlowBody) -> Result<Heard, Violation>
-        ensures { MatchResult result (IsHeard self.now b.now) (λ e. flow_violation self.now b.now ≡ Some e) }
+    /// A flow of the session alone.
+    fn plan_session_flow(&self, b: &FlowBody) -> Result<Plan, Violation>
+        requires takes { takes_frames self.now.session ≡ true }
+        requires names { b.now.handle ≡ None }
+        ensures { Plans no_memory self.now (flow_answer self.now b.now) (next_flow self.now b.now) result }
     {
-        let found = named_link(self.links.as_slice(), b.handle)?;
-        let Some(windows) = flow_windows(b, self.windows) else {
+        let Some(session) = heard_session(b, self.session) else {
             return Err(Violation::unlinked(ViolationKind::CountAhead));
         };
-        let link = heard_link(b, found)?;
-        Ok(Heard { windows, link })
+        let echo = sends_echo(&session, b);
+        let body = session_flow(&session.windows);
+        plan_echo(session, Fate::Stay, echo, body)
     }
 
-    /// The violation that the flow would meet, memory aside.
-    pub(super) fn flow_violation(&self, b: &FlowBody) -> Option<Violation>
-        ensures { result ≡ flow_violation self.now b.now }
+    /// A flow of a link that we have left: the link stays as it is.
+    fn plan_passed_flow(&self, b: &FlowBody, handle: u32, l: &Link) -> Result<Plan, Violation>
+        requires takes { takes_frames self.now.session ≡ true }
+        requires names { b.now.handle ≡ Some handle }
+        requires called { IsFirst (has_peer_handle handle) self.now.links l.now }
+        requires left { l.now.left ≡ true }
+        ensures { Plans no_memory self.now (flow_answer self.now b.now) (next_flow self.now b.now) result }
     {
-        match self.check_flow(b) {
-            Ok(_) => None,
-            Err(violation) => Some(violation),
-        }
-    }
-
-    fn take_heard(&mut self, heard: &Heard)
-        requires steps { self.old.steps < 2 ^ 30 }
-        requires sent { heard.now.windows.sent ≡ self.old.windows.sent }
-        requires inside { AreInside heard.now.link self.old.links }
-        ensures { (b : FlowBody) → IsHeard self.old b heard.now → self.new ≡ next_flow self.old b }
-    {
-        self.steps += 1;
-        self.windows = heard.windows;
-        put_link(self.links.as_mut_slice(), heard.link);
-    }
-
-    fn answer_flow(&mut self, b: &FlowBody, heard: &Heard) -> Result<(Reply, Reply), Violation>
-        requires steps { self.old.steps < 2 ^ 30 }
-        requires heard { IsHeard self.old b.now heard.now }
-        ensures answer { Gives no_memory (flow_answer self.old b.now) result }
-        ensures next { OnOk result (self.new ≡ next_flow self.old b.now) }
-        ensures err { OnErr result (self.new ≡ self.old) }
-    {
-        let Ok(both) = flow_reply(self.alloc, asks_echo(b), heard, self.max_frame) else {
-            return Err(Violation::unlinked(ViolationKind::NoMemory));
+        let Some(session) = heard_session(b, self.session) else {
+            return Err(Violation::unlinked(ViolationKind::CountAhead));
         };
-        self.take_heard(heard);
-        Ok(both)
+        let echo = sends_echo(&session, b);
+        let body = session_flow(&session.windows);
+        plan_echo(session, Fate::Stay, echo, body)
     }
 
-    /// Takes a flow, and answers where it asks for an answer.
-    pub(super) fn hear_flow(&mut self, b: &FlowBody) -> Result<(Reply, Reply), Violation>
-        requires { self.old.steps < 2 ^ 30 }
-        ensures answer { Gives no_memory (flow_answer self.old b.now) result }
-        ensures next { OnOk result (self.new ≡ next_flow self.old b.now) }
-        ensures err { OnErr result (self.new ≡ self.old) }
+    /// A flow of a link that we have not left.
+    fn plan_link_flow(
+        &self,
+        b: &FlowBody,
+        handle: u32,
+        key: usize,
+        l: &Link,
+    ) -> Result<Plan, Violation>
+        requires takes { takes_frames self.now.session ≡ true }
+        requires names { b.now.handle ≡ Some handle }
+        requires called { IsFirst (has_peer_handle handle) self.now.links l.now }
+        requires left { l.now.left ≡ false }
+        ensures { Plans no_memory self.now (flow_answer self.now b.now) (next_flow self.now b.now) result }
     {
-        match self.check_flow(b) {
-            Ok(heard) => self.answer_flow(b, &heard),
-            Err(violation) => Err(violation),
+        let Some(session) = heard_session(b, self.session) else {
+            return Err(Violation::unlinked(ViolationKind::CountAhead));
+        };
+        let Some(marks) = heard_marks(b, l) else {
+            return Err(Violation::unlinked(ViolationKind::CountAhead));
+        };
+        let echo = sends_echo(&session, b);
+        let body = flow_in_return(&session.windows, l, &marks);
+        let fate = Fate::Marked {
+            key,
+            number: l.number(),
+            marks,
+        };
+        plan_echo(session, fate, echo, body)
+    }
+
+    /// A flow that is heard. O(log n) for n links.
+    pub(crate) fn plan_flow(&self, b: &FlowBody) -> Result<Plan, Violation>
+        ensures { Plans no_memory self.now (flow_answer self.now b.now) (next_flow self.now b.now) result }
+    {
+        if !self.session.takes_frames() {
+            return Err(Violation::unlinked(ViolationKind::OutOfSession));
+        }
+        let Some(handle) = b.handle else {
+            return self.plan_session_flow(b);
+        };
+        let Some(found) = self.stores.links.by_peer_handle(handle) else {
+            return Err(Violation::unlinked(ViolationKind::BadHandle));
+        };
+        if found.link.has_left() {
+            self.plan_passed_flow(b, handle, found.link)
+        } else {
+            self.plan_link_flow(b, handle, found.key, found.link)
         }
     }
 }

@@ -1,73 +1,67 @@
-ghost use Rattle.std.specs.Prelude.{◌≡◌, ◌<◌, ◌^◌, OnOk, OnErr, Err, MatchResult};
-ghost use Rattle.std.specs.Result.{result_err};
-ghost use Rattle.amqp_endpoint.specs.Offer.{offered, offer_body, offer_answer, next_offer};
-ghost use Rattle.amqp_endpoint.specs.Refusing.{Gives};
+//! Offer: the peer is told how many messages are available (part 2, 2.6.7).
+ghost use Rattle.std.specs.Prelude.{◌≡◌, [], Err, MatchResult};
+ghost use Rattle.amqp_performatives.specs.declared.bodies.Role.TheVariants.{Sender};
+ghost use Rattle.amqp_endpoint.specs.Plan.{Plans};
+ghost use Rattle.amqp_endpoint.specs.Taking.{IsTaken};
+ghost use Rattle.amqp_rules.specs.Offer.{offered, offer_answer, next_offer};
+ghost use Rattle.amqp_rules.specs.OnLink.{attached_as};
 
 use crate::endpoint::Endpoint;
-use crate::endpoint::link::{Link, Placed, with_number};
-use crate::endpoint::sending::{notice_twice, sending_refusal};
-use crate::endpoint::telling::{flag, link_flow};
+use crate::endpoint::onlink::OnLink;
+use crate::endpoint::telling::standing_flow;
+use crate::plan::{Plan, plan_sending};
 use crate::refusal::Refusal;
-use crate::reply::Reply;
-use amqp_flow::windows::Windows;
+use crate::reply::Given;
+use amqp_deliveries::Change;
 use amqp_frames::Performative;
-
-/// The link with so many messages available.
-fn offered(mut link: Link, available: u32) -> Link
-    ensures { result ≡ offered available link }
-{
-    link.available = available;
-    link
-}
-
-/// The flow of the link as it stands.
-pub(super) fn offer_body(windows: &Windows, link: &Link) -> Option<Performative>
-    ensures { result ≡ offer_body windows.now link.now }
-{
-    Some(Performative::Flow(link_flow(windows, link, flag(link.credit.is_draining()))))
-}
+use amqp_links::fate::Fate;
 
 impl Endpoint {
-    ghost use Rattle.amqp_endpoint.specs.Ready.{IsOffered};
-
     /// The first refusal that is due, or the link as it will be.
-    fn check_offer(&self, link: u32, available: u32) -> Result<Placed, Refusal>
-        ensures { MatchResult result (IsOffered self.now link available) (λ e. offer_answer self.now link available ≡ Err e) }
+    fn check_offer(&self, link: u32, available: u32) -> Result<OnLink, Refusal>
+        ensures { MatchResult result (IsTaken self.now link (λ l. attached_as Sender l []) (offered available)) (λ e. offer_answer self.now link available ≡ Err e) }
     {
-        let Some(found) = with_number(self.links.as_slice(), link) else {
+        if !self.session.is_mapped() {
+            return Err(Refusal::NotMapped);
+        }
+        let Some(found) = self.stores.links.by_number(link) else {
             return Err(Refusal::NoLink);
         };
-        let place = found.place;
-        let link = offered(found.link, available);
-        match sending_refusal(offer_body(&self.windows, &link), &[], self.max_frame) {
-            Some(refusal) => Err(refusal),
-            None => Ok(Placed { place, link }),
+        let l = found.link;
+        if !l.is_attached() {
+            return Err(Refusal::NotAttached);
         }
+        let mut marks = l.marks();
+        if marks.credit.sending().is_none() {
+            return Err(Refusal::WrongRole);
+        }
+        marks.available = available;
+        Ok(OnLink {
+            key: found.key,
+            handle: l.our_handle(),
+            marks,
+        })
     }
 
-    /// The refusal that the offer would meet, memory aside.
-    pub(super) fn offer_refusal(&self, link: u32, available: u32) -> Option<Refusal>
-        ensures { result ≡ result_err (offer_answer self.now link available) }
+    /// How many messages are available. O(log n) for n links.
+    pub(crate) fn plan_offer(&self, link: u32, available: u32) -> Result<Plan, Refusal>
+        ensures { Plans Refusal.NoMemory self.now (offer_answer self.now link available) (next_offer self.now link available) result }
     {
-        match self.check_offer(link, available) {
-            Ok(_) => None,
-            Err(refusal) => Some(refusal),
-        }
-    }
-
-    /// Tells how many messages are available.
-    pub(super) fn offer(&mut self, link: u32, available: u32) -> Result<(Reply, Reply), Refusal>
-        requires { self.old.steps < 2 ^ 30 }
-        ensures answer { Gives Refusal.NoMemory (offer_answer self.old link available) result }
-        ensures next { OnOk result (self.new ≡ next_offer self.old link available) }
-        ensures err { OnErr result (self.new ≡ self.old) }
-    {
-        let offered = self.check_offer(link, available)?;
-        let body = offer_body(&self.windows, &offered.link);
-        let Ok(both) = notice_twice(self.alloc, body, self.max_frame) else {
-            return Err(Refusal::NoMemory);
+        let on = self.check_offer(link, available)?;
+        let mut session = self.session;
+        let told = standing_flow(&session.windows, on.handle, &on.marks);
+        session.windows.renew();
+        let fate = Fate::Marked {
+            key: on.key,
+            number: link,
+            marks: on.marks,
         };
-        self.told_flow(offered);
-        Ok(both)
+        plan_sending(
+            session,
+            fate,
+            Change::Stay,
+            Some(Performative::Flow(told)),
+            Given::Nothing,
+        )
     }
 }

@@ -1,50 +1,43 @@
-ghost use Rattle.std.specs.Prelude.{◌≡◌, ◌<◌, ◌^◌, OnOk, OnErr};
-ghost use Rattle.std.specs.Result.{result_err};
-ghost use Rattle.amqp_endpoint.specs.Refresh.{refresh_body, refresh_answer, next_refresh};
-ghost use Rattle.amqp_endpoint.specs.Refusing.{Gives};
+//! Refresh: the peer is told our window anew, and may be asked to tell its own (part 2, 2.5.6).
+ghost use Rattle.std.specs.Prelude.{◌≡◌, Some};
+ghost use Rattle.amqp_rules.specs.Refresh.{next_refresh, refresh_answer, refresh_body};
+ghost use Rattle.amqp_endpoint.specs.Plan.{Plans};
 
 use crate::endpoint::Endpoint;
-use crate::endpoint::sending::{notice_twice, sending_refusal};
 use crate::endpoint::telling::{flag, session_flow};
+use crate::plan::{Plan, plan_sending};
 use crate::refusal::Refusal;
-use crate::reply::Reply;
+use crate::reply::Given;
+use amqp_deliveries::Change;
 use amqp_flow::windows::Windows;
 use amqp_frames::{FlowBody, Performative};
+use amqp_links::fate::Fate;
 
-/// The flow of the session, with the wish for one in return.
-fn refresh_body(windows: &Windows, echo: bool) -> Option<Performative>
-    ensures { result ≡ refresh_body windows.now echo }
+fn refresh_flow(windows: &Windows, echo: bool) -> FlowBody
+    ensures { Some (Performative.Flow result) ≡ refresh_body windows.now echo }
 {
-    Some(Performative::Flow(FlowBody {
-        echo: flag(echo),
-        ..session_flow(windows)
-    }))
+    let mut told = session_flow(windows);
+    told.echo = flag(echo);
+    told
 }
 
 impl Endpoint {
-    /// The refusal that it would meet, memory aside.
-    pub(super) fn refresh_refusal(&self, echo: bool) -> Option<Refusal>
-        ensures { result ≡ result_err (refresh_answer self.now echo) }
+    /// Tells the session's windows, and renews ours. O(1).
+    pub(crate) fn plan_refresh(&self, echo: bool) -> Result<Plan, Refusal>
+        ensures { Plans Refusal.NoMemory self.now (refresh_answer self.now echo) (next_refresh self.now) result }
     {
-        sending_refusal(refresh_body(&self.windows, echo), &[], self.max_frame)
-    }
-
-    /// Tells the window anew.
-    pub(super) fn refresh(&mut self, echo: bool) -> Result<(Reply, Reply), Refusal>
-        requires { self.old.steps < 2 ^ 30 }
-        ensures answer { Gives Refusal.NoMemory (refresh_answer self.old echo) result }
-        ensures next { OnOk result (self.new ≡ next_refresh self.old) }
-        ensures err { OnErr result (self.new ≡ self.old) }
-    {
-        if let Some(refusal) = self.refresh_refusal(echo) {
-            return Err(refusal);
+        if !self.session.is_mapped() {
+            return Err(Refusal::NotMapped);
         }
-        let body = refresh_body(&self.windows, echo);
-        let Ok(both) = notice_twice(self.alloc, body, self.max_frame) else {
-            return Err(Refusal::NoMemory);
-        };
-        self.steps += 1;
-        self.windows.renew();
-        Ok(both)
+        let mut session = self.session;
+        let told = refresh_flow(&session.windows, echo);
+        session.windows.renew();
+        plan_sending(
+            session,
+            Fate::Stay,
+            Change::Stay,
+            Some(Performative::Flow(told)),
+            Given::Nothing,
+        )
     }
 }

@@ -1,29 +1,52 @@
-ghost use Rattle.std.specs.Prelude.{◌≡◌, ◌<◌, ◌^◌, OnOk, OnErr, Err, MatchResult, MatchOption};
-ghost use Rattle.std.specs.Result.{result_err};
-ghost use Rattle.amqp_endpoint.specs.Start.{start_body, start_answer, next_start, begin_delivery};
-ghost use Rattle.amqp_endpoint.specs.Refusing.{Gives};
-ghost use Rattle.amqp_endpoint.specs.Sending.{frame_refused};
+//! Start: a delivery begins, with its first transfer.
+ghost use Rattle.std.specs.Prelude.{◌≡◌, ◌<◌, ◌+◌, ◌^◌, Err, ℕ, MatchResult, true, length, find};
+ghost use Rattle.amqp_flow.specs.Credit.{delivery_begun};
+ghost use Rattle.amqp_flow.specs.Windows.{windows_sent};
+ghost use Rattle.amqp_endpoint.specs.Plan.{Plans};
+ghost use Rattle.amqp_endpoint.specs.Starting.{change_begun, second_on};
+ghost use Rattle.amqp_endpoint.specs.Taking.{IsTaken};
+ghost use Rattle.std.specs.List.{list_any};
+ghost use Rattle.amqp_events.specs.Tags.{is_tagged};
+ghost use Rattle.amqp_links.specs.Credits.{credit_in, role_of};
+ghost use Rattle.amqp_links.specs.Marks.{with_marks};
+ghost use Rattle.amqp_rules.specs.Refusing.{first_refusal};
+ghost use Rattle.amqp_rules.specs.Start.{begin_delivery, mode_forbids, sending_after, start_body, start_refusals, start_answer, next_start};
+ghost use Rattle.amqp_rules.specs.View.{has_number, is_too_long, next_delivery, same_role};
 
 use crate::endpoint::Endpoint;
-use crate::endpoint::link::{Link, Placed, change_link, with_number};
-use crate::endpoint::sending::{reply_twice, sending_refusal};
+use crate::endpoint::onlink::OnLink;
+use crate::endpoint::telling::flag;
+use crate::plan::{Plan, Session, plan_carrying};
 use crate::refusal::Refusal;
-use crate::reply::{Given, Reply};
-use amqp_frames::{Performative, TransferBody};
+use crate::reply::Given;
+use amqp_deliveries::{Change, HeldItem, Tables};
+use amqp_flow::sender::SenderCredit;
+use amqp_frames::{Performative, Role, TransferBody};
+use amqp_links::credit::{Credit, same_role};
+use amqp_links::fate::Fate;
+use amqp_links::link::Link;
+use amqp_links::marks::{Marks, Sending};
 use amqp_types::Tag;
 use bytes::Bytes;
 
 /// The transfer on the link with this handle.
-fn start_body(handle: u32, id: u32, tag: Tag, format: u32) -> Option<Performative>
-    ensures { result ≡ start_body handle id tag format }
+fn start_body(
+    handle: u32,
+    id: u32,
+    tag: Tag,
+    format: u32,
+    settled: bool,
+    more: bool,
+) -> Option<Performative>
+    ensures { result ≡ start_body handle id tag format settled more }
 {
     Some(Performative::Transfer(TransferBody {
         handle,
         delivery_id: Some(id),
         delivery_tag: Some(tag),
         message_format: Some(format),
-        settled: Some(true),
-        more: None,
+        settled: flag(settled),
+        more: flag(more),
         rcv_settle_mode: None,
         state: None,
         resume: None,
@@ -32,102 +55,215 @@ fn start_body(handle: u32, id: u32, tag: Tag, format: u32) -> Option<Performativ
     }))
 }
 
-/// Why the transfer is not sent to a peer that takes frames of `max` octets, want of memory aside.
-fn transfer_refusal(
-    handle: u32,
-    id: u32,
-    tag: Tag,
-    format: u32,
-    payload: &Bytes,
-    max: u32,
-) -> Option<Refusal>
-    ensures { result ≡ frame_refused max (start_body handle id tag format) payload.now }
+/// The credit once a delivery has begun.
+fn begun(credit: SenderCredit) -> SenderCredit
+    ensures { 0 < credit.credit → result ≡ delivery_begun credit }
 {
-    sending_refusal(start_body(handle, id, tag, format), payload.as_slice(), max)
-}
-
-/// The link once a delivery has begun; none where it has no credit.
-fn begun(mut link: Link) -> Option<Link>
-    ensures { MatchOption result (link.credit.credit ≡ 0) (λ l. (0 < link.credit.credit) × (l ≡ begin_delivery link)) }
-{
-    match link.credit.begin() {
-        Ok(()) => Some(link),
-        Err(_) => None,
+    let mut begun = credit;
+    match begun.begin() {
+        Ok(()) => begun,
+        Err(_) => credit,
     }
 }
 
+fn credit_begun(credit: &Credit) -> Credit
+    ensures role { role_of result ≡ role_of credit.now }
+    ensures credit { same_role Role.Sender (role_of credit.now) ≡ true → 0 < (credit_in credit.now).credit → credit_in result ≡ delivery_begun (credit_in credit.now) }
+{
+    match credit {
+        Credit::Sending(credit) => Credit::Sending(begun(*credit)),
+        Credit::Receiving(credit) => Credit::Receiving(*credit),
+    }
+}
+
+/// The marks of a link once a delivery has begun.
+fn marks_begun(l: &Link, id: u32, size: u128, more: bool) -> Marks
+    ensures { same_role Role.Sender l.now.role ≡ true → 0 < l.now.credit.credit → with_marks result l.now ≡ begin_delivery id size more l.now }
+{
+    let mut marks = l.marks();
+    marks.credit = credit_begun(&marks.credit);
+    marks.sending = sending_after(more, id, size);
+    marks
+}
+
+/// The session once a transfer is sent that begins a delivery.
+fn started(mut session: Session) -> Session
+    requires window { 0 < session.windows.remote_incoming }
+    requires sent { session.windows.sent < 2 ^ 30 }
+    requires deliveries { session.deliveries < 2 ^ 30 }
+    ensures { result ≡ record session { windows = windows_sent session.windows; deliveries = session.deliveries + 1 } }
+{
+    session.windows.sent();
+    session.deliveries += 1;
+    session
+}
+
+/// The mode settled (1) takes settled deliveries alone, unsettled (0) none.
+fn mode_forbids(mode: u8, settled: bool) -> bool
+    ensures { result ≡ mode_forbids mode settled }
+{
+    if settled { mode == 0 } else { mode == 1 }
+}
+
+/// A message of this length is longer than an end takes; 0 is no limit.
+pub(crate) fn is_too_long(max: u64, size: u128) -> bool
+    ensures { result ≡ is_too_long max size }
+{
+    0 < max && (max as u128) < size
+}
+
+/// Unfinished while more is to come.
+pub(crate) fn sending_after(more: bool, id: u32, size: u128) -> Option<Sending>
+    ensures { result ≡ sending_after more id size }
+{
+    match more {
+        true => Some(Sending { id, size }),
+        false => None,
+    }
+}
+
+/// What becomes of the unsettled deliveries: one more, unless it is sent settled.
+fn change_begun(settled: bool, item: HeldItem) -> Change
+    ensures { result ≡ change_begun settled item }
+{
+    match settled {
+        true => {
+            drop(item);
+            Change::Stay
+        }
+        false => Change::Begins(Role::Sender, item),
+    }
+}
+
+/// An unsettled delivery that we sent on the link has the tag.
+fn holds_tag(tables: &Tables, link: u32, tag: &Tag) -> bool
+    ensures { result ≡ list_any (λ s. is_tagged link tag.now s.item) tables.now.sent }
+{
+    tables.has_tag(Role::Sender, link, tag)
+}
+
 impl Endpoint {
-    ghost use Rattle.amqp_endpoint.specs.Ready.{IsStarted};
+    /// The refusal that a delivery meets on this link.
+    fn start_refusal(&self, l: &Link, tag: &Tag, settled: bool, payload: &Bytes) -> Option<Refusal>
+        ensures { result ≡ first_refusal (start_refusals self.now l.now tag.now settled payload.now) }
+    {
+        if !l.is_attached() {
+            return Some(Refusal::NotAttached);
+        }
+        if !same_role(Role::Sender, l.role()) {
+            return Some(Refusal::WrongRole);
+        }
+        if l.sending().is_some() {
+            return Some(Refusal::InDelivery);
+        }
+        if holds_tag(&self.stores.tables, l.number(), tag) {
+            return Some(Refusal::TagHeld);
+        }
+        if mode_forbids(l.snd_mode(), settled) {
+            return Some(Refusal::SettleMode);
+        }
+        if l.credit() == 0 {
+            return Some(Refusal::NoCredit);
+        }
+        if self.session.windows.remote_incoming() == 0 {
+            return Some(Refusal::NoWindow);
+        }
+        if is_too_long(l.longest_theirs(), size_of(payload)) {
+            return Some(Refusal::MessageTooLong);
+        }
+        None
+    }
 
     /// The first refusal that is due, or the link as it will be.
     fn check_start(
         &self,
         link: u32,
-        tag: Tag,
-        format: u32,
+        tag: &Tag,
+        settled: bool,
         payload: &Bytes,
-    ) -> Result<Placed, Refusal>
-        ensures { MatchResult result (IsStarted self.now link tag format payload.now) (λ e. start_answer self.now link tag format payload.now ≡ Err e) }
+        more: bool,
+    ) -> Result<OnLink, Refusal>
+        ensures { MatchResult result (IsTaken self.now link (λ l. start_refusals self.now l tag.now settled payload.now) (begin_delivery (next_delivery self.now) (length payload.now) more)) (λ e. (format : ℕ) → start_answer self.now link tag.now format settled payload.now more ≡ Err e) }
     {
-        let Some(found) = with_number(self.links.as_slice(), link) else {
+        if !self.session.is_mapped() {
+            return Err(Refusal::NotMapped);
+        }
+        let Some(found) = self.stores.links.by_number(link) else {
             return Err(Refusal::NoLink);
         };
-        let Some(begun) = begun(found.link) else {
-            return Err(Refusal::NoCredit);
-        };
-        if self.windows.remote_incoming() == 0 {
-            return Err(Refusal::NoWindow);
+        let l = found.link;
+        if let Some(refusal) = self.start_refusal(l, tag, settled, payload) {
+            return Err(refusal);
         }
-        let id = self.next_delivery();
-        match transfer_refusal(begun.handle, id, tag, format, payload, self.max_frame) {
-            Some(refusal) => Err(refusal),
-            None => Ok(Placed {
-                place: found.place,
-                link: begun,
-            }),
+        let id = self.session.next_delivery();
+        Ok(OnLink {
+            key: found.key,
+            handle: l.our_handle(),
+            marks: marks_begun(l, id, size_of(payload), more),
+        })
+    }
+}
+
+/// How long the payload is, in octets.
+pub(crate) fn size_of(payload: &Bytes) -> u128
+    ensures size { result ≡ length payload.now }
+    ensures fits { result < 2 ^ 64 }
+{
+    payload.len() as u128
+}
+
+impl Endpoint {
+    /// The receiver settles second on the link (part 2, 2.8.3).
+    fn is_second(&self, link: u32) -> bool
+        ensures { result ≡ second_on (find (has_number link) self.now.links) }
+    {
+        match self.stores.links.by_number(link) {
+            Some(found) => found.link.rcv_mode() == 1,
+            None => false,
         }
     }
 
-    /// The refusal that the start would meet, memory aside.
-    pub(super) fn start_refusal(
+    /// A delivery and its first transfer. O(log n) for n links.
+    pub(crate) fn plan_start(
         &self,
         link: u32,
         tag: Tag,
         format: u32,
+        settled: bool,
         payload: &Bytes,
-    ) -> Option<Refusal>
-        ensures { result ≡ result_err (start_answer self.now link tag format payload.now) }
+        more: bool,
+    ) -> Result<Plan, Refusal>
+        requires { self.now.steps < 2 ^ 30 }
+        ensures { Plans Refusal.NoMemory self.now (start_answer self.now link tag format settled payload.now more) (next_start self.now link tag format settled payload.now more) result }
     {
-        match self.check_start(link, tag, format, payload) {
-            Ok(_) => None,
-            Err(refusal) => Some(refusal),
-        }
-    }
-
-    /// A settled delivery in one transfer.
-    pub(super) fn start(
-        &mut self,
-        link: u32,
-        tag: Tag,
-        format: u32,
-        payload: &Bytes,
-    ) -> Result<(Reply, Reply), Refusal>
-        requires { self.old.steps < 2 ^ 30 }
-        ensures answer { Gives Refusal.NoMemory (start_answer self.old link tag format payload.now) result }
-        ensures next { OnOk result (self.new ≡ next_start self.old link) }
-        ensures err { OnErr result (self.new ≡ self.old) }
-    {
-        let begun = self.check_start(link, tag, format, payload)?;
-        let id = self.next_delivery();
-        let body = start_body(begun.link.handle, id, tag, format);
-        let given = Given::Delivery(id);
-        let Ok(both) = reply_twice(self.alloc, body, payload, self.max_frame, given) else {
-            return Err(Refusal::NoMemory);
+        let on = match self.check_start(link, &tag, settled, payload, more) {
+            Ok(on) => on,
+            Err(refusal) => return Err(refusal),
         };
-        self.steps += 1;
-        self.windows.sent();
-        self.deliveries += 1;
-        change_link(self.links.as_mut_slice(), begun);
-        Ok(both)
+        let _size = size_of(payload);
+        let id = self.session.next_delivery();
+        let item = HeldItem {
+            id,
+            link,
+            tag,
+            second: self.is_second(link),
+            local: None,
+            remote: None,
+        };
+        let body = start_body(on.handle, id, tag, format, settled, more);
+        let session = started(self.session);
+        let fate = Fate::Marked {
+            key: on.key,
+            number: link,
+            marks: on.marks,
+        };
+        plan_carrying(
+            session,
+            fate,
+            change_begun(settled, item),
+            body,
+            payload,
+            Given::Delivery(id),
+        )
     }
 }

@@ -1,0 +1,75 @@
+-- The plan of an attach of the peer's that answers ours.
+use Rattle.std.proofs.Common.{◌≡◌, ℕ, ◌+◌, ◌≤◌, not, Bool, true, false, cond, Option, Some, None, Ok, List, [], ◌∷◌, refl, ap, sym, subst, find, is_some, is_none}
+use Rattle.std.specs.Prelude.{◌&&◌}
+use Rattle.amqp_performatives.specs.declared.bodies.AttachBody.{AttachBody}
+use Rattle.amqp_deliveries.specs.declared.change.Change.TheVariants as change
+use Rattle.amqp_flow.specs.Credit.{count_given}
+use Rattle.amqp_links.specs.declared.credit.Credit.{Credit}
+use Rattle.amqp_links.specs.declared.marks.Marks.{Marks}
+use Rattle.amqp_links.specs.declared.fate.Fate.TheVariants.{Theirs}
+use Rattle.amqp_links.specs.Credits.{role_of, credit_in}
+use Rattle.amqp_links.specs.Fate.{with_theirs}
+use Rattle.amqp_links.specs.Links.{IsFirst}
+use Rattle.amqp_links.specs.Marks.{IsMarksOf}
+use Rattle.amqp_rules.specs.declared.reply.Given.TheVariants.{Attached}
+use Rattle.amqp_rules.specs.declared.violation.Violation.{Violation}
+use Rattle.amqp_rules.specs.declared.violation.ViolationKind.TheVariants.{OutOfSession, HandleTaken, NameTaken, MissingField}
+use Rattle.amqp_rules.specs.View.{LinkView, EndView, SendingView, opposite, has_number, has_peer_handle, is_asked_as, is_theirs, takes_frames, is_sender}
+use Rattle.amqp_rules.specs.Carry.{size_so_far}
+use Rattle.amqp_rules.specs.Refusing.{first_refusal, unlinked}
+use Rattle.amqp_rules.specs.Attach.{attached_by_peer, count_of, end_of}
+use Rattle.amqp_rules.specs.PeerAttach.{lacks_count, attach_heard_answer, attach_violations, next_attach_heard}
+use Rattle.amqp_endpoint.specs.declared.plan.Session.{Session}
+use Rattle.amqp_endpoint.specs.declared.plan.Plan.{Plan}
+use Rattle.amqp_endpoint.specs.declared.endpoint.peer_attach.Answered.{Answered}
+use Rattle.amqp_endpoint.specs.Answered.{IsAnswered}
+use Rattle.amqp_endpoint.specs.Stores.{StoresView}
+use Rattle.amqp_endpoint.specs.Plan.{IsKept, IsPlan, IsShort, flags_of, quiet_plan, view_of}
+use Rattle.amqp_endpoint.proofs.Plans.{change-alike, counted-still, short-found, shorter}
+
+none-at : (o : Option LinkView) (a c d : Bool) (x y z w : Violation) → first_refusal ((a, x) ∷ (is_some o, y) ∷ (c, z) ∷ (d, w) ∷ []) ≡ None → o ≡ None
+none-at None a c d x y z w h = refl
+none-at (Some l) true c d x y z w h = absurd (cc)
+none-at (Some l) false c d x y z w h = absurd (cc)
+
+asked-free : (named ours : Bool) (o : Option EndView) → (named && (ours && is_none o)) ≡ true → o ≡ None
+asked-free true true None h = refl
+asked-free true true (Some e) h = absurd (cc)
+asked-free true false o h = absurd (cc)
+asked-free false ours o h = absurd (cc)
+
+only : (x y : LinkView) (o : Option LinkView) → o ≡ Some x → o ≡ Some y → x ≡ y
+only x y o h k = cc
+
+pub marks-after : (b : AttachBody) (l : LinkView) (m : Marks) (c : Credit) → IsMarksOf l m → role_of c ≡ role_of m.credit
+    → credit_in c ≡ cond (is_sender (role_of m.credit)) (credit_in m.credit) (count_given (count_of b) (credit_in m.credit))
+    → with_theirs (end_of b) (record m { credit = c }) l ≡ attached_by_peer b l
+marks-after b l m c i r e = rw (r, e, i.role, i.credit, i.left, i.available, i.sending) refl
+
+pub answering-plan : (steps : ℕ) (s : Session) (st : StoresView) (b : AttachBody) (a : Answered) (p : Plan)
+    → first_refusal (attach_violations (view_of steps s st) b) ≡ None
+    → IsAnswered (view_of steps s st) b a
+    → IsKept steps s st
+    → p ≡ quiet_plan s (Theirs a.key a.number (end_of b) a.marks) change.Stay (Attached a.number)
+    → IsPlan {E = Violation} (view_of steps s st) (attach_heard_answer (view_of steps s st) b) (next_attach_heard (view_of steps s st) b) p
+answering-plan steps s st b a p none answered k is =
+    let l : LinkView = answered.on in
+    let first : IsFirst (is_asked_as (opposite b.role) b.name) st.links.list l = answered.first in
+    let m : with_theirs (end_of b) a.marks l ≡ attached_by_peer b l = answered.marks in
+    let sends : a.marks.sending ≡ l.sending = ap (λ (x : LinkView). x.sending) m in
+    let short : IsShort steps l.sending = short-found steps (is_asked_as (opposite b.role) b.name) st.links.list l k.short first.found in
+    rw (is, answered.number)
+    record {
+      due = rw (none, first.found) refl;
+      leaves = rw (first.found, first.alone (attached_by_peer b), change-alike (has_number l.number) (attached_by_peer b) (with_theirs (end_of b) a.marks) st.links.list l first.numbered (rw m refl)) refl;
+      sound = record {
+        fit = (
+          none-at (find (has_peer_handle b.handle) st.links.list) (not (takes_frames (flags_of s))) (is_some (find (is_theirs (opposite b.role) b.name) st.links.list)) (lacks_count b) (unlinked OutOfSession) (unlinked HandleTaken) (unlinked NameTaken) (unlinked MissingField) none,
+          λ j e. (let q : l ≡ j = only l j (find (has_number l.number) st.links.list) first.numbered e in rw (← q) (asked-free _ _ l.theirs first.passes)),
+        );
+        short = subst (λ (x : Option SendingView). IsShort (steps + 1) x) (sym sends) (shorter steps (size_so_far l.sending) short);
+        counted = counted-still steps s s st change.Stay tt k refl refl refl refl;
+        alone = tt;
+        written = tt;
+      };
+    }

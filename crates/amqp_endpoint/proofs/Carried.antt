@@ -1,0 +1,121 @@
+-- A further transfer of ours, and a delivery that is given up.
+use Rattle.std.proofs.Common.{◌≡◌, ◌<◌, ◌≤◌, ℕ, ◌+◌, ◌*◌, ◌^◌, Bool, true, false, cond, Option, Some, None, Result, Ok, Err, List, [], ◌∷◌, refl, ap, sym, find, MatchResult, ⊎_elim, inl, inr, ◌⊎◌, arith, subst, ◌∙◌}
+use Rattle.amqp_performatives.specs.declared.performative.Performative.{Performative}
+use Rattle.amqp_performatives.specs.declared.bodies.Role.TheVariants.{Sender}
+use Rattle.amqp_flow.specs.Windows.{windows_sent}
+use Rattle.amqp_links.specs.declared.fate.Fate.TheVariants.{Marked}
+use Rattle.amqp_links.specs.Marks.{with_marks}
+use Rattle.amqp_rules.specs.declared.reply.Given.{Given}
+use Rattle.amqp_rules.specs.declared.reply.Given.TheVariants.{Nothing}
+use Rattle.amqp_rules.specs.declared.refusal.Refusal.{Refusal}
+use Rattle.amqp_rules.specs.declared.refusal.Refusal.TheVariants.{NoMemory}
+use Rattle.amqp_rules.specs.Abort.{abort_answer, abort_refusals, aborted, next_abort}
+use Rattle.amqp_rules.specs.Carry.{size_so_far, carried, later_body}
+use Rattle.amqp_rules.specs.View.{View, LinkView, SendingView, has_number, handle_of, change_first}
+use Rattle.amqp_rules.specs.OnLink.{on_link}
+use Rattle.amqp_rules.specs.Refusing.{first_refusal}
+use Rattle.amqp_rules.specs.Sending.{sends, frame_refused}
+use Rattle.amqp_endpoint.specs.declared.endpoint.abort.Aborted.{Aborted}
+use Rattle.amqp_endpoint.specs.declared.endpoint.onlink.OnLink.{OnLink}
+use Rattle.amqp_endpoint.specs.declared.plan.Plan.{Plan}
+use Rattle.amqp_endpoint.specs.declared.plan.Session.{Session}
+use Rattle.amqp_deliveries.specs.declared.change.Change.{Change}
+use Rattle.amqp_deliveries.specs.declared.change.Change.TheVariants.{Stay, Continues}
+use Rattle.amqp_endpoint.specs.Aborting.{IsAborted}
+use Rattle.amqp_endpoint.specs.Stores.{StoresView}
+use Rattle.amqp_endpoint.specs.Plan.{IsBegun, IsCounted, IsExpectedNext, IsKept, IsShort, AreShortOn, Plans, links_in, stores_in, view_of, next_id, sending_plan}
+use Rattle.amqp_endpoint.specs.Taking.{IsTaken}
+use Rattle.amqp_endpoint.proofs.Plans.{change-alike, short-found}
+
+same-link : {x y : LinkView} → ◌≡◌ {A = Option LinkView} (Some x) (Some y) → x ≡ y
+same-link h = cc
+
+-- # Lengths
+
+-- what is unfinished on the link that was found
+pub found_short : (steps : ℕ) (link : ℕ) (links : List LinkView) (l : LinkView) (d : SendingView) → AreShortOn steps links → Some l ≡ find (has_number link) links → Some d ≡ l.sending → d.size ≤ steps * 2 ^ 64
+found_short steps link links l d short found is =
+    let s : IsShort steps l.sending = short-found steps (has_number link) links l short (sym found) in
+    subst (λ (x : Option SendingView). size_so_far x ≤ steps * 2 ^ 64) (sym is) s
+
+pub carried_short : (steps n : ℕ) (more : Bool) (d : SendingView) → d.size ≤ steps * 2 ^ 64 → n < 2 ^ 64 → IsShort (steps + 1) (carried n more (Some d))
+carried_short steps n true d h k = let e : d.size + n ≤ (steps + 1) * 2 ^ 64 = omega (arith, h, k) in e
+carried_short steps n false d h k = let e : 0 ≤ (steps + 1) * 2 ^ 64 = omega arith in e
+
+-- # Counts
+
+still-expected : (e : Option ℕ) → IsExpectedNext e e
+still-expected None = tt
+still-expected (Some n) = inl refl
+
+-- one transfer more is sent, and nothing begins
+pub counted_sent : (steps : ℕ) (s : Session) (st : StoresView) (change : Change) → IsBegun (view_of steps s st) change (record s { windows = windows_sent s.windows }) → IsKept steps s st
+    → IsCounted (view_of steps s st) change (record s { windows = windows_sent s.windows })
+counted_sent steps s st change begins k =
+    let few : s.windows.sent ≤ steps = k.sent in
+    let begun : s.deliveries ≤ steps = k.deliveries in
+    record {
+      sent = omega (arith, few);
+      deliveries = omega (arith, begun);
+      ours = inl refl;
+      theirs = still-expected s.expected;
+      begun = begins;
+    }
+
+-- # Plans
+
+-- an operation of a link that is taken is planned, and sends a frame with the payload
+pub plan_carried : (v : View) (link key : ℕ) (rows : LinkView → List (Bool × Refusal)) (change : LinkView → LinkView) (o : OnLink) (session : Session)
+    (body : LinkView → Option Performative) (said : Option Performative) (payload : List ℕ) (given : Given) (r : Result Plan Refusal)
+    → IsTaken v link rows change o → session.max_frame ≡ v.max_frame
+    → ((l : LinkView) → o.handle ≡ handle_of l.ours → said ≡ body l)
+    → IsCounted v Stay session
+    → IsShort (v.steps + 1) o.marks.sending
+    → MatchResult r
+    (λ p. (frame_refused session.max_frame said payload ≡ None) × (p ≡ sending_plan session (Marked key link o.marks) Stay said payload given))
+    (λ e. (frame_refused session.max_frame said payload ≡ Some e) ⊎ ((frame_refused session.max_frame said payload ≡ None) × (e ≡ NoMemory)))
+    → Plans NoMemory v (on_link v link (λ l. sends v.max_frame (rows l) (body l) payload given))
+    (view_of (v.steps + 1) session (record (stores_in v) { links = record (links_in v) { list = change_first (has_number link) change v.links } })) r
+plan_carried v link key rows change o session body said payload given (Err e) t m b c short r =
+    let s : said ≡ body t.on = b t.on t.handle in
+    ⊎_elim
+    (λ f. let q : frame_refused v.max_frame (body t.on) payload ≡ Some e = rw (← m, ← s) f in inl (rw (t.mapped, t.found, t.free, q) refl))
+    (λ f. let q : frame_refused v.max_frame (body t.on) payload ≡ None = rw (← m, ← s) f.0 in inr (rw (t.mapped, t.found, t.free, q) refl, f.1))
+    r
+plan_carried v link key rows change o session body said payload given (Ok p) t m b c short r =
+    let s : said ≡ body t.on = b t.on t.handle in
+    let q : frame_refused v.max_frame (body t.on) payload ≡ None = rw (← m, ← s) r.0 in
+    let w : frame_refused v.max_frame said payload ≡ None = rw (← m) r.0 in
+    rw r.1
+    record {
+      due = rw (t.mapped, t.found, t.free, q, s) refl;
+      leaves = rw (change-alike (has_number link) change (with_marks o.marks) v.links t.on t.found (rw t.marks refl)) refl;
+      sound = record { fit = tt; short = short; counted = c; alone = tt; written = w };
+    }
+
+-- a delivery is given up
+pub plan_aborted : (steps : ℕ) (s : Session) (st : StoresView) (link : ℕ) (a : Aborted) (said : Option Performative) (r : Result Plan Refusal) → IsKept steps s st
+    → IsAborted (view_of steps s st) link a → said ≡ later_body a.on.handle None (Some true)
+    → MatchResult r
+    (λ p. (frame_refused s.max_frame said [] ≡ None) × (p ≡ sending_plan (record s { windows = windows_sent s.windows }) (Marked a.on.key link a.on.marks) (Continues Sender a.id None true) said [] Nothing))
+    (λ e. frame_refused s.max_frame said [] ≡ Some e)
+    → Plans NoMemory (view_of steps s st) (abort_answer (view_of steps s st) link) (next_abort (view_of steps s st) link) r
+plan_aborted steps s st link a said (Err e) k t b r =
+    let q : frame_refused s.max_frame (later_body (handle_of t.taken.on.ours) None (Some true)) [] ≡ Some e = rw (← t.taken.handle, ← b) r in
+    inl (rw (t.taken.mapped, t.taken.found, t.taken.free, q) refl)
+plan_aborted steps s st link a said (Ok p) k t b r =
+    let q : frame_refused s.max_frame (later_body (handle_of t.taken.on.ours) None (Some true)) [] ≡ None = rw (← t.taken.handle, ← b) r.0 in
+    let h : said ≡ later_body (handle_of t.taken.on.ours) None (Some true) = b ∙ ap (λ n. later_body n None (Some true)) t.taken.handle in
+    let gone : a.on.marks.sending ≡ None = ap (λ l. l.sending) t.taken.marks in
+    rw r.1
+    record {
+      due = rw (t.taken.mapped, t.taken.found, t.taken.free, q, h, t.unfinished) refl;
+      leaves = rw (change-alike (has_number link) aborted (with_marks a.on.marks) st.links.list t.taken.on t.taken.found (rw t.taken.marks refl), t.taken.found, t.unfinished) refl;
+      sound = record {
+        fit = tt;
+        short = subst (λ (x : Option SendingView). IsShort (steps + 1) x) (sym gone) (let e : 0 ≤ (steps + 1) * 2 ^ 64 = omega arith in e);
+        counted = counted_sent steps s st (Continues Sender a.id None true) tt k;
+        alone = tt;
+        written = r.0;
+      };
+    }

@@ -1,0 +1,128 @@
+-- Dispose: what the deliveries of a table refuse, and the plan.
+use Rattle.std.proofs.Common.{◌≡◌, ◌<◌, ◌≤◌, ◌-◌, ◌∙◌, ℕ, Bool, true, false, not, ◌&&◌, ◌||◌, Option, Some, None, Result, Ok, Err, List, [], ◌∷◌, length, take, drop, filter, refl, sym, ap, subst, arith, inl, inr, ◌⊎◌, ⊎_elim}
+use Rattle.std.specs.Prelude.{IsOk, IsTrue, ◌↔◌}
+use Rattle.std.specs.List.{list_any, between}
+use Rattle.std.proofs.lemmas.Bool.{cases_lt}
+use Rattle.std.proofs.lemmas.List.Edits.{length-between}
+use Rattle.amqp_performatives.specs.declared.state.DeliveryState.{DeliveryState}
+use Rattle.amqp_performatives.specs.declared.bodies.Role.{Role}
+use Rattle.amqp_performatives.specs.declared.bodies.Role.TheVariants.{Sender, Receiver}
+use Rattle.amqp_events.specs.Event.{Item, Disposition}
+use Rattle.amqp_events.specs.States as states
+use Rattle.amqp_events.specs.Table.{in_range}
+use Rattle.amqp_events.specs.Told.{SentItem}
+use Rattle.amqp_events.specs.Unsettled.{covers}
+use Rattle.amqp_deliveries.specs.declared.change.Change.TheVariants.{Says}
+use Rattle.amqp_deliveries.specs.declared.run.Run.{Run}
+use Rattle.amqp_deliveries.specs.Change.{held_items}
+use Rattle.amqp_deliveries.specs.Dispose as tables
+use Rattle.amqp_deliveries.specs.Held.{items_of}
+use Rattle.amqp_deliveries.specs.Run.{IsRun, part}
+use Rattle.amqp_deliveries.proofs.Items.{any_item, filter_item}
+use Rattle.amqp_links.specs.declared.fate.Fate.TheVariants as fate
+use Rattle.amqp_rules.specs.declared.refusal.Refusal.{Refusal}
+use Rattle.amqp_rules.specs.declared.reply.Given.TheVariants.{Nothing}
+use Rattle.amqp_rules.specs.Dispose.{dispose_answer, dispose_body, dispose_refusals, held_as, is_backwards, is_empty, next_dispose, waits_for_sender}
+use Rattle.amqp_rules.specs.Refusing.{first_refusal}
+use Rattle.amqp_rules.specs.Sending.{frame_refused}
+use Rattle.amqp_rules.specs.View.{View, is_mapped}
+use Rattle.amqp_endpoint.specs.declared.plan.Session.{Session}
+use Rattle.amqp_endpoint.specs.Disposing.{held_refusals}
+use Rattle.amqp_endpoint.specs.Stores.{StoresView}
+use Rattle.amqp_endpoint.specs.Plan.{IsPlan, IsKept, tables_in, view_of, sending_plan}
+use Rattle.amqp_endpoint.proofs.Plans.{counted-still}
+
+-- # Those that a disposition speaks of stand at the places of a run
+
+spoken : (d : Disposition) (items : List SentItem) (run : Run) → IsRun d.first d.last items run → items_of (part run items) ≡ filter (covers d) (items_of items)
+spoken d items run r = ap items_of r.inside ∙ sym (filter_item (in_range d.first d.last) items)
+
+some-there : (xs : List SentItem) → 0 < length xs → is_empty (items_of xs) ≡ false
+some-there [] h = absurd (omega arith)
+some-there (x ∷ xs) h = refl
+
+no-place : (items : List SentItem) (run : Run) → run.end ≤ run.start → is_empty (items_of (part run items)) ≡ true
+no-place items run h =
+    let none : run.end - run.start ≡ 0 = omega arith in
+    ap (λ n. is_empty (items_of (take n (drop run.start items)))) none
+
+not-true : (b : Bool) → (b ≡ true → ⊥) → b ≡ false
+not-true true h = absurd (h refl)
+not-true false h = refl
+
+pub none_spoken : (d : Disposition) (items : List SentItem) (run : Run) (b : Bool) → IsRun d.first d.last items run → (IsTrue b ↔ (run.end ≤ run.start)) → b ≡ is_empty (filter (covers d) (items_of items))
+none_spoken d items run b r e =
+    let long = length-between items run.start run.end r.places.within in
+    ⊎_elim
+    (λ l. let some : 0 < length (part run items) = omega arith in not-true b (λ t. let k : run.end ≤ run.start = e.0 t in absurd (omega (arith, k, l))) ∙ sym (some-there (part run items) some))
+    (λ l. e.1 l ∙ sym (no-place items run l))
+    (cases_lt run.start run.end)
+    ∙ ap is_empty (spoken d items run r)
+
+none-waits : (xs : List Item) → false ≡ list_any (waits_for_sender Sender) xs
+none-waits [] = refl
+none-waits (x ∷ xs) = none-waits xs
+
+pub sender_waits : (d : Disposition) (items : List SentItem) → false ≡ list_any (waits_for_sender Sender) (filter (covers d) (items_of items))
+sender_waits d items = none-waits (filter (covers d) (items_of items))
+
+pub receiver_waits : (d : Disposition) (items : List SentItem) (run : Run) (b : Bool) → IsRun d.first d.last items run → b ≡ tables.any_second (part run items)
+    → b ≡ list_any (waits_for_sender Receiver) (filter (covers d) (items_of items))
+receiver_waits d items run b r e = e ∙ sym (any_item (waits_for_sender Receiver) (part run items)) ∙ ap (list_any (waits_for_sender Receiver)) (spoken d items run r)
+
+same-fixed : (state local : Option DeliveryState) (i : Item) → tables.is_fixed state (record i { local = local }) ≡ states.is_fixed state (record i { local = local })
+same-fixed None local i = refl
+same-fixed (Some state) None i = refl
+same-fixed (Some state) (Some given) i = refl
+
+fixed-same : (state : Option DeliveryState) (xs : List SentItem) → tables.any_fixed state xs ≡ list_any (states.is_fixed state) (items_of xs)
+fixed-same state [] = refl
+fixed-same state (x ∷ xs) = λ i. same-fixed state x.item.local x.item i || fixed-same state xs i
+
+pub any_fixed_of : (d : Disposition) (items : List SentItem) (run : Run) (b : Bool) → IsRun d.first d.last items run → b ≡ tables.any_fixed d.state (part run items)
+    → b ≡ list_any (states.is_fixed d.state) (filter (covers d) (items_of items))
+any_fixed_of d items run b r e = e ∙ fixed-same d.state (part run items) ∙ ap (list_any (states.is_fixed d.state)) (spoken d items run r)
+
+-- # The refusals
+
+same-held : (v : View) (role : Role) → held_items role (tables_in v) ≡ held_as v role
+same-held v Sender = refl
+same-held v Receiver = refl
+
+pub held_refused : (v : View) (role : Role) (d : Disposition) (items : List Item) (r : Option Refusal) → items ≡ held_items role (tables_in v) → r ≡ first_refusal (held_refusals role d items)
+    → first_refusal (held_refusals role d (held_as v role)) ≡ r
+held_refused v role d items r same e = sym (e ∙ ap (λ xs. first_refusal (held_refusals role d xs)) (same ∙ same-held v role))
+
+pub refused_held : (v : View) (role : Role) (d : Disposition) (e : Refusal) → is_mapped v.session ≡ true → is_backwards d.first d.last ≡ false → first_refusal (held_refusals role d (held_as v role)) ≡ Some e
+    → dispose_answer v role d ≡ Err e
+refused_held v role d e mapped back h = rw (mapped, back, h) refl
+
+pub free_rows : (v : View) (role : Role) (d : Disposition) → is_mapped v.session ≡ true → is_backwards d.first d.last ≡ false → first_refusal (held_refusals role d (held_as v role)) ≡ None
+    → first_refusal (dispose_refusals v role d) ≡ None
+free_rows v role d mapped back h = rw (mapped, back, h) refl
+
+pub refused_frame : (v : View) (role : Role) (d : Disposition) (e : Refusal) → first_refusal (dispose_refusals v role d) ≡ None → frame_refused v.max_frame (dispose_body role d) [] ≡ Some e → dispose_answer v role d ≡ Err e
+refused_frame v role d e free h = rw (free, h) refl
+
+pub due : (v : View) (role : Role) (d : Disposition) → first_refusal (dispose_refusals v role d) ≡ None → frame_refused v.max_frame (dispose_body role d) [] ≡ None → IsOk (dispose_answer v role d)
+due v role d free written = rw (free, written) refl
+
+-- # The plan
+
+pub plan_said : (steps : ℕ) (s : Session) (st : StoresView) (role : Role) (d sent kept : Disposition) → IsKept steps s st → first_refusal (dispose_refusals (view_of steps s st) role d) ≡ None
+    → frame_refused s.max_frame (dispose_body role d) [] ≡ None → sent ≡ d → kept ≡ d
+    → IsPlan (view_of steps s st) (dispose_answer (view_of steps s st) role d) (next_dispose (view_of steps s st) role d) (sending_plan s fate.Stay (Says role kept) (dispose_body role sent) [] Nothing)
+plan_said steps s st Sender d sent kept k free written e f =
+    rw (e, f)
+    record {
+      due = rw (free, written) refl;
+      leaves = refl;
+      sound = record { fit = tt; short = tt; counted = counted-still steps s s st (Says Sender d) tt k refl refl refl refl; alone = refl; written = written };
+    }
+plan_said steps s st Receiver d sent kept k free written e f =
+    rw (e, f)
+    record {
+      due = rw (free, written) refl;
+      leaves = refl;
+      sound = record { fit = tt; short = tt; counted = counted-still steps s s st (Says Receiver d) tt k refl refl refl refl; alone = refl; written = written };
+    }

@@ -1,0 +1,70 @@
+-- A link that we leave, and one that the peer leaves.
+use Rattle.std.proofs.Common.{◌≡◌, ℕ, ◌+◌, Bool, true, false, Option, Some, None, Result, Ok, Err, [], refl, ap, sym, ◌∙◌, find, inl, inr, MatchResult}
+use Rattle.std.specs.Prelude.{IsOk}
+use Rattle.amqp_performatives.specs.declared.bodies.DetachBody.{DetachBody}
+use Rattle.amqp_performatives.specs.declared.error.AmqpError.{AmqpError}
+use Rattle.amqp_performatives.specs.declared.performative.Performative.{Performative}
+use Rattle.amqp_performatives.specs.declared.performative.Performative.TheVariants.{Detach}
+use Rattle.amqp_links.specs.declared.fate.Fate.TheVariants as fate
+use Rattle.amqp_rules.specs.declared.reply.Given.TheVariants as given
+use Rattle.amqp_rules.specs.declared.violation.Violation.{Violation}
+use Rattle.amqp_rules.specs.View.{View, LinkView, takes_frames, is_attached, has_peer_handle, handle_of}
+use Rattle.amqp_rules.specs.Detach.{detach_answer, detach_body, next_detach}
+use Rattle.amqp_rules.specs.PeerDetach.{detach_heard_answer, next_detach_heard}
+use Rattle.amqp_rules.specs.Refusing.{no_memory}
+use Rattle.amqp_rules.specs.Sending.{frame_of, frame_refused}
+use Rattle.amqp_endpoint.specs.declared.endpoint.detach.Leaving.{Leaving}
+use Rattle.amqp_endpoint.specs.declared.plan.Plan.{Plan}
+use Rattle.amqp_endpoint.specs.declared.plan.Session.{Session}
+use Rattle.amqp_deliveries.specs.declared.change.Change.TheVariants.{Leaves}
+use Rattle.amqp_endpoint.specs.Leaving.{IsLeft}
+use Rattle.amqp_endpoint.specs.Parting.{IsParting}
+use Rattle.amqp_endpoint.specs.declared.endpoint.peer_detach.Parting.{Parting}
+use Rattle.amqp_endpoint.specs.Stores.{StoresView}
+use Rattle.amqp_endpoint.specs.Plan.{IsPlan, IsKept, Plans, view_of, flags_of, quiet_plan, sending_plan}
+use Rattle.amqp_endpoint.proofs.Plans.{counted-still}
+
+abbrev left_plan : Session → Leaving → ℕ → Option AmqpError → Plan
+left_plan s w link error = sending_plan s (fate.Left w.key link) (Leaves link) (detach_body w.handle (Some true) error) [] given.Nothing
+
+pub plan-left : (steps : ℕ) (s : Session) (st : StoresView) (link : ℕ) (error copy : Option AmqpError) (w : Leaving) → IsKept steps s st → IsLeft (view_of steps s st) link error w → copy ≡ error
+    → IsPlan (view_of steps s st) (detach_answer (view_of steps s st) link error) (next_detach (view_of steps s st) link) (left_plan s w link copy)
+plan-left steps s st link error copy w k t same =
+    rw (same, t.handle)
+    record {
+      due = rw (t.mapped, t.found, t.attached, t.written) refl;
+      leaves = refl;
+      sound = record { fit = tt; short = tt; counted = counted-still steps s s st (Leaves link) tt k refl refl refl refl; alone = tt; written = t.written };
+    }
+
+abbrev gone_body : DetachBody → Parting → Option Performative
+gone_body b p = detach_body p.handle b.closed None
+
+-- the peer leaves a link that is not attached
+pub plan-gone : (steps : ℕ) (s : Session) (st : StoresView) (b : DetachBody) (p : Parting) → IsKept steps s st → IsParting (view_of steps s st) b p → p.attached ≡ false
+    → IsPlan (view_of steps s st) (detach_heard_answer (view_of steps s st) b) (next_detach_heard (view_of steps s st) b) (quiet_plan s (fate.Gone p.key p.number) (Leaves p.number) (given.Gone p.number))
+plan-gone steps s st b p k t a =
+    let q : is_attached t.on ≡ false = sym t.attached ∙ a in
+    rw t.number
+    record {
+      due = rw (t.takes, t.first.found, q) refl;
+      leaves = rw (t.first.found, t.first.removed) refl;
+      sound = record { fit = tt; short = tt; counted = counted-still steps s s st (Leaves t.on.number) tt k refl refl refl refl; alone = tt; written = tt };
+    }
+
+-- and one that is
+pub plan-gone-told : (steps : ℕ) (s : Session) (st : StoresView) (b : DetachBody) (p : Parting) (r : Result Plan Violation) → IsKept steps s st → IsParting (view_of steps s st) b p → p.attached ≡ true
+    → MatchResult r
+    (λ plan. (frame_refused s.max_frame (gone_body b p) [] ≡ None) × (plan ≡ sending_plan s (fate.Gone p.key p.number) (Leaves p.number) (gone_body b p) [] (given.Gone p.number)))
+    (λ e. e ≡ no_memory)
+    → Plans no_memory (view_of steps s st) (detach_heard_answer (view_of steps s st) b) (next_detach_heard (view_of steps s st) b) r
+plan-gone-told steps s st b p (Ok plan) k t a r =
+    let q : is_attached t.on ≡ true = sym t.attached ∙ a in
+    let w : frame_refused s.max_frame (detach_body (handle_of t.on.ours) b.closed None) [] ≡ None = rw t.handle at r.0 in
+    rw (r.1, t.number, t.handle)
+    record {
+      due = rw (t.takes, t.first.found, q) refl;
+      leaves = rw (t.first.found, t.first.removed) refl;
+      sound = record { fit = tt; short = tt; counted = counted-still steps s s st (Leaves t.on.number) tt k refl refl refl refl; alone = tt; written = w };
+    }
+plan-gone-told steps s st b p (Err e) k t a r = inr (rw (t.takes, t.first.found) refl, r)

@@ -1,0 +1,99 @@
+-- From what a check promises to a plan.
+use Rattle.std.proofs.Common.{◌≡◌, ◌≤◌, ℕ, ◌+◌, ◌*◌, ◌^◌, not, Bool, true, false, cond, Option, Some, None, Result, Ok, Err, List, [], ◌∷◌, refl, ap, sym, find, MatchResult, ⊎_elim, inl, inr, ◌⊎◌, arith, subst, ◌∙◌}
+use Rattle.std.proofs.lemmas.Bool.{cases_Bool}
+use Rattle.amqp_performatives.specs.declared.performative.Performative.{Performative}
+use Rattle.amqp_links.specs.declared.fate.Fate.TheVariants.{Marked}
+use Rattle.amqp_links.specs.Marks.{with_marks}
+use Rattle.amqp_rules.specs.declared.reply.Given.{Given}
+use Rattle.amqp_rules.specs.declared.refusal.Refusal.{Refusal}
+use Rattle.amqp_rules.specs.declared.refusal.Refusal.TheVariants.{NoMemory}
+use Rattle.amqp_rules.specs.Carry.{size_so_far}
+use Rattle.amqp_rules.specs.View.{View, LinkView, SendingView, next_delivery, has_number, handle_of, change_first}
+use Rattle.amqp_rules.specs.OnLink.{on_link}
+use Rattle.amqp_rules.specs.Refusing.{first_refusal}
+use Rattle.amqp_rules.specs.Sending.{sends, frame_refused}
+use Rattle.amqp_endpoint.specs.declared.endpoint.onlink.OnLink.{OnLink}
+use Rattle.amqp_endpoint.specs.declared.plan.Plan.{Plan}
+use Rattle.amqp_endpoint.specs.declared.plan.Session.{Session}
+use Rattle.amqp_deliveries.specs.declared.change.Change.{Change}
+use Rattle.amqp_deliveries.specs.declared.change.Change.TheVariants.{Stay}
+use Rattle.amqp_endpoint.specs.Stores.{StoresView}
+use Rattle.amqp_endpoint.specs.Plan.{IsPlan, IsSound, IsBegun, IsCounted, IsKept, IsShort, AreShortOn, IsExpectedNext, Plans, links_in, stores_in, view_of, next_id, sending_plan}
+use Rattle.amqp_endpoint.specs.Taking.{IsTaken}
+
+same : {x y : LinkView} → ◌≡◌ {A = Option LinkView} (Some x) (Some y) → x ≡ y
+same h = cc
+
+-- only what a change makes of the link that is found counts
+pub change-alike : (test : LinkView → Bool) (f g : LinkView → LinkView) (links : List LinkView) (l : LinkView) → find test links ≡ Some l → f l ≡ g l → change_first test f links ≡ change_first test g links
+change-alike test f g [] l h e = refl
+change-alike test f g (m ∷ links) l h e =
+    ⊎_elim
+    (λ t. let s : m ≡ l = same (rw t at h) in let u : test l ≡ true = rw s at t in rw (s, u, e) refl)
+    (λ t. rw t (ap (λ ls. m ∷ ls) (change-alike test f g links l (rw t at h) e)))
+    (cases_Bool (test m))
+
+-- what is unfinished on a link that is found is short
+pub short-found : (steps : ℕ) (test : LinkView → Bool) (links : List LinkView) (l : LinkView) → AreShortOn steps links → find test links ≡ Some l → IsShort steps l.sending
+short-found steps test [] l h e = absurd (cc)
+short-found steps test (m ∷ links) l h e =
+    ⊎_elim
+    (λ t. let s : m ≡ l = same (rw t at e) in subst (λ (x : LinkView). IsShort steps x.sending) s h.0)
+    (λ t. short-found steps test links l h.1 (rw t at e))
+    (cases_Bool (test m))
+
+-- and stays so with a step more
+pub shorter : (steps n : ℕ) → n ≤ steps * 2 ^ 64 → n ≤ (steps + 1) * 2 ^ 64
+shorter steps n h = omega (arith, h)
+
+expected-still : (e : Option ℕ) → IsExpectedNext e e
+expected-still None = tt
+expected-still (Some n) = inl refl
+
+-- a step that begins nothing leaves the counts as they are
+pub counted-still : (steps : ℕ) (s t : Session) (st : StoresView) (change : Change) → IsBegun (view_of steps s st) change t → IsKept steps s st → t.windows.sent ≡ s.windows.sent → t.windows.first ≡ s.windows.first → t.deliveries ≡ s.deliveries → t.expected ≡ s.expected
+    → IsCounted (view_of steps s st) change t
+counted-still steps s t st change begins k sent first deliveries expected =
+    let few : s.windows.sent ≤ steps = k.sent in
+    let begun : s.deliveries ≤ steps = k.deliveries in
+    record {
+      sent = omega (arith, few, sent);
+      deliveries = omega (arith, begun, deliveries);
+      ours = inl (λ i. next_id (record s { deliveries = deliveries i; windows = record s.windows { first = first i } }));
+      theirs = subst (λ (e : Option ℕ). IsExpectedNext s.expected e) (sym expected) (expected-still s.expected);
+      begun = begins;
+    }
+
+-- what is unfinished on a link on which an operation is taken is short
+pub taken-short : (steps : ℕ) (s : Session) (st : StoresView) (link : ℕ) (rows : LinkView → List (Bool × Refusal)) (change : LinkView → LinkView) (o : OnLink) → IsKept steps s st
+    → IsTaken (view_of steps s st) link rows change o → ((l : LinkView) → (change l).sending ≡ l.sending) → IsShort (steps + 1) o.marks.sending
+taken-short steps s st link rows change o k t keeps =
+    let e : o.marks.sending ≡ t.on.sending = ap (λ l. l.sending) t.marks ∙ keeps t.on in
+    subst (λ (x : Option SendingView). IsShort (steps + 1) x) (sym e) (shorter steps (size_so_far t.on.sending) (short-found steps (has_number link) st.links.list t.on k.short t.found))
+
+-- an operation of a link that is taken is planned, and sends a frame
+pub plan-on : (v : View) (link key : ℕ) (rows : LinkView → List (Bool × Refusal)) (change : LinkView → LinkView) (o : OnLink) (session : Session)
+    (body : LinkView → Option Performative) (said : Option Performative) (given : Given) (r : Result Plan Refusal)
+    → IsTaken v link rows change o → session.max_frame ≡ v.max_frame
+    → ((l : LinkView) → o.handle ≡ handle_of l.ours → with_marks o.marks l ≡ change l → first_refusal (rows l) ≡ None → said ≡ body l)
+    → IsCounted v Stay session
+    → IsShort (v.steps + 1) o.marks.sending
+    → MatchResult r
+    (λ p. (frame_refused session.max_frame said [] ≡ None) × (p ≡ sending_plan session (Marked key link o.marks) Stay said [] given))
+    (λ e. frame_refused session.max_frame said [] ≡ Some e)
+    → Plans NoMemory v (on_link v link (λ l. sends v.max_frame (rows l) (body l) [] given))
+    (view_of (v.steps + 1) session (record (stores_in v) { links = record (links_in v) { list = change_first (has_number link) change v.links } })) r
+plan-on v link key rows change o session body said given (Err e) t m b c short r =
+    let s : said ≡ body t.on = b t.on t.handle t.marks t.free in
+    let q : frame_refused v.max_frame (body t.on) [] ≡ Some e = rw (← m, ← s) r in
+    inl (rw (t.mapped, t.found, t.free, q) refl)
+plan-on v link key rows change o session body said given (Ok p) t m b c short r =
+    let s : said ≡ body t.on = b t.on t.handle t.marks t.free in
+    let q : frame_refused v.max_frame (body t.on) [] ≡ None = rw (← m, ← s) r.0 in
+    let w : frame_refused v.max_frame said [] ≡ None = rw (← m) r.0 in
+    rw r.1
+    record {
+      due = rw (t.mapped, t.found, t.free, q, s) refl;
+      leaves = rw (change-alike (has_number link) change (with_marks o.marks) v.links t.on t.found (rw t.marks refl)) refl;
+      sound = record { fit = tt; short = short; counted = c; alone = tt; written = w };
+    }

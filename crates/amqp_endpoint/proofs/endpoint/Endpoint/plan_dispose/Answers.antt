@@ -1,0 +1,14 @@
+use Rattle.std.proofs.Common.{◌≡◌, None, [], ap, ◌∙◌}
+use Rattle.amqp_rules.specs.Dispose.{dispose_body, dispose_refusals}
+use Rattle.amqp_rules.specs.Refusing.{first_refusal}
+use Rattle.amqp_rules.specs.Sending.{frame_refused}
+use Rattle.amqp_rules.specs.View.{View}
+use Rattle.amqp_endpoint.specs.Saying.{said_in}
+use Rattle.amqp_endpoint.proofs.Disposing.{plan_said}
+use Rattle.amqp_endpoint.proofs.endpoint.Endpoint.plan_dispose.Goals as goal
+
+pub returns : goal.returns
+returns c =
+    let both = rw (← c.self.view_is) at c.in_default.ensures in
+    rw (← c.self.view_is, c.frame_of.ensures, c.dispose_body.ensures, c.new.ensures)
+    (plan_said c.self.inside.steps c.self.inside.session c.self.inside.stores c.args.role (said_in c.args.said) c.in-Ok.sent c.in-Ok-kept.kept c.self.invariant both.0 both.1 c.in-Ok.ensures c.in-Ok-kept.ensures)

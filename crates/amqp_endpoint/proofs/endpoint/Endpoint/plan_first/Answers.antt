@@ -1,0 +1,28 @@
+use Rattle.std.proofs.Common.{refl}
+use Rattle.amqp_endpoint.specs.Plan.{view_of}
+use Rattle.amqp_endpoint.proofs.Transfers.{IsFirstFree, first-free, first-plan, free-at}
+use Rattle.amqp_endpoint.proofs.endpoint.Endpoint.plan_first.Goals as goal
+
+pub returns : goal.returns
+returns c =
+    let v = view_of c.self.inside.steps c.self.inside.session c.self.inside.stores in
+    let free = free-at v c.args.self.now c.args.b.now c.args.payload.now c.args.l.now c.self.view_is c.requires.free in
+    let f = first-free v c.args.b.now c.args.payload.now c.args.l.now free c.requires.left c.requires.none in
+    rw (
+      ← c.self.view_is,
+      c.plan_quiet.ensures,
+      c.session_heard-session.ensures,
+      c.one_past.ensures,
+      c.given_heard.ensures,
+      c.change_heard-change.ensures,
+      c.item_of.ensures,
+      c.piece_of.ensures,
+      c.unwrap_or-id.ensures,
+      c.number-number.ensures,
+      c.rcv_mode-mode.ensures,
+      c.in-Ok.ensures.cases,
+      c.in-Ok-copy_state.ensures,
+    )
+    (first-plan c.self.inside.steps c.args.key c.self.inside.session c.self.inside.stores c.args.b.now c.args.payload.now c.args.l.now c.marks_first.result c.is_over-over.result c.self.invariant
+    (rw (← c.self.view_is) at c.requires.takes) (rw (← c.self.view_is) at c.requires.found) c.requires.left c.requires.none free
+    c.is_over-over.ensures (c.marks_first.ensures.marks f.receiver f.credit) c.marks_first.ensures.sending)

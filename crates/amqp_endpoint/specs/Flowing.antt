@@ -1,0 +1,46 @@
+-- Parts of what a heard flow leaves, as the private calls of the endpoint compute them.
+use Rattle.std.specs.Prelude.{ℕ, ◌≡◌, ◌&&◌, Bool, true, false, cond, Option, Some, None, []}
+use Rattle.amqp_performatives.specs.declared.bodies.FlowBody.{FlowBody}
+use Rattle.amqp_flow.specs.Windows.{WindowsView, session_is_ahead, windows_begun, windows_heard, windows_renewed}
+use Rattle.amqp_performatives.specs.declared.performative.Performative.TheVariants.{Flow}
+use Rattle.amqp_links.specs.declared.credit.Credit.{Credit}
+use Rattle.amqp_endpoint.specs.declared.plan.Session.{Session}
+use Rattle.amqp_links.specs.declared.fate.Fate.{Fate}
+use Rattle.amqp_endpoint.specs.declared.plan.Plan.{Plan}
+use Rattle.amqp_frames.specs.declared.frame.Frame.{Frame}
+use Rattle.amqp_deliveries.specs.declared.change.Change.TheVariants.{Stay}
+use Rattle.amqp_rules.specs.declared.reply.Given.TheVariants as given
+use Rattle.amqp_rules.specs.Sending.{frame_of}
+use Rattle.amqp_rules.specs.Flow.{session_part, asks_echo, count_ahead, credit_heard}
+use Rattle.amqp_links.specs.Credits.{role_of, credit_in}
+
+-- the peer counts further than we have; before our begin there is no count of ours
+abbrev pub session_ahead : Bool → FlowBody → WindowsView → Bool
+session_ahead begun b w = begun && session_is_ahead (session_part b) w
+
+-- the windows that the flow tells
+abbrev pub windows_told_by : Bool → FlowBody → WindowsView → WindowsView
+windows_told_by begun b w = cond begun (windows_heard (session_part b) w) (windows_begun b.next_outgoing_id b.incoming_window b.outgoing_window w)
+
+-- a flow is sent in return
+abbrev pub sends_echo : Bool → FlowBody → Bool
+sends_echo begun b = asks_echo b && begun
+
+abbrev pub session_after : FlowBody → Session → Session
+session_after b s =
+    record s { windows = cond (sends_echo s.begin_sent b) (windows_renewed (windows_told_by s.begin_sent b s.windows)) (windows_told_by s.begin_sent b s.windows) }
+
+-- the credit of a link, whose attach of ours was sent or not
+abbrev pub credit_ahead : Bool → FlowBody → Credit → Bool
+credit_ahead ours b c = ours && count_ahead (role_of c) b (credit_in c)
+
+abbrev pub IsCreditAfter : Bool → FlowBody → Credit → Credit → Type 0
+IsCreditAfter ours b c n = (role_of n ≡ role_of c) × (credit_in n ≡ credit_heard (role_of c) ours b (credit_in c))
+
+-- a flow is sent in return, or none
+abbrev pub echo_frame : Bool → FlowBody → Option Frame
+echo_frame true body = Some (frame_of (Some (Flow body)) [])
+echo_frame false body = None
+
+abbrev pub echo_plan : Session → Fate → Bool → FlowBody → Plan
+echo_plan session fate echo body = record { session = session; fate = fate; change = Stay; frame = echo_frame echo body; given = given.Nothing }

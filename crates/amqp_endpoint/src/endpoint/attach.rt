@@ -1,0 +1,266 @@
+//! Attach: a link is asked for, or the peer's attach is answered (part 2, 2.6.3 and 2.7.3).
+ghost use Rattle.std.specs.Prelude.{◌≡◌, Some, None, [], Err, MatchResult, IfOk, cond};
+ghost use Rattle.amqp_flow.specs.Credit.{count_given};
+ghost use Rattle.amqp_links.specs.Credits.{credit_in, role_of};
+ghost use Rattle.amqp_performatives.specs.declared.performative.Performative.TheVariants as body;
+ghost use Rattle.amqp_rules.specs.Attach.{attach_answer, next_attach, own_attach, size_told, end_of};
+ghost use Rattle.amqp_rules.specs.Sending.{frame_refused};
+ghost use Rattle.amqp_rules.specs.View.{is_sender};
+ghost use Rattle.amqp_endpoint.specs.Attaching.{IsMeeting, Meets, attached_fate, number_at, wanted_of};
+ghost use Rattle.amqp_endpoint.specs.Plan.{Plans};
+
+use crate::endpoint::Endpoint;
+use crate::plan::{Plan, frame_of};
+use crate::refusal::Refusal;
+use crate::reply::Given;
+use crate::sending::told;
+use amqp_deliveries::Change;
+use amqp_frames::{AttachBody, AttachParts, Performative, Role, measure_attach};
+use amqp_links::credit::Credit;
+use amqp_links::end::End;
+use amqp_links::fate::Fate;
+use amqp_links::marks::Marks;
+use amqp_types::{Boxed, Text, Value};
+use bytes::Bytes;
+use std::alloc::{AllocError, Global};
+
+/// What an Attach asks for.
+#[derive(Clone, Copy)]
+pub(crate) struct Wanted<'a> {
+    pub(crate) name: &'a Text,
+    pub(crate) role: Role,
+    pub(crate) snd: u8,
+    pub(crate) rcv: u8,
+    pub(crate) source: &'a Option<Boxed<Value>>,
+    pub(crate) target: &'a Option<Boxed<Value>>,
+    pub(crate) count: u32,
+    pub(crate) max_message: u64,
+}
+
+/// Where an offered link is.
+#[derive(Clone, Copy)]
+pub(crate) struct Place {
+    pub(crate) key: usize,
+    pub(crate) number: u32,
+}
+
+/// The link that is attached: an offered one, or one more; its number, our handle of it, and its marks after it.
+#[derive(Clone, Copy)]
+pub(crate) struct Meeting {
+    pub(crate) met: Option<Place>,
+    pub(crate) number: u32,
+    pub(crate) handle: u32,
+    pub(crate) marks: Marks,
+}
+
+/// A size that is told where it is above 0.
+fn size_told(size: u64) -> Option<u64>
+    ensures { result ≡ size_told size }
+{
+    if 0 < size { Some(size) } else { None }
+}
+
+/// The first delivery-count, which a sender tells.
+fn count_told(role: Role, count: u32) -> Option<u32>
+    ensures { result ≡ cond (is_sender role) (Some count) None }
+{
+    match role {
+        Role::Sender => Some(count),
+        Role::Receiver => None,
+    }
+}
+
+/// The credit after our attach.
+fn credit_told(credit: &Credit, count: u32) -> Credit
+    ensures role { role_of result ≡ role_of credit.now }
+    ensures credit { credit_in result ≡ cond (is_sender (role_of credit.now)) (count_given count (credit_in credit.now)) (credit_in credit.now) }
+{
+    match credit.role() {
+        Role::Sender => credit.counted(count),
+        Role::Receiver => *credit,
+    }
+}
+
+/// Why an attach is not sent to a peer that takes frames of `max` octets. It asks for no memory.
+fn attach_refusal(wanted: &Wanted<'_>, handle: u32, max: u32) -> Option<Refusal>
+    ensures { result ≡ frame_refused max (Some (body.Attach (own_attach (wanted_of wanted.now) handle))) [] }
+{
+    let parts = AttachParts {
+        name: wanted.name.as_str(),
+        handle,
+        role: wanted.role,
+        snd_settle_mode: Some(wanted.snd),
+        rcv_settle_mode: Some(wanted.rcv),
+        source: wanted.source,
+        target: wanted.target,
+        initial_delivery_count: count_told(wanted.role, wanted.count),
+        max_message_size: size_told(wanted.max_message),
+    };
+    match measure_attach(&parts, max) {
+        Ok(_) => None,
+        Err(fault) => Some(told(fault)),
+    }
+}
+
+fn copy_terminus(terminus: &Option<Boxed<Value>>) -> Result<Option<Boxed<Value>>, AllocError>
+    ensures { IfOk result (λ copy. copy ≡ terminus.now) }
+{
+    match terminus {
+        None => Ok(None),
+        Some(value) => Ok(Some(value.clone()?)),
+    }
+}
+
+/// The attach that is sent.
+fn attach_body(
+    alloc: Global,
+    wanted: &Wanted<'_>,
+    handle: u32,
+) -> Result<Boxed<AttachBody>, AllocError>
+    ensures { IfOk result (λ b. b ≡ own_attach (wanted_of wanted.now) handle) }
+{
+    let name = wanted.name.clone()?;
+    let source = copy_terminus(wanted.source)?;
+    let target = copy_terminus(wanted.target)?;
+    Boxed::new(
+        alloc,
+        AttachBody {
+            name,
+            handle,
+            role: wanted.role,
+            snd_settle_mode: Some(wanted.snd),
+            rcv_settle_mode: Some(wanted.rcv),
+            source,
+            target,
+            unsettled: None,
+            incomplete_unsettled: None,
+            initial_delivery_count: count_told(wanted.role, wanted.count),
+            max_message_size: size_told(wanted.max_message),
+            offered_capabilities: None,
+            desired_capabilities: None,
+            properties: None,
+        },
+    )
+}
+
+/// What our attach tells that stays with the link.
+fn our_end(wanted: &Wanted<'_>, handle: u32) -> End
+    ensures { result ≡ end_of (own_attach (wanted_of wanted.now) handle) }
+{
+    End {
+        handle,
+        snd_mode: wanted.snd,
+        rcv_mode: wanted.rcv,
+        max_message: size_told(wanted.max_message).unwrap_or(0),
+    }
+}
+
+/// What becomes of the links. The name is copied for a link that we ask for.
+fn attached(name: &Text, meeting: &Meeting, end: End) -> Result<Fate, AllocError>
+    ensures { IfOk result (λ fate. fate ≡ attached_fate name.now meeting.now.met end meeting.now.marks) }
+{
+    match meeting.met {
+        Some(place) => Ok(Fate::Ours {
+            key: place.key,
+            number: place.number,
+            end,
+            marks: meeting.marks,
+        }),
+        None => {
+            let name = name.clone()?;
+            Ok(Fate::Asked {
+                name,
+                end,
+                marks: meeting.marks,
+            })
+        }
+    }
+}
+
+impl Endpoint {
+    /// The offered link that is met, if there is one, and the marks of the link after our attach.
+    fn met(&self, wanted: &Wanted<'_>) -> (Option<Place>, Marks)
+        ensures { Meets self.now (wanted_of wanted.now) result.0 result.1 }
+    {
+        let count = count_told(wanted.role, wanted.count).unwrap_or(0);
+        match self.stores.links.offered_as(wanted.role, wanted.name) {
+            Some(found) => {
+                let mut marks = found.link.marks();
+                marks.credit = credit_told(&marks.credit, count);
+                let place = Place {
+                    key: found.key,
+                    number: found.link.number(),
+                };
+                (Some(place), marks)
+            }
+            None => {
+                let none = Credit::none(wanted.role);
+                let marks = Marks {
+                    left: false,
+                    credit: credit_told(&none, count),
+                    available: 0,
+                    sending: None,
+                };
+                (None, marks)
+            }
+        }
+    }
+
+    /// The number of the link that is met, or of the next to be made.
+    fn number_met(&self, met: Option<Place>) -> u32
+        ensures { result ≡ number_at self.now.made met }
+    {
+        match met {
+            Some(place) => place.number,
+            None => self.stores.links.made(),
+        }
+    }
+
+    /// The first refusal that is due, or the link that is attached.
+    fn check_attach(&self, wanted: &Wanted<'_>) -> Result<Meeting, Refusal>
+        ensures { MatchResult result (IsMeeting self.now (wanted_of wanted.now)) (λ e. attach_answer self.now (wanted_of wanted.now) ≡ Err e) }
+    {
+        if !self.session.is_mapped() {
+            return Err(Refusal::NotMapped);
+        }
+        if self.stores.links.has_ours(wanted.role, wanted.name) {
+            return Err(Refusal::NameInUse);
+        }
+        let handle = self.stores.links.free_handle();
+        if self.session.handle_max < handle {
+            return Err(Refusal::HandleLimit);
+        }
+        if let Some(refusal) = attach_refusal(wanted, handle, self.session.max_frame) {
+            return Err(refusal);
+        }
+        let (met, marks) = self.met(wanted);
+        Ok(Meeting {
+            met,
+            number: self.number_met(met),
+            handle,
+            marks,
+        })
+    }
+
+    /// Attaches a link. O(n) for n links.
+    pub(crate) fn plan_attach(&self, wanted: &Wanted<'_>) -> Result<Plan, Refusal>
+        ensures { Plans Refusal.NoMemory self.now (attach_answer self.now (wanted_of wanted.now)) (next_attach self.now (wanted_of wanted.now)) result }
+    {
+        let meeting = self.check_attach(wanted)?;
+        let end = our_end(wanted, meeting.handle);
+        let Ok(fate) = attached(wanted.name, &meeting, end) else {
+            return Err(Refusal::NoMemory);
+        };
+        let Ok(body) = attach_body(self.alloc, wanted, meeting.handle) else {
+            drop(fate);
+            return Err(Refusal::NoMemory);
+        };
+        Ok(Plan {
+            session: self.session,
+            fate,
+            change: Change::Stay,
+            frame: frame_of(Some(Performative::Attach(body)), Bytes::new()),
+            given: Given::Link(meeting.number),
+        })
+    }
+}

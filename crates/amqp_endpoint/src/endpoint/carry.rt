@@ -1,0 +1,133 @@
+//! Carry: a further transfer of the unfinished delivery (part 2, 2.6.14 and 2.7.5).
+ghost use Rattle.std.specs.Prelude.{◌≡◌, ◌<◌, ◌+◌, ◌^◌, length, Err, IfOk, MatchResult};
+ghost use Rattle.amqp_flow.specs.Windows.{windows_sent};
+ghost use Rattle.amqp_rules.specs.Carry.{carry_answer, carry_on, carry_refusals, later_body, next_carry};
+ghost use Rattle.amqp_rules.specs.Start.{sending_after};
+ghost use Rattle.amqp_rules.specs.View.{is_too_long};
+ghost use Rattle.amqp_endpoint.specs.Plan.{IsShort, Plans};
+ghost use Rattle.amqp_endpoint.specs.Taking.{IsTaken};
+
+use crate::endpoint::Endpoint;
+use crate::endpoint::onlink::OnLink;
+use crate::endpoint::telling::flag;
+use crate::plan::{Plan, Session, plan_carrying};
+use crate::refusal::Refusal;
+use crate::reply::Given;
+use amqp_deliveries::Change;
+use amqp_frames::{Performative, Role, TransferBody};
+use amqp_links::credit::same_role;
+use amqp_links::fate::Fate;
+use amqp_links::marks::Sending;
+use bytes::Bytes;
+
+/// A later transfer on the link with this handle.
+pub(crate) fn later_body(
+    handle: u32,
+    more: Option<bool>,
+    aborted: Option<bool>,
+) -> Option<Performative>
+    ensures { result ≡ later_body handle more aborted }
+{
+    Some(Performative::Transfer(TransferBody {
+        handle,
+        delivery_id: None,
+        delivery_tag: None,
+        message_format: None,
+        settled: None,
+        more,
+        rcv_settle_mode: None,
+        state: None,
+        resume: None,
+        aborted,
+        batchable: None,
+    }))
+}
+
+/// A message of this length is longer than an end takes; 0 is no limit.
+pub(crate) fn is_too_long(max: u64, size: u128) -> bool
+    ensures { result ≡ is_too_long max size }
+{
+    0 < max && (max as u128) < size
+}
+
+/// Unfinished while more is to come.
+fn sending_after(more: bool, id: u32, size: u128) -> Option<Sending>
+    ensures { result ≡ sending_after more id size }
+{
+    match more {
+        true => Some(Sending { id, size }),
+        false => None,
+    }
+}
+
+/// The session once one transfer more was sent.
+pub(crate) fn sent(mut session: Session) -> Session
+    requires window { 0 < session.windows.remote_incoming }
+    requires few { session.windows.sent < 2 ^ 31 }
+    ensures { result ≡ record session { windows = windows_sent session.windows } }
+{
+    session.windows.sent();
+    session
+}
+
+impl Endpoint {
+    /// The first refusal that is due, or the link as it will be.
+    fn check_carry(&self, link: u32, payload: &[u8], more: bool) -> Result<OnLink, Refusal>
+        requires { self.now.steps < 2 ^ 30 }
+        ensures taken { MatchResult result (IsTaken self.now link (λ l. carry_refusals self.now l payload.now) (carry_on (length payload.now) more)) (λ e. carry_answer self.now link payload.now more ≡ Err e) }
+        ensures window { IfOk result (λ o. 0 < self.now.windows.remote_incoming) }
+        ensures short { IfOk result (λ o. IsShort (self.now.steps + 1) o.marks.sending) }
+    {
+        if !self.session.is_mapped() {
+            return Err(Refusal::NotMapped);
+        }
+        let Some(found) = self.stores.links.by_number(link) else {
+            return Err(Refusal::NoLink);
+        };
+        let l = found.link;
+        if !l.is_attached() {
+            return Err(Refusal::NotAttached);
+        }
+        if !same_role(Role::Sender, l.role()) {
+            return Err(Refusal::WrongRole);
+        }
+        let Some(unfinished) = l.sending() else {
+            return Err(Refusal::NotInDelivery);
+        };
+        if self.session.windows.remote_incoming() == 0 {
+            return Err(Refusal::NoWindow);
+        }
+        let size = unfinished.size + payload.len() as u128;
+        if is_too_long(l.longest_theirs(), size) {
+            return Err(Refusal::MessageTooLong);
+        }
+        let mut marks = l.marks();
+        marks.sending = sending_after(more, unfinished.id, size);
+        Ok(OnLink {
+            key: found.key,
+            handle: l.our_handle(),
+            marks,
+        })
+    }
+
+    /// Sends more of the unfinished delivery. O(log n) for n links.
+    pub(crate) fn plan_carry(&self, link: u32, payload: &Bytes, more: bool) -> Result<Plan, Refusal>
+        requires { self.now.steps < 2 ^ 30 }
+        ensures { Plans Refusal.NoMemory self.now (carry_answer self.now link payload.now more) (next_carry self.now link payload.now more) result }
+    {
+        let on = self.check_carry(link, payload, more)?;
+        let fate = Fate::Marked {
+            key: on.key,
+            number: link,
+            marks: on.marks,
+        };
+        plan_carrying(
+            sent(self.session),
+            fate,
+            Change::Stay,
+            later_body(on.handle, flag(more), None),
+            payload,
+            Given::Nothing,
+        )
+    }
+}

@@ -1,0 +1,186 @@
+//! Dispose: we tell the state of unsettled deliveries, and may settle them (part 2, 2.6.12 and 2.7.6).
+ghost use Rattle.std.specs.Prelude.{◌≡◌, [], None, Some, Err, MatchOption, MatchResult, IfOk};
+ghost use Rattle.amqp_rules.specs.Dispose.{dispose_answer, dispose_body, dispose_refusals, is_backwards, is_empty, next_dispose, waits_for_sender};
+ghost use Rattle.std.specs.Prelude.{filter};
+ghost use Rattle.std.specs.List.{list_any};
+ghost use Rattle.amqp_events.specs.States.{is_fixed};
+ghost use Rattle.amqp_events.specs.Unsettled.{covers};
+ghost use Rattle.amqp_deliveries.specs.Held.{items_of};
+ghost use Rattle.amqp_deliveries.specs.Run.{IsRun};
+ghost use Rattle.amqp_endpoint.specs.Disposing.{held_refusals};
+ghost use Rattle.amqp_endpoint.specs.Saying.{said_in};
+ghost use Rattle.amqp_rules.specs.Refusing.{first_refusal};
+ghost use Rattle.amqp_rules.specs.Sending.{frame_refused};
+ghost use Rattle.amqp_endpoint.specs.Plan.{Plans};
+
+use crate::endpoint::Endpoint;
+use crate::endpoint::telling::flag;
+use crate::plan::{Plan, frame_of};
+use crate::refusal::Refusal;
+use crate::reply::Given;
+use crate::sending::told;
+use amqp_deliveries::{Change, Disposition, Held, Run};
+use amqp_flow::serial::Serial;
+use amqp_frames::{DeliveryState, DispositionBody, Performative, Role, measure_disposition};
+use amqp_links::fate::Fate;
+use bytes::Bytes;
+use std::alloc::AllocError;
+
+/// A copy of a state, where there is one.
+pub(crate) fn copy_state(state: &Option<DeliveryState>) -> Result<Option<DeliveryState>, AllocError>
+    ensures { IfOk result (λ copy. copy ≡ state.now) }
+{
+    match state {
+        None => Ok(None),
+        Some(state) => Ok(Some(state.clone()?)),
+    }
+}
+
+/// The frame that says this.
+fn dispose_body(role: Role, said: Disposition) -> Option<Performative>
+    ensures { result ≡ dispose_body role said }
+{
+    Some(Performative::Disposition(DispositionBody {
+        role,
+        first: said.first,
+        last: Some(said.last),
+        settled: flag(said.settled),
+        state: said.state,
+        batchable: None,
+    }))
+}
+
+/// A disposition, with its state lent.
+#[derive(Clone, Copy)]
+pub(crate) struct Said<'a> {
+    pub(crate) first: u32,
+    pub(crate) last: u32,
+    pub(crate) settled: bool,
+    pub(crate) state: &'a Option<DeliveryState>,
+}
+
+impl Said<'_> {
+    /// A copy of it.
+    fn kept(&self) -> Result<Disposition, AllocError>
+        ensures { IfOk result (λ copy. copy ≡ said_in self.now) }
+    {
+        let state = copy_state(self.state)?;
+        Ok(Disposition {
+            first: self.first,
+            last: self.last,
+            settled: self.settled,
+            state,
+        })
+    }
+}
+
+/// Why the frame that says this is not sent to a peer that takes frames of `max` octets. It asks for no memory.
+fn dispose_refusal(role: Role, said: Said<'_>, max: u32) -> Option<Refusal>
+    ensures { result ≡ frame_refused max (dispose_body role (said_in said.entry)) [] }
+{
+    match measure_disposition(
+        role,
+        said.first,
+        Some(said.last),
+        flag(said.settled),
+        said.state,
+        max,
+    ) {
+        Ok(_) => None,
+        Err(fault) => Some(told(fault)),
+    }
+}
+
+/// The range runs backwards: it spans 2^31 ids or more.
+pub(crate) fn is_backwards(first: u32, last: u32) -> bool
+    ensures { result ≡ is_backwards first last }
+{
+    const HALF: u32 = 1 << 31;
+    Serial(first).distance(Serial(last)) >= HALF
+}
+
+/// It speaks of none of a table's deliveries.
+fn covers_none(held: &Held, run: Run, said: Said<'_>) -> bool
+    requires { IsRun said.first said.last held.now run }
+    ensures { result ≡ is_empty (filter (covers (said_in said.entry)) (items_of held.now)) }
+{
+    run.is_empty()
+}
+
+/// The receiver of one of them settles it after its sender.
+fn any_waits(held: &Held, run: Run, role: Role, said: Said<'_>) -> bool
+    requires { IsRun said.first said.last held.now run }
+    ensures { result ≡ list_any (waits_for_sender role) (filter (covers (said_in said.entry)) (items_of held.now)) }
+{
+    match role {
+        Role::Sender => false,
+        Role::Receiver => held.any_second(run),
+    }
+}
+
+/// We gave one of them another outcome.
+fn any_fixed(held: &Held, run: Run, said: Said<'_>) -> bool
+    requires { IsRun said.first said.last held.now run }
+    ensures { result ≡ list_any (is_fixed (said_in said.entry).state) (filter (covers (said_in said.entry)) (items_of held.now)) }
+{
+    held.any_fixed(run, said.state)
+}
+
+/// What the deliveries of a table refuse to a disposition of ours.
+fn held_refusal(held: &Held, role: Role, said: Said<'_>) -> Option<Refusal>
+    ensures { result ≡ first_refusal (held_refusals role (said_in said.entry) (items_of held.now)) }
+{
+    let run = held.run(said.first, said.last);
+    if covers_none(held, run, said) {
+        return Some(Refusal::NothingHeld);
+    }
+    if said.settled && any_waits(held, run, role, said) {
+        return Some(Refusal::MustNotSettle);
+    }
+    if any_fixed(held, run, said) {
+        return Some(Refusal::OutcomeFixed);
+    }
+    None
+}
+
+impl Endpoint {
+    /// The first refusal that is due.
+    fn dispose_refusal(&self, role: Role, said: Said<'_>) -> Option<Refusal>
+        ensures { MatchOption result ((first_refusal (dispose_refusals self.now role (said_in said.entry)) ≡ None) × (frame_refused self.now.max_frame (dispose_body role (said_in said.entry)) [] ≡ None)) (λ e. dispose_answer self.now role (said_in said.entry) ≡ Err e) }
+    {
+        if !self.session.is_mapped() {
+            return Some(Refusal::NotMapped);
+        }
+        if is_backwards(said.first, said.last) {
+            return Some(Refusal::BadRange);
+        }
+        if let Some(refusal) = held_refusal(self.stores.tables.of(role), role, said) {
+            return Some(refusal);
+        }
+        dispose_refusal(role, said, self.session.max_frame)
+    }
+
+    /// Tells a state of the unsettled deliveries that this covers, of those on which we have the role, or settles them.
+    /// With n unsettled deliveries, k of them covered: O(log n), and k steps.
+    pub(crate) fn plan_dispose(&self, role: Role, said: Said<'_>) -> Result<Plan, Refusal>
+        ensures { Plans Refusal.NoMemory self.now (dispose_answer self.now role (said_in said.entry)) (next_dispose self.now role (said_in said.entry)) result }
+    {
+        if let Some(refusal) = self.dispose_refusal(role, said) {
+            return Err(refusal);
+        }
+        let Ok(sent) = said.kept() else {
+            return Err(Refusal::NoMemory);
+        };
+        let Ok(kept) = said.kept() else {
+            drop(sent);
+            return Err(Refusal::NoMemory);
+        };
+        Ok(Plan {
+            session: self.session,
+            fate: Fate::Stay,
+            change: Change::Says(role, kept),
+            frame: frame_of(dispose_body(role, sent), Bytes::new()),
+            given: Given::Nothing,
+        })
+    }
+}

@@ -1,0 +1,154 @@
+//! An attach that is heard (part 2, 2.6.3 and 2.7.3): it answers ours, or offers a link.
+ghost use Rattle.std.specs.Prelude.{◌≡◌, MatchOption, None, cond, find};
+ghost use Rattle.amqp_flow.specs.Credit.{count_given};
+ghost use Rattle.amqp_links.specs.Credits.{credit_in, role_of};
+ghost use Rattle.amqp_rules.specs.Attach.{count_of, end_of};
+ghost use Rattle.amqp_rules.specs.PeerAttach.{attach_heard_answer, attach_violations, lacks_count, next_attach_heard};
+ghost use Rattle.amqp_rules.specs.Refusing.{first_refusal, no_memory};
+ghost use Rattle.amqp_rules.specs.View.{is_asked_as, is_sender, opposite};
+ghost use Rattle.amqp_endpoint.specs.Answered.{IsAnswered};
+ghost use Rattle.amqp_endpoint.specs.Plan.{Plans};
+
+use crate::endpoint::Endpoint;
+use crate::plan::{Plan, plan_quiet};
+use crate::reply::Given;
+use crate::violation::{Violation, ViolationKind};
+use amqp_deliveries::Change;
+use amqp_frames::{AttachBody, Role};
+use amqp_links::credit::Credit;
+use amqp_links::end::End;
+use amqp_links::fate::Fate;
+use amqp_links::marks::Marks;
+
+/// A link that an attach answers: where it is, its number, and its marks after the attach.
+#[derive(Clone, Copy)]
+pub(crate) struct Answered {
+    pub(crate) key: usize,
+    pub(crate) number: u32,
+    pub(crate) marks: Marks,
+}
+
+fn opposite(role: Role) -> Role
+    ensures { result ≡ opposite role }
+{
+    match role {
+        Role::Sender => Role::Receiver,
+        Role::Receiver => Role::Sender,
+    }
+}
+
+/// What the attach of an end tells that stays with the link.
+fn end_of(b: &AttachBody) -> End
+    ensures { result ≡ end_of b.now }
+{
+    End {
+        handle: b.handle,
+        snd_mode: b.snd_settle_mode.unwrap_or(2),
+        rcv_mode: b.rcv_settle_mode.unwrap_or(0),
+        max_message: b.max_message_size.unwrap_or(0),
+    }
+}
+
+/// A sender tells its first delivery-count.
+fn lacks_count(b: &AttachBody) -> bool
+    ensures { result ≡ lacks_count b.now }
+{
+    match b.role {
+        Role::Sender => b.initial_delivery_count.is_none(),
+        Role::Receiver => false,
+    }
+}
+
+/// The credit after the attach: it tells the count where we receive.
+fn counted(b: &AttachBody, credit: &Credit) -> Credit
+    ensures role { role_of result ≡ role_of credit.now }
+    ensures credit { credit_in result ≡ cond (is_sender (role_of credit.now)) (credit_in credit.now) (count_given (count_of b.now) (credit_in credit.now)) }
+{
+    match credit.role() {
+        Role::Sender => *credit,
+        Role::Receiver => credit.counted(b.initial_delivery_count.unwrap_or(0)),
+    }
+}
+
+impl Endpoint {
+    /// The violation that an attach meets.
+    fn attach_violation(&self, b: &AttachBody) -> Option<Violation>
+        ensures { result ≡ first_refusal (attach_violations self.now b.now) }
+    {
+        if !self.session.takes_frames() {
+            return Some(Violation::unlinked(ViolationKind::OutOfSession));
+        }
+        if self.stores.links.by_peer_handle(b.handle).is_some() {
+            return Some(Violation::unlinked(ViolationKind::HandleTaken));
+        }
+        if self.stores.links.has_theirs(opposite(b.role), &b.name) {
+            return Some(Violation::unlinked(ViolationKind::NameTaken));
+        }
+        if lacks_count(b) {
+            return Some(Violation::unlinked(ViolationKind::MissingField));
+        }
+        None
+    }
+
+    /// The link that the attach answers.
+    fn answered_link(&self, b: &AttachBody) -> Option<Answered>
+        ensures { MatchOption result (find (is_asked_as (opposite b.now.role) b.now.name) self.now.links ≡ None) (IsAnswered self.now b.now) }
+    {
+        let Some(found) = self.stores.links.asked_as(opposite(b.role), &b.name) else {
+            return None;
+        };
+        let mut marks = found.link.marks();
+        marks.credit = counted(b, &marks.credit);
+        Some(Answered {
+            key: found.key,
+            number: found.link.number(),
+            marks,
+        })
+    }
+
+    /// How many links were made.
+    fn links_made(&self) -> u32
+        ensures { result ≡ self.now.made }
+    {
+        self.stores.links.made()
+    }
+
+    /// The peer's attach: it answers ours, or offers a link. O(n) for n links.
+    pub(crate) fn plan_peer_attach(&self, b: &AttachBody) -> Result<Plan, Violation>
+        ensures { Plans no_memory self.now (attach_heard_answer self.now b.now) (next_attach_heard self.now b.now) result }
+    {
+        if let Some(violation) = self.attach_violation(b) {
+            return Err(violation);
+        }
+        let end = end_of(b);
+        match self.answered_link(b) {
+            Some(on) => {
+                let fate = Fate::Theirs {
+                    key: on.key,
+                    number: on.number,
+                    end,
+                    marks: on.marks,
+                };
+                Ok(plan_quiet(self.session, fate, Change::Stay, Given::Attached(on.number)))
+            }
+            None => {
+                let Ok(name) = b.name.clone() else {
+                    return Err(Violation::unlinked(ViolationKind::NoMemory));
+                };
+                let marks = Marks {
+                    left: false,
+                    credit: counted(b, &Credit::none(opposite(b.role))),
+                    available: 0,
+                    sending: None,
+                };
+                let fate = Fate::Offered { name, end, marks };
+                Ok(plan_quiet(
+                    self.session,
+                    fate,
+                    Change::Stay,
+                    Given::Offered(self.links_made()),
+                ))
+            }
+        }
+    }
+}

@@ -1,0 +1,76 @@
+//! A detach that is heard (part 2, 2.6.6 and 2.7.7): the link is gone.
+ghost use Rattle.std.specs.Prelude.{◌≡◌, Err, MatchResult};
+ghost use Rattle.amqp_rules.specs.PeerDetach.{detach_heard_answer, next_detach_heard};
+ghost use Rattle.amqp_rules.specs.Refusing.{no_memory};
+ghost use Rattle.amqp_endpoint.specs.Parting.{IsParting};
+ghost use Rattle.amqp_endpoint.specs.Plan.{Plans};
+
+use crate::endpoint::Endpoint;
+use crate::plan::{Plan, plan_answering, plan_quiet};
+use crate::reply::Given;
+use crate::violation::{Violation, ViolationKind};
+use amqp_deliveries::Change;
+use amqp_frames::{DetachBody, Performative};
+use amqp_links::fate::Fate;
+
+/// A link that the peer leaves: where it is, its number, our handle of it, and whether it is attached.
+#[derive(Clone, Copy)]
+pub(crate) struct Parting {
+    pub(crate) key: usize,
+    pub(crate) number: u32,
+    pub(crate) handle: u32,
+    pub(crate) attached: bool,
+}
+
+impl Endpoint {
+    /// What the frame violates, or the link that is left.
+    fn check_peer_detach(&self, body: &DetachBody) -> Result<Parting, Violation>
+        ensures { MatchResult result (IsParting self.now body.now) (λ e. detach_heard_answer self.now body.now ≡ Err e) }
+    {
+        if !self.session.takes_frames() {
+            return Err(Violation::unlinked(ViolationKind::OutOfSession));
+        }
+        let Some(found) = self.stores.links.by_peer_handle(body.handle) else {
+            return Err(Violation::unlinked(ViolationKind::BadHandle));
+        };
+        let l = found.link;
+        Ok(Parting {
+            key: found.key,
+            number: l.number(),
+            handle: l.our_handle(),
+            attached: l.is_attached(),
+        })
+    }
+
+    /// The peer leaves a link; where it is attached it is answered by a detach that is closed as the peer's is. O(log n) for n links.
+    pub(crate) fn plan_peer_detach(&self, body: &DetachBody) -> Result<Plan, Violation>
+        ensures { Plans no_memory self.now (detach_heard_answer self.now body.now) (next_detach_heard self.now body.now) result }
+    {
+        let parting = self.check_peer_detach(body)?;
+        let number = parting.number;
+        let fate = Fate::Gone {
+            key: parting.key,
+            number,
+        };
+        if !parting.attached {
+            return Ok(plan_quiet(
+                self.session,
+                fate,
+                Change::Leaves(number),
+                Given::Gone(number),
+            ));
+        }
+        let answer = DetachBody {
+            handle: parting.handle,
+            closed: body.closed,
+            error: None,
+        };
+        plan_answering(
+            self.session,
+            fate,
+            Change::Leaves(number),
+            Some(Performative::Detach(answer)),
+            Given::Gone(number),
+        )
+    }
+}

@@ -1,0 +1,63 @@
+//! A disposition that is heard (part 2, 2.6.12 and 2.7.6).
+ghost use Rattle.std.specs.Prelude.{◌≡◌, IfOk};
+ghost use Rattle.amqp_rules.specs.Deliveries.{disposition_of};
+ghost use Rattle.amqp_rules.specs.PeerDisposition.{disposition_answer, next_disposition};
+ghost use Rattle.amqp_rules.specs.Refusing.{no_memory};
+ghost use Rattle.amqp_rules.specs.View.{opposite};
+ghost use Rattle.amqp_endpoint.specs.Plan.{Plans};
+
+use crate::endpoint::Endpoint;
+use crate::endpoint::dispose::{copy_state, is_backwards};
+use crate::plan::{Plan, plan_quiet};
+use crate::reply::Given;
+use crate::violation::{Violation, ViolationKind};
+use amqp_deliveries::{Change, Disposition};
+use amqp_frames::{DispositionBody, Role};
+use amqp_links::fate::Fate;
+use std::alloc::AllocError;
+
+/// What it says. An absent last is the first, an absent settled is false.
+fn disposition_of(body: &DispositionBody) -> Result<Disposition, AllocError>
+    ensures { IfOk result (λ d. d ≡ disposition_of body.now) }
+{
+    let state = copy_state(&body.state)?;
+    Ok(Disposition {
+        first: body.first,
+        last: body.last.unwrap_or(body.first),
+        settled: body.settled.unwrap_or(false),
+        state,
+    })
+}
+
+/// Our role in what an end of this role speaks of.
+fn opposite(role: Role) -> Role
+    ensures { result ≡ opposite role }
+{
+    match role {
+        Role::Sender => Role::Receiver,
+        Role::Receiver => Role::Sender,
+    }
+}
+
+impl Endpoint {
+    /// The peer tells a state of deliveries, or settles them. With n unsettled deliveries, k of them covered: O(log n), and k steps.
+    pub(crate) fn plan_peer_disposition(&self, body: &DispositionBody) -> Result<Plan, Violation>
+        ensures { Plans no_memory self.now (disposition_answer self.now body.now) (next_disposition self.now body.now) result }
+    {
+        if !self.session.takes_frames() {
+            return Err(Violation::unlinked(ViolationKind::OutOfSession));
+        }
+        if is_backwards(body.first, body.last.unwrap_or(body.first)) {
+            return Err(Violation::unlinked(ViolationKind::BadRange));
+        }
+        let Ok(said) = disposition_of(body) else {
+            return Err(Violation::unlinked(ViolationKind::NoMemory));
+        };
+        Ok(plan_quiet(
+            self.session,
+            Fate::Stay,
+            Change::Hears(opposite(body.role), said),
+            Given::Nothing,
+        ))
+    }
+}

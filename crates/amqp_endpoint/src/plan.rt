@@ -1,0 +1,204 @@
+//! A step as it is planned: what it answers and what it leaves, as data. A plan changes nothing until it is committed.
+ghost use Rattle.std.specs.Prelude.{◌≡◌, ◌+◌, ◌⊎◌, [], Some, None, IfOk, MatchResult};
+ghost use Rattle.amqp_flow.specs.Serial.{wire};
+ghost use Rattle.amqp_endpoint.specs.Plan.{flags_of, quiet_plan, sending_plan};
+ghost use Rattle.amqp_rules.specs.Refusing.{no_memory};
+ghost use Rattle.amqp_rules.specs.Sending.{frame_of, frame_refused};
+ghost use Rattle.amqp_rules.specs.View.{awaits_begin, is_ending, is_mapped, may_begin, takes_frames};
+
+use crate::refusal::Refusal;
+use crate::reply::Given;
+use crate::sending::sending_refusal;
+use crate::violation::{Violation, ViolationKind};
+use amqp_deliveries::Change;
+use amqp_flow::windows::Windows;
+use amqp_frames::{Frame, Performative};
+use amqp_links::fate::Fate;
+use bytes::Bytes;
+use std::alloc::AllocError;
+
+/// What a session is besides its links and its deliveries.
+#[derive(Clone, Copy, Debug)]
+pub struct Session {
+    pub(crate) begin_sent: bool,
+    pub(crate) begin_heard: bool,
+    pub(crate) end_sent: bool,
+    pub(crate) end_heard: bool,
+    pub(crate) windows: Windows,
+    /// How many deliveries were begun.
+    pub(crate) deliveries: u32,
+    /// The id of the delivery that the peer begins next; none before its first.
+    pub(crate) expected: Option<u32>,
+    /// In octets: the longest frame that the peer takes.
+    pub(crate) max_frame: u32,
+    /// The highest handle that the peer takes.
+    pub(crate) handle_max: u32,
+}
+
+/// A step as it is planned. It owns all that the step needs.
+#[derive(Drop)]
+pub struct Plan {
+    /// The session after it.
+    pub(crate) session: Session,
+    /// What becomes of the links, and of the unsettled deliveries.
+    pub(crate) fate: Fate,
+    pub(crate) change: Change,
+    /// The frame that is sent.
+    pub(crate) frame: Option<Frame>,
+    /// What the application is told.
+    pub(crate) given: Given,
+}
+
+pub(crate) fn frame_of(body: Option<Performative>, payload: Bytes) -> Option<Frame>
+    ensures { result ≡ Some (frame_of body payload) }
+{
+    Some(Frame {
+        channel: 0,
+        body,
+        payload,
+    })
+}
+
+/// The plan that sends this frame, where a peer takes it that takes frames of `max_frame` octets.
+pub(crate) fn plan_sending(
+    session: Session,
+    fate: Fate,
+    change: Change,
+    body: Option<Performative>,
+    given: Given,
+) -> Result<Plan, Refusal>
+    ensures { MatchResult result (λ p. (frame_refused session.max_frame body [] ≡ None) × (p ≡ sending_plan session fate change body [] given)) (λ e. frame_refused session.max_frame body [] ≡ Some e) }
+{
+    match sending_refusal(&body, &[], session.max_frame) {
+        Some(refusal) => {
+            drop(body);
+            drop(change);
+            drop(fate);
+            drop(given);
+            Err(refusal)
+        }
+        None => Ok(Plan {
+            session,
+            fate,
+            change,
+            frame: frame_of(body, Bytes::new()),
+            given,
+        }),
+    }
+}
+
+/// The same of a frame that carries this payload. A handle of the payload is taken once the frame's size is known.
+pub(crate) fn plan_carrying(
+    session: Session,
+    fate: Fate,
+    change: Change,
+    body: Option<Performative>,
+    payload: &Bytes,
+    given: Given,
+) -> Result<Plan, Refusal>
+    ensures { MatchResult result (λ p. (frame_refused session.max_frame body payload.now ≡ None) × (p ≡ sending_plan session fate change body payload.now given)) (λ e. (frame_refused session.max_frame body payload.now ≡ Some e) ⊎ ((frame_refused session.max_frame body payload.now ≡ None) × (e ≡ Refusal.NoMemory))) }
+{
+    let refusal = match sending_refusal(&body, payload, session.max_frame) {
+        Some(refusal) => refusal,
+        None => match payload.clone() {
+            Ok(payload) => {
+                return Ok(Plan {
+                    session,
+                    fate,
+                    change,
+                    frame: frame_of(body, payload),
+                    given,
+                });
+            }
+            Err(_) => Refusal::NoMemory,
+        },
+    };
+    drop(body);
+    drop(change);
+    drop(fate);
+    drop(given);
+    Err(refusal)
+}
+
+/// The plan that answers a heard frame by this one. That the peer takes it is tested for the sake of what the octets are: where it did not,
+/// the frame that was heard would be refused as for want of memory.
+pub(crate) fn plan_answering(
+    session: Session,
+    fate: Fate,
+    change: Change,
+    body: Option<Performative>,
+    given: Given,
+) -> Result<Plan, Violation>
+    ensures { MatchResult result (λ p. (frame_refused session.max_frame body [] ≡ None) × (p ≡ sending_plan session fate change body [] given)) (λ e. e ≡ no_memory) }
+{
+    match plan_sending(session, fate, change, body, given) {
+        Ok(plan) => Ok(plan),
+        Err(_) => Err(Violation::unlinked(ViolationKind::NoMemory)),
+    }
+}
+
+/// The plan that sends no frame.
+pub(crate) fn plan_quiet(session: Session, fate: Fate, change: Change, given: Given) -> Plan
+    ensures { result ≡ quiet_plan session fate change given }
+{
+    Plan {
+        session,
+        fate,
+        change,
+        frame: None,
+        given,
+    }
+}
+
+impl Plan {
+    /// What the application is told, once more.
+    pub fn given(&self) -> Result<Given, AllocError>
+        ensures { IfOk result (λ given. given ≡ self.now.given) }
+    {
+        self.given.clone()
+    }
+}
+
+impl Session {
+    /// Both begins were, and no end.
+    pub(crate) fn is_mapped(&self) -> bool
+        ensures { result ≡ is_mapped (flags_of self.now) }
+    {
+        self.begin_sent && self.takes_frames()
+    }
+
+    /// Our begin may be sent.
+    pub(crate) fn may_begin(&self) -> bool
+        ensures { result ≡ may_begin (flags_of self.now) }
+    {
+        !self.begin_sent && !(self.end_sent || self.end_heard)
+    }
+
+    /// The peer's begin is awaited.
+    pub(crate) fn awaits_begin(&self) -> bool
+        ensures { result ≡ awaits_begin (flags_of self.now) }
+    {
+        !self.begin_heard && !(self.end_sent || self.end_heard)
+    }
+
+    /// The peer's begin was heard, and there was no end.
+    pub(crate) fn takes_frames(&self) -> bool
+        ensures { result ≡ takes_frames (flags_of self.now) }
+    {
+        self.begin_heard && !(self.end_sent || self.end_heard)
+    }
+
+    /// Our end was sent, and the peer's is awaited.
+    pub(crate) fn is_ending(&self) -> bool
+        ensures { result ≡ is_ending (flags_of self.now) }
+    {
+        self.end_sent && !self.end_heard
+    }
+
+    /// The id of the delivery that begins next.
+    pub(crate) fn next_delivery(&self) -> u32
+        ensures { result ≡ wire (self.now.windows.first + self.now.deliveries) }
+    {
+        self.windows.first().wrapping_add(self.deliveries)
+    }
+}

@@ -1,0 +1,163 @@
+-- What holds at all times goes on with a step, with what is put and with what is popped.
+use Rattle.std.proofs.Common.{◌≡◌, ◌<◌, ◌≤◌, ℕ, ◌+◌, ◌^◌, zero, suc, Option, Some, None, List, [], ◌∷◌, ◌++◌, length, map, drop, reverse, refl, sym, ap, ◌∙◌, subst, arith, length-append}
+use Rattle.std.specs.Prelude.{option_to_list, slice_get}
+use Rattle.std.proofs.lemmas.List.{reverse-append, length-reverse, drop-append-le}
+use Rattle.amqp_rules.specs.declared.config.Config.{Config}
+use Rattle.amqp_rules.specs.declared.reply.Reply.{Reply}
+use Rattle.amqp_rules.specs.Limits.{IsWithinLimits}
+use Rattle.amqp_rules.specs.View.{View, initial}
+use Rattle.amqp_frames.specs.declared.frame.Frame.{Frame}
+use Rattle.amqp_endpoint.specs.declared.plan.Plan.{Plan}
+use Rattle.amqp_endpoint.specs.Plan.{plan_reply, planned, sent_frames, octets_sent as octets_of_plan}
+use Rattle.amqp_journal.specs.Planning.{PlansStep}
+use Rattle.amqp_laws.specs.declared.entry.Entry.{Entry}
+use Rattle.amqp_laws.specs.declared.entry.Step.{Step}
+use Rattle.amqp_laws.specs.Past.{past}
+use Rattle.amqp_laws.specs.At.{at}
+use Rattle.amqp_laws.specs.Lawful.{IsLawful, Answers, GoesOn, next}
+use Rattle.amqp_journal.specs.Log.{Log, new_log, logging, putting, popping}
+use Rattle.amqp_journal.specs.Units.{units, octets_sent}
+use Rattle.amqp_journal.specs.Kept.{IsKept}
+use Rattle.amqp_journal.proofs.UnitLaws.{logged-behind, put-behind, logged-within, put-within}
+
+-- so is the law of one entry more
+abbrev pub GoesOnAlong : Config → Type 0
+GoesOnAlong c = (journal : List Entry) → IsWithinLimits c → IsLawful c (past journal) → GoesOn c journal
+
+lawful-more : (l : Log) (step : Step) (reply : Reply) → IsLawful l.config (past l.journal) → length l.journal < l.config.journal_limit
+    → Answers (at l.config (past l.journal)) step reply → IsLawful l.config (past (l.journal ++ record { step = step; reply = reply } ∷ []))
+lawful-more l step reply h room a =
+    let e : Entry = record { step = step; reply = reply } in
+    let here : past (l.journal ++ e ∷ []) ≡ e ∷ past l.journal = reverse-append l.journal (e ∷ []) in
+    let many : length (past l.journal) ≡ length l.journal = length-reverse l.journal in
+    subst (λ (p : List Entry). IsLawful l.config p) (sym here) (record { short = omega (arith, many, room); replayed = (h.replayed, a) })
+
+pub kept-logged : (l : Log) (endpoint after : View) (queue : List (List ℕ)) (step : Step) (reply : Reply) (unit : Option (List ℕ)) → GoesOnAlong l.config → IsKept l endpoint queue
+    → length l.journal < l.config.journal_limit → Answers (at l.config (past l.journal)) step reply → after ≡ next (at l.config (past l.journal)) step
+    → option_to_list unit ≡ map (λ s. s.bytes) reply.sent → IsKept (logging l step reply) after (queue ++ option_to_list unit)
+kept-logged l endpoint after queue step reply unit goes k room a n u =
+    let e : Entry = record { step = step; reply = reply } in
+    let lawful = lawful-more l step reply k.lawful room a in
+    let behind : units (logging l step reply) ≡ units l ++ octets_sent e = logged-behind l e k.within in
+    let some : l.popped ≤ length (units l) = k.some in
+    let few : length (units l) ≤ length l.journal + length l.put = k.few in
+    let one : length (option_to_list unit) ≤ 1 = at-most-one unit in
+    let same : length (option_to_list unit) ≡ length (octets_sent e) = ap length u in
+    let many : length (units (logging l step reply)) ≡ length (units l) + length (octets_sent e) = ap length behind ∙ length-append (units l) (octets_sent e) in
+    let longer : length (l.journal ++ e ∷ []) ≡ length l.journal + 1 = length-append l.journal (e ∷ []) in
+    record {
+      limits = k.limits;
+      lawful = lawful;
+      is_at = n ∙ sym (goes (l.journal ++ e ∷ []) k.limits lawful l.journal e refl);
+      queued = (λ i. k.queued i ++ u i) ∙ sym (drop-append-le l.popped (units l) (octets_sent e) some) ∙ ap (drop l.popped) (sym behind);
+      within = logged-within l e k.within;
+      some = omega (arith, some, many);
+      few = omega (arith, few, one, same, many, longer);
+    }
+  where
+    at-most-one : (o : Option (List ℕ)) → length (option_to_list o) ≤ 1
+    at-most-one None = omega arith
+    at-most-one (Some x) = omega arith
+
+pub kept-put : (l : Log) (endpoint : View) (queue : List (List ℕ)) (octets : List ℕ) → IsKept l endpoint queue → IsKept (putting l octets) endpoint (queue ++ octets ∷ [])
+kept-put l endpoint queue octets k =
+    let behind : units (putting l octets) ≡ units l ++ octets ∷ [] = put-behind l octets in
+    let some : l.popped ≤ length (units l) = k.some in
+    let few : length (units l) ≤ length l.journal + length l.put = k.few in
+    let many : length (units (putting l octets)) ≡ length (units l) + 1 = ap length behind ∙ length-append (units l) (octets ∷ []) in
+    let longer : length (l.put ++ (length l.journal, octets) ∷ []) ≡ length l.put + 1 = length-append l.put ((length l.journal, octets) ∷ []) in
+    record {
+      limits = k.limits;
+      lawful = k.lawful;
+      is_at = k.is_at;
+      queued = ap (λ q. q ++ octets ∷ []) k.queued ∙ sym (drop-append-le l.popped (units l) (octets ∷ []) some) ∙ ap (drop l.popped) (sym behind);
+      within = put-within l octets k.within;
+      some = omega (arith, some, many);
+      few = omega (arith, few, many, longer);
+    }
+
+-- the first of what is left is in its place
+first-left : (n : ℕ) (xs : List (List ℕ)) (y : List ℕ) (ys : List (List ℕ)) → y ∷ ys ≡ drop n xs → (slice_get xs n ≡ Some y) × (ys ≡ drop (n + 1) xs) × (n + 1 ≤ length xs)
+first-left zero [] y ys h = absurd (cc)
+first-left zero (x ∷ xs) y ys h = (let e : y ≡ x = cc in ap (λ z. Some z) (sym e), let e : ys ≡ xs = cc in e, omega arith)
+first-left (suc n) [] y ys h = absurd (cc)
+first-left (suc n) (x ∷ xs) y ys h =
+    let rest = first-left n xs y ys h in
+    let short : n + 1 ≤ length xs = rest.2 in
+    let more : suc n + 1 ≡ suc (n + 1) = omega arith in
+    (rest.0, rest.1 ∙ ap (λ k. drop k (x ∷ xs)) (sym more), omega (arith, short))
+
+pub popped-first : (l : Log) (endpoint : View) (queue left : List (List ℕ)) (bytes : List ℕ) → IsKept l endpoint queue → queue ≡ bytes ∷ left → slice_get (units l) l.popped ≡ Some bytes
+popped-first l endpoint queue left bytes k e = (first-left l.popped (units l) bytes left (sym e ∙ k.queued)).0
+
+pub kept-popped : (l : Log) (endpoint : View) (queue left : List (List ℕ)) (bytes : List ℕ) → IsKept l endpoint queue → queue ≡ bytes ∷ left → IsKept (popping l) endpoint left
+kept-popped l endpoint queue left bytes k e =
+    let first = first-left l.popped (units l) bytes left (sym e ∙ k.queued) in
+    record { limits = k.limits; lawful = k.lawful; is_at = k.is_at; queued = first.1; within = k.within; some = first.2; few = k.few }
+
+-- before the first step
+pub kept-first : (c : Config) (endpoint : View) → IsWithinLimits c → endpoint ≡ initial c → initial c ≡ at c (past []) → IsKept (new_log c) endpoint []
+kept-first c endpoint limits e first =
+    record {
+      limits = limits;
+      lawful = record { short = omega arith; replayed = tt };
+      is_at = e ∙ first;
+      queued = refl;
+      within = tt;
+      some = omega arith;
+      few = omega arith;
+    }
+
+-- the queue is as long as what waits
+pub put-out : (l : Log) (endpoint : View) (queue : List (List ℕ)) → IsKept l endpoint queue → l.popped + length queue ≡ length (units l)
+put-out l endpoint queue k = ap (λ q. l.popped + length q) k.queued ∙ by l.popped (units l) k.some
+  where
+    by : (n : ℕ) (xs : List (List ℕ)) → n ≤ length xs → n + length (drop n xs) ≡ length xs
+    by zero xs h = omega arith
+    by (suc n) [] h = absurd (omega arith)
+    by (suc n) (x ∷ xs) h = let rest = by n xs (omega (arith, h)) in omega (arith, rest)
+
+pub few-steps : (c : Config) → IsWithinLimits c → c.journal_limit ≤ 2 ^ 30
+few-steps c h = let few : c.journal_limit ≤ 1073741824 = h.few in omega (arith, few)
+
+-- the same of parts that were changed one by one
+pub kept-step : (c : Config) (before after : List Entry) (put : List (ℕ × List ℕ)) (popped : ℕ) (endpoint later : View) (queue queued : List (List ℕ)) (step : Step) (reply : Reply) (unit : Option (List ℕ))
+    → GoesOnAlong c → IsKept (record { config = c; journal = before; put = put; popped = popped }) endpoint queue → length before < c.journal_limit → Answers (at c (past before)) step reply
+    → later ≡ next (at c (past before)) step → option_to_list unit ≡ map (λ s. s.bytes) reply.sent → after ≡ before ++ record { step = step; reply = reply } ∷ [] → queued ≡ queue ++ option_to_list unit
+    → IsKept (record { config = c; journal = after; put = put; popped = popped }) later queued
+kept-step c before after put popped endpoint later queue queued step reply unit goes k room a n u j q =
+    let l : Log = record { config = c; journal = before; put = put; popped = popped } in
+    let here : IsKept (logging l step reply) later (queue ++ option_to_list unit) = kept-logged l endpoint later queue step reply unit goes k room a n u in
+    let P : List (List ℕ) → Type 0 = λ x. IsKept (record { config = c; journal = after; put = put; popped = popped }) later x in
+    let Q : List Entry → Type 0 = λ x. IsKept (record { config = c; journal = x; put = put; popped = popped }) later (queue ++ option_to_list unit) in
+    subst P (sym q) (subst Q (sym j) here)
+
+-- of a plan that was committed
+pub kept-planned : (c : Config) (before after : List Entry) (put : List (ℕ × List ℕ)) (popped : ℕ) (endpoint later : View) (queue queued : List (List ℕ)) (step : Step) (reply : Reply) (unit : Option (List ℕ)) (plan : Plan)
+    (old : Log) → GoesOnAlong c → IsKept (record { config = c; journal = before; put = put; popped = popped }) endpoint queue → record { config = c; journal = before; put = put; popped = popped } ≡ old
+    → length old.journal < old.config.journal_limit → PlansStep (at old.config (past old.journal)) step plan → reply ≡ plan_reply plan endpoint → later ≡ planned endpoint plan
+    → unit ≡ octets_of_plan plan.frame → after ≡ before ++ record { step = step; reply = reply } ∷ [] → queued ≡ queue ++ option_to_list unit
+    → IsKept (record { config = c; journal = after; put = put; popped = popped }) later queued
+kept-planned c before after put popped endpoint later queue queued step reply unit plan old goes k same room due r is u j q =
+    let P : Log → Type 0 = λ l. PlansStep (at l.config (past l.journal)) step plan in
+    let R : Log → Type 0 = λ l. length l.journal < l.config.journal_limit in
+    let S : View → Type 0 = λ v. Answers (at c (past before)) step (plan_reply plan v) in
+    let T : Reply → Type 0 = λ x. Answers (at c (past before)) step x in
+    let here : PlansStep (at c (past before)) step plan = subst P (sym same) due in
+    let answers : Answers (at c (past before)) step reply = subst T (sym r) (subst S (sym k.is_at) here.due) in
+    let along : later ≡ next (at c (past before)) step = is ∙ ap (λ (v : View). planned v plan) k.is_at ∙ sym here.leaves in
+    let sent : option_to_list unit ≡ map (λ s. s.bytes) reply.sent = ap option_to_list u ∙ octets-alone plan.frame ∙ sym (ap (λ (x : Reply). map (λ s. s.bytes) x.sent) r) in
+    kept-step c before after put popped endpoint later queue queued step reply unit goes k (subst R (sym same) room) answers along sent j q
+  where
+    octets-alone : (f : Option Frame) → option_to_list (octets_of_plan f) ≡ map (λ s. s.bytes) (sent_frames f)
+    octets-alone None = refl
+    octets-alone (Some f) = refl
+
+pub kept-put-parts : (c : Config) (journal : List Entry) (before after : List (ℕ × List ℕ)) (popped : ℕ) (endpoint : View) (queue queued : List (List ℕ)) (octets : List ℕ)
+    → IsKept (record { config = c; journal = journal; put = before; popped = popped }) endpoint queue → after ≡ before ++ (length journal, octets) ∷ [] → queued ≡ queue ++ octets ∷ []
+    → IsKept (record { config = c; journal = journal; put = after; popped = popped }) endpoint queued
+kept-put-parts c journal before after popped endpoint queue queued octets k p q =
+    let l : Log = record { config = c; journal = journal; put = before; popped = popped } in
+    let P : List (List ℕ) → Type 0 = λ x. IsKept (record { config = c; journal = journal; put = after; popped = popped }) endpoint x in
+    let Q : List (ℕ × List ℕ) → Type 0 = λ x. IsKept (record { config = c; journal = journal; put = x; popped = popped }) endpoint (queue ++ octets ∷ []) in
+    subst P (sym q) (subst Q (sym p) (kept-put l endpoint queue octets k))
