@@ -1,5 +1,5 @@
--- A decimal number that is read digit by digit.
-use Rattle.std.proofs.Common.{◌≡◌, ℕ, ◌+◌, ◌*◌, ◌<◌, ◌≤◌, ◌^◌, List, [], ◌∷◌, length, drop, get_or, refl, sym, ◌∙◌, ap, subst, arith, drop-cons, add-one, length-drop}
+-- A decimal number below a limit that is read digit by digit.
+use Rattle.std.proofs.Common.{◌≡◌, ℕ, ◌+◌, ◌*◌, ◌<◌, ◌≤◌, List, [], ◌∷◌, length, drop, get_or, refl, sym, ◌∙◌, ap, subst, arith, drop-cons, add-one, length-drop}
 use Rattle.std.proofs.lemmas.List.{nil_from_length}
 use Rattle.std.specs.Char.{digit_value}
 use Rattle.std.specs.Str.Parse.{AllDigits, IsNumeral, digits_value_after, digits_value}
@@ -36,22 +36,22 @@ one_more word place value next inside read is_digit is_next =
       on = λ all. (here.on all).1;
     }
 
-pub no_digit : (word : List ℕ) (place value : ℕ) → place < length word → IsReadUpTo word (drop place word) value
-    → ¬ (digit_value (get_or word place 0) < 10) → ¬ (IsNumeral 10 word × (digits_value 10 word < 2 ^ 32))
-no_digit word place value inside read none numeral = none ((opened word place value inside read).on numeral.0.1).0
+pub no_digit : (limit : ℕ) (word : List ℕ) (place value : ℕ) → place < length word → IsReadUpTo word (drop place word) value
+    → ¬ (digit_value (get_or word place 0) < 10) → ¬ (IsNumeral 10 word × (digits_value 10 word < limit))
+no_digit limit word place value inside read none numeral = none ((opened word place value inside read).on numeral.0.1).0
 
-pub too_large : (word : List ℕ) (place value : ℕ) → place < length word → IsReadUpTo word (drop place word) value
-    → 2 ^ 32 ≤ value * 10 + digit_value (get_or word place 0) → ¬ (IsNumeral 10 word × (digits_value 10 word < 2 ^ 32))
-too_large word place value inside read large numeral =
+pub too_large : (limit : ℕ) (word : List ℕ) (place value : ℕ) → place < length word → IsReadUpTo word (drop place word) value
+    → limit ≤ value * 10 + digit_value (get_or word place 0) → ¬ (IsNumeral 10 word × (digits_value 10 word < limit))
+too_large limit word place value inside read large numeral =
     let here = opened word place value inside read in
     let more = grows (value * 10 + digit_value (get_or word place 0)) (drop (place + 1) word) in
     let same : digits_value_after 10 (value * 10 + digit_value (get_or word place 0)) (drop (place + 1) word) ≡ digits_value 10 word = here.same in
     omega (arith, more, same, numeral.1, large)
 
 -- no digit is left
-pub all_read : (word : List ℕ) (place value : ℕ) → length word ≤ place → 0 < length word → IsReadUpTo word (drop place word) value
-    → value < 2 ^ 32 → (IsNumeral 10 word × (digits_value 10 word < 2 ^ 32)) × (value ≡ digits_value 10 word)
-all_read word place value past some read fits =
+pub all_read : (limit : ℕ) (word : List ℕ) (place value : ℕ) → length word ≤ place → 0 < length word → IsReadUpTo word (drop place word) value
+    → value < limit → (IsNumeral 10 word × (digits_value 10 word < limit)) × (value ≡ digits_value 10 word)
+all_read limit word place value past some read fits =
     let none : drop place word ≡ [] = nil_from_length (drop place word) (omega (arith, length-drop place word)) in
     let P : List ℕ → Type 0 = λ rest. IsReadUpTo word rest value in
     let whole = subst P none read in

@@ -1,4 +1,4 @@
-use Rattle.amqp_endpoint.specs.Limits.{IsWithinLimits}
+use Rattle.amqp_rules.specs.Limits.{IsWithinLimits}
 use Rattle.amqp_peer.specs.declared.command_line.Request.{Request}
 use Rattle.amqp_peer.specs.declared.command_line.Request.TheVariants.{Script, Frames}
 

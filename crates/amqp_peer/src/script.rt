@@ -1,7 +1,7 @@
 //! The command `script`: each line is an operation, a heard frame or a question, and is answered by one line.
 ghost use Rattle.std.specs.Prelude.{◌<◌, OnOk, OnSome, length};
 ghost use Rattle.std.specs.Io.KnownBytes.{IsAtEnd};
-ghost use Rattle.amqp_endpoint.specs.Limits.{IsWithinLimits};
+ghost use Rattle.amqp_rules.specs.Limits.{IsWithinLimits};
 
 pub mod answer;
 pub mod line;
@@ -60,6 +60,7 @@ impl LineTaker for Script {
 impl Script {
     fn answer_line<W: Write>(&mut self, octets: &[u8], writer: &mut W) -> Result<(), RunFault> {
         match Line::read(self.alloc, octets) {
+            Ok(Line::Opened(max)) => self.open(max, writer),
             Ok(Line::Own(op)) => self.apply(op, writer),
             Ok(Line::Hear(frame)) => self.hear(frame, writer),
             Ok(Line::Windows) => print(writer, Answer::Windows(self.logged.endpoint().windows())),
@@ -67,6 +68,7 @@ impl Script {
                 let status = self.logged.endpoint().status(link);
                 print(writer, Answer::Link(link, status))
             }
+            Ok(Line::Held(role)) => print(writer, Answer::Held(self.logged.endpoint(), role)),
             Err(LineFault::Bad) => {
                 self.outcome = Outcome::SomeLineBad;
                 print(writer, Answer::BadLine)
@@ -75,13 +77,19 @@ impl Script {
         }
     }
 
+    fn open<W: Write>(&mut self, max: u32, writer: &mut W) -> Result<(), RunFault> {
+        match self.logged.opened(max) {
+            Ok(()) => self.print_entry(writer),
+            Err(fault) => print_refusal(writer, fault),
+        }
+    }
+
     fn apply<W: Write>(&mut self, op: Op, writer: &mut W) -> Result<(), RunFault> {
         let applied = self.logged.apply(&op);
         drop(op);
         match applied {
             Ok(_) => self.print_entry(writer),
-            Err(Refusal::NoMemory) => Err(RunFault::Memory(AllocError)),
-            Err(refusal) => print(writer, Answer::Refused(refusal)),
+            Err(refusal) => print_refusal(writer, refusal),
         }
     }
 
@@ -104,6 +112,14 @@ impl Script {
         let journal = self.logged.journal();
         let entry = &journal[journal.len() - 1];
         print(writer, Answer::Stepped(&entry.reply))
+    }
+}
+
+/// Answers an operation that was refused. Memory that was refused ends the run.
+fn print_refusal<W: Write>(writer: &mut W, refusal: Refusal) -> Result<(), RunFault> {
+    match refusal {
+        Refusal::NoMemory => Err(RunFault::Memory(AllocError)),
+        refusal => print(writer, Answer::Refused(refusal)),
     }
 }
 

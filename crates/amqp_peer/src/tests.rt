@@ -13,32 +13,45 @@ use std::test::Fail;
 
 const LONGEST: u32 = 1073741824;
 
-/// A start that finds no credit at first.
+/// A start in a session that has not begun.
 const START: &[u8] = b"start 0 01 0 1 0 78\n";
 
-const START_REFUSED: &[u8] = b"refused 14\n";
+const NOT_MAPPED: &[u8] = b"refused 4\n";
 
-const HEAR: &[u8] = b"hear 0000001e02000000005313c0110743700000080043707fffffff43435205\n";
+/// Both ends have begun the session.
+const MAPPED: &[u8] = b"opened 65536
+begin
+hear 0000001c02000000005311c00f04600000437000000800707fffffff
+";
 
-const HEARD: &[u8] = b"ok given=none ended=- frames=-\n";
+/// And a link is attached on which this end sends.
+const SENDING: &[u8] = b"opened 65536
+begin
+hear 0000001c02000000005311c00f04600000437000000800707fffffff
+attach sender q 2 0 0 0
+hear 0000001302000000005312c00603a101714341
+";
 
-/// The script's answers are these, and whether each of its lines was one.
-fn answers(alloc: Global, limit: u32, script: &[u8], wanted: &[u8]) -> Result<bool, Fail> {
-    answers_from(alloc, 0, limit, script, wanted)
-}
+/// And a link is attached on which this end receives, with two credits.
+const RECEIVING: &[u8] = b"opened 65536
+begin
+hear 0000001c02000000005311c00f04600000437000000800707fffffff
+attach receiver q 2 0 0 0
+hear 0000001c02000000005312c00f0aa101714342500250004040404043
+grant 0 2 0 0
+";
 
-/// The same of a session whose first id is this.
-fn answers_from(
+/// What the script is answered, on a session with this first id and a journal of at most so many steps, and whether each of its lines was one.
+fn answers(
     alloc: Global,
     first_id: u32,
-    limit: u32,
+    journal_limit: u32,
     script: &[u8],
-    wanted: &[u8],
-) -> Result<bool, Fail> {
+) -> Result<(Vec<u8>, Outcome), Fail> {
     let config = Config {
         first_id,
         window: 2048,
-        journal_limit: limit,
+        journal_limit,
     };
     if !config.is_within_limits() {
         return Err(Fail::new("the limit"));
@@ -46,47 +59,35 @@ fn answers_from(
     let mut reader: &[u8] = script;
     let mut answers: Vec<u8> = Vec::new(alloc);
     let outcome = run_script(alloc, &config, &mut reader, &mut answers)?;
+    Ok((answers, outcome))
+}
+
+/// The script's answers are these, and whether each of its lines was one.
+fn answers_so(alloc: Global, script: &[u8], wanted: &[u8]) -> Result<bool, Fail> {
+    let (answers, outcome) = answers(alloc, 0, LONGEST, script)?;
     if answers.as_slice() != wanted {
         return Err(Fail::new("other answers"));
     }
     Ok(outcome == Outcome::EachLineGood)
 }
 
-#[test]
-fn first_path(rt: HostRuntime) -> Result<(), Fail> {
-    let script = b"start 0 01 0 1 0 78
-hear 0000001e02000000005313c0110743700000080043707fffffff43435205
-start 0 01 0 1 0 78
-start 0 01 0 1 0 78
-windows
-link 0
-";
-    let wanted = b"refused 14
-ok given=none ended=- frames=-
-ok given=delivery:0 ended=- frames=0000001602000000005314c008054343a00101434178
-ok given=delivery:1 ended=- frames=0000001702000000005314c00905435201a00101434178
-windows next-in=0 in=2048 next-out=2 remote-in=2046 remote-out=2147483647 delivery=2
-link 0 role=sender phase=attached count=2 credit=3 drain=0 mid=0 ready=0
-";
-    assert!(rt; answers(rt.alloc(), LONGEST, script.as_slice(), wanted.as_slice())?);
-    Ok(())
-}
-
-#[test]
-fn refusals(rt: HostRuntime) -> Result<(), Fail> {
-    let alloc = rt.alloc();
-    assert!(rt; answers(alloc, LONGEST, b"start 1 01 0 1 0 78\n", b"refused 5\n")?);
-    let script = b"hear 0000001e02000000005313c0110743700000080043707fffffff43435205
-start 0 01 0 1 0 78
-";
-    let wanted = b"ok given=none ended=- frames=-\nrefused 2\n";
-    assert!(rt; answers(alloc, 1, script.as_slice(), wanted.as_slice())?);
-    Ok(())
+/// After this setup the last answers to the script are these.
+fn ends_so(
+    alloc: Global,
+    first_id: u32,
+    setup: &[u8],
+    script: &[u8],
+    wanted: &[u8],
+) -> Result<bool, Fail> {
+    let mut lines = Vec::from_slice(alloc, setup)?;
+    lines.extend_from_slice(script)?;
+    let (answers, _) = answers(alloc, first_id, LONGEST, lines.as_slice())?;
+    Ok(answers.ends_with(wanted))
 }
 
 #[test]
 fn bad_lines_among_good_ones(rt: HostRuntime) -> Result<(), Fail> {
-    let bad: [&[u8]; 26] = [
+    let bad: [&[u8]; 31] = [
         b"",
         b" ",
         b"link",
@@ -101,15 +102,20 @@ fn bad_lines_among_good_ones(rt: HostRuntime) -> Result<(), Fail> {
         b"windows 0",
         b"\xff",
         b"link \xc3\xa9",
-        b"begin",
+        b"begin 0",
         b"hear",
         b"hear -",
         b"hear 0000001e02000000005313c0110743700000080043707fffffff434352",
         b"hear 0000001e02000000005313c0110743700000080043707fffffff43435205 ",
         b"hear 0000001e02000000005313c0110743700000080043707fffffff434352050",
-        b"start 0 01 0 0 0 78",
-        b"start 0 01 0 1 1 78",
         b"start 0 01 0 01 0 78",
+        b"attach sender q 256 0 0 0",
+        b"attach sender  2 0 0 0",
+        b"attach sender \xff 2 0 0 0",
+        b"attach sender q 2 0 0 18446744073709551616",
+        b"attach Sender q 2 0 0 0",
+        b"dispose sender 0 0 1 rejected",
+        b"held",
         b"start 0 01 0 1 0 7",
         b"start 0  0 1 0 78",
         b"start 0 010203040506070809101112131415161718192021222324252627282930313233 0 1 0 78",
@@ -119,7 +125,7 @@ fn bad_lines_among_good_ones(rt: HostRuntime) -> Result<(), Fail> {
         script.extend_from_slice(line)?;
         script.extend_from_slice(b"\nlink 1\n")?;
         let wanted = b"link 1 none\nbad line\nlink 1 none\n";
-        let all_good = answers(rt.alloc(), LONGEST, script.as_slice(), wanted.as_slice())?;
+        let all_good = answers_so(rt.alloc(), script.as_slice(), wanted.as_slice())?;
         assert!(rt; !all_good);
     }
     Ok(())
@@ -128,26 +134,20 @@ fn bad_lines_among_good_ones(rt: HostRuntime) -> Result<(), Fail> {
 #[test]
 fn forms_of_good_lines(rt: HostRuntime) -> Result<(), Fail> {
     let alloc = rt.alloc();
-    assert!(rt; answers(alloc, LONGEST, b"", b"")?);
-    assert!(rt;
-        answers(
-            alloc,
-            LONGEST,
-            b"link 4294967295",
-            b"link 4294967295 none\n"
-        )?
-    );
+    assert!(rt; answers_so(alloc, b"", b"")?);
+    let none = b"link 4294967295 none\n";
+    assert!(rt; answers_so(alloc, b"link 4294967295", none)?);
     let good: [&[u8]; 3] = [
         b"hear 0000001E02000000 005313C01107 43 7000000800 43 707fffffff 43 43 5205",
         b"hear 0 0 00001e02000000005313c0110743700000080043707fffffff43435205\n",
         b"hear 0000001e02000000005313c0110743700000080043707fffffff43435205",
     ];
     for script in good {
-        assert!(rt; answers(alloc, LONGEST, script, HEARD)?);
+        assert!(rt; answers_so(alloc, script, b"violation 2\n")?);
     }
     let longest_tag =
         b"start 0 0102030405060708091011121314151617181920212223242526272829303132 0 1 0 -";
-    assert!(rt; answers(alloc, LONGEST, longest_tag.as_slice(), START_REFUSED)?);
+    assert!(rt; answers_so(alloc, longest_tag.as_slice(), NOT_MAPPED)?);
     Ok(())
 }
 
@@ -159,7 +159,8 @@ fn long_line(rt: HostRuntime) -> Result<(), Fail> {
         window: 2048,
         journal_limit: LONGEST,
     };
-    let mut script = Vec::from_slice(rt.alloc(), HEAR)?;
+    let mut script = Vec::from_slice(rt.alloc(), SENDING)?;
+    script.extend_from_slice(CREDIT)?;
     script.extend_from_slice(b"start 0 01 0 1 0 ")?;
     for _ in 0..70000 {
         script.extend_from_slice(b"78")?;
@@ -171,8 +172,7 @@ fn long_line(rt: HostRuntime) -> Result<(), Fail> {
     assert!(rt; config.is_within_limits());
     let outcome = run_script(rt.alloc(), &config, &mut reader, &mut answers)?;
     assert_eq!(rt; outcome, Outcome::EachLineGood);
-    let wanted = b"ok given=none ended=- frames=-\nrefused 27\nlink 1 none\n";
-    assert_eq!(rt; answers.as_slice(), wanted.as_slice());
+    assert!(rt; answers.ends_with(b"\nrefused 27\nlink 1 none\n"));
     Ok(())
 }
 
@@ -254,13 +254,13 @@ fn failing_writer(rt: HostRuntime) -> Result<(), Fail> {
     script.extend_from_slice(START)?;
     let mut reader: &[u8] = script.as_slice();
     let mut writer = HasRoom {
-        room: START_REFUSED.len(),
+        room: NOT_MAPPED.len(),
         taken: Vec::new(rt.alloc()),
     };
     assert!(rt; config.is_within_limits());
     let outcome = run_script(rt.alloc(), &config, &mut reader, &mut writer);
     assert!(rt; matches!(&outcome, Err(RunFault::Write(_))));
-    assert_eq!(rt; writer.taken.as_slice(), START_REFUSED);
+    assert_eq!(rt; writer.taken.as_slice(), NOT_MAPPED);
     Ok(())
 }
 
@@ -360,19 +360,31 @@ fn faulty(fault: FrameFault) -> Framed {
     }
 }
 
+/// The lines of `examples/frames.hex`, and a close under its descriptor's name.
 #[test]
 fn frames_are_named(rt: HostRuntime) -> Result<(), Fail> {
     let alloc = rt.alloc();
-    let close = b"0000001b02000000 00a30f616d71703a636c6f73653a6c69737445";
-    let joined = b"0000001b0200000000a30f616d71703a636c6f73653a6c69737445\n";
+    let lines = b"0000001c02000000005311c00f04600000437000000800707fffffff
+0000001b02000000005314c0070443
+43a00100430053
+75a0026869
+0000000c0200000000531845
+";
+    let wanted = b"channel=0 name=begin fields=4 payload=0
+channel=0 name=transfer fields=4 payload=7
+channel=0 name=close fields=0 payload=0
+total begin 1
+total transfer 1
+total close 1
+";
+    let example = framed(alloc, lines.as_slice(), wanted.as_slice())?;
+    assert_eq!(rt; example, ALL_GOOD);
+    let close = b"0000001b0200000000a30f616d71703a636c6f73653a6c69737445\n";
     let wanted = b"channel=0 name=close fields=0 payload=0\ntotal close 1\n";
-    assert_eq!(rt;
-        framed(alloc, joined.as_slice(), wanted.as_slice())?,
-        ALL_GOOD
-    );
-    let spaced = framed(alloc, close.as_slice(), b"bad line\n")?;
+    let named = framed(alloc, close.as_slice(), wanted.as_slice())?;
+    assert_eq!(rt; named, ALL_GOOD);
+    let spaced = framed(alloc, b"0000000c02000000 00531845", b"bad line\n")?;
     assert_eq!(rt; spaced.lines, Outcome::SomeLineBad);
-    assert_eq!(rt; spaced.octets, Octets::Whole);
     Ok(())
 }
 
@@ -448,77 +460,6 @@ fn frames_of_a_failing_reader(rt: HostRuntime) -> Result<(), Fail> {
 }
 
 #[test]
-fn ids_that_wrap(rt: HostRuntime) -> Result<(), Fail> {
-    let script = b"hear 0000002202000000005313c0150770ffffffff700000080043707fffffff43435205
-start 0 01 0 1 0 -
-start 0 01 0 1 0 -
-";
-    let wanted = b"ok given=none ended=- frames=-
-ok given=delivery:4294967295 ended=- frames=0000001902000000005314c00c054370ffffffffa001014341
-ok given=delivery:0 ended=- frames=0000001502000000005314c008054343a001014341
-";
-    let (script, wanted) = (script.as_slice(), wanted.as_slice());
-    assert!(rt; answers_from(rt.alloc(), 4294967295, LONGEST, script, wanted)?);
-    Ok(())
-}
-
-#[test]
-fn echo_of_the_session(rt: HostRuntime) -> Result<(), Fail> {
-    let script = b"hear 0000002002000000005313c0130a43700000080043707fffffff404040404041
-";
-    let wanted = b"ok given=none ended=- frames=0000001a02000000005313c00d0443700000080043707fffffff
-";
-    let (script, wanted) = (script.as_slice(), wanted.as_slice());
-    assert!(rt; answers_from(rt.alloc(), 0, LONGEST, script, wanted)?);
-    Ok(())
-}
-
-#[test]
-fn an_offer(rt: HostRuntime) -> Result<(), Fail> {
-    let script = b"hear 0000001e02000000005313c0110743700000080043707fffffff43435205
-offer 0 7
-offer 1 7
-";
-    let wanted = b"ok given=none ended=- frames=-
-ok given=none ended=- frames=0000002002000000005313c0130843700000080043707fffffff434352055207
-refused 5
-";
-    let (script, wanted) = (script.as_slice(), wanted.as_slice());
-    assert!(rt; answers_from(rt.alloc(), 0, LONGEST, script, wanted)?);
-    Ok(())
-}
-
-#[test]
-fn beats_and_an_echo_of_the_link(rt: HostRuntime) -> Result<(), Fail> {
-    let script = b"beat
-hear 0000002102000000005313c0140a43700000080043707fffffff43435205404041
-";
-    let wanted = b"ok given=none ended=- frames=0000000802000000
-ok given=none ended=- frames=0000001f02000000005313c0120843700000080043707fffffff4343520543
-";
-    let (script, wanted) = (script.as_slice(), wanted.as_slice());
-    assert!(rt; answers_from(rt.alloc(), 0, LONGEST, script, wanted)?);
-    Ok(())
-}
-
-#[test]
-fn a_drain(rt: HostRuntime) -> Result<(), Fail> {
-    let script = b"drained 0
-hear 0000002002000000005313c0130943700000080043707fffffff434352034041
-drained 0
-drained 0
-";
-    let wanted = b"refused 20
-ok given=none ended=- frames=-
-ok given=none ended=- frames=0000002002000000005313c0130943700000080043707fffffff435203434341
-refused 20
-";
-    let (script, wanted) = (script.as_slice(), wanted.as_slice());
-    assert!(rt; answers_from(rt.alloc(), 0, LONGEST, script, wanted)?);
-    Ok(())
-}
-
-#[test]
 fn frames_in_pieces(rt: HostRuntime) -> Result<(), Fail> {
     let alloc = rt.alloc();
     let named = b"channel=0 name=transfer fields=4 payload=7\ntotal transfer 1\n";
@@ -565,5 +506,368 @@ a0
         framed(alloc, b"0000000c03000000aabbccdd", empty.as_slice())?,
         ALL_GOOD
     );
+    Ok(())
+}
+
+/// The peer's flow gives link 0 five credits.
+const CREDIT: &[u8] = b"hear 0000001e02000000005313c0110743700000080043707fffffff43435205\n";
+
+/// A full journal refuses whatever comes.
+#[test]
+fn a_full_journal(rt: HostRuntime) -> Result<(), Fail> {
+    let alloc = rt.alloc();
+    let mut script = Vec::from_slice(alloc, MAPPED)?;
+    script.extend_from_slice(b"refresh 0\nrefresh 0\n")?;
+    script.extend_from_slice(CREDIT)?;
+    script.extend_from_slice(b"windows\n")?;
+    let (answers, _) = answers(alloc, 0, 4, script.as_slice())?;
+    let wanted = b"ok given=none ended=- frames=0000001a02000000005313c00d0443700000080043707fffffff
+refused 2
+violation 1
+windows next-in=0 in=2048 next-out=0 remote-in=2048 remote-out=2147483647 delivery=0
+";
+    assert!(rt; answers.ends_with(wanted));
+    Ok(())
+}
+
+/// A session is begun once, and ended by the peer.
+#[test]
+fn sessions_begin_and_end(rt: HostRuntime) -> Result<(), Fail> {
+    let alloc = rt.alloc();
+    let script = b"opened 65536
+begin
+begin
+attach sender q 2 0 0 0
+hear 0000001c02000000005311c00f04600000437000000800707fffffff
+";
+    let wanted = b"ok given=none ended=- frames=-
+ok given=none ended=- frames=0000001a02000000005311c00d0440437000000800707fffffff
+refused 3
+refused 4
+ok given=none ended=- frames=-
+";
+    assert!(rt; ends_so(alloc, 0, b"", script, wanted)?);
+    let script = b"hear 0000000c0200000000531745
+begin
+";
+    let wanted = b"ok given=none ended=- frames=0000000c0200000000531745
+refused 3
+";
+    assert!(rt; ends_so(alloc, 0, MAPPED, script, wanted)?);
+    Ok(())
+}
+
+/// A link is attached once, by its name and by the peer's handle; one that the peer offers keeps the credit.
+#[test]
+fn links_are_attached(rt: HostRuntime) -> Result<(), Fail> {
+    let alloc = rt.alloc();
+    let script = b"hear 0000001302000000005312c00603a101714341
+hear 0000001e02000000005313c0110743700000080043707fffffff43405205
+attach sender q 2 0 0 0
+link 0
+";
+    let wanted = b"ok given=offered:0 ended=- frames=-
+ok given=none ended=- frames=-
+ok given=link:0 ended=- frames=0000001c02000000005312c00f0aa101714342500250004040404043
+link 0 role=sender phase=attached count=0 credit=5 drain=0 mid=0 ready=0
+";
+    assert!(rt; ends_so(alloc, 0, MAPPED, script, wanted)?);
+    let script = b"attach sender q 2 0 0 0
+hear 0000001302000000005312c00603a101714341
+hear 0000001002000000005316c003015205
+";
+    let wanted = b"refused 8
+violation 4
+violation 3
+";
+    assert!(rt; ends_so(alloc, 0, SENDING, script, wanted)?);
+    Ok(())
+}
+
+/// What comes on a link that we left is passed over, until the peer leaves it too.
+#[test]
+fn links_are_left(rt: HostRuntime) -> Result<(), Fail> {
+    let alloc = rt.alloc();
+    let script = b"detach 0
+hear 0000001b02000000005314c007044343a0010143005375a0026869
+windows
+hear 0000001002000000005316c003024341
+link 0
+";
+    let wanted = b"ok given=none ended=- frames=0000001002000000005316c003024341
+ok given=none ended=- frames=-
+windows next-in=1 in=2047 next-out=0 remote-in=2048 remote-out=2147483646 delivery=0
+ok given=gone:0 ended=- frames=-
+link 0 none
+";
+    assert!(rt; ends_so(alloc, 0, RECEIVING, script, wanted)?);
+    Ok(())
+}
+
+/// The peer's window is counted from the transfer that it awaits.
+#[test]
+fn windows_are_counted(rt: HostRuntime) -> Result<(), Fail> {
+    let alloc = rt.alloc();
+    let script = b"hear 0000001f02000000005313c01207520a700000080043707fffffff43435205
+start 0 01 0 1 0 78
+start 0 02 0 1 0 78
+start 0 03 0 1 0 78
+hear 0000001802000000005313c00b04520b520443707fffffff
+windows
+";
+    let wanted = b"ok given=none ended=- frames=-
+windows next-in=0 in=2048 next-out=13 remote-in=2 remote-out=2147483647 delivery=13
+";
+    assert!(rt; ends_so(alloc, 10, SENDING, script, wanted)?);
+    let script = b"hear 0000001f02000000005313c01207520a700000080043707fffffff43435205
+start 0 01 0 1 0 78
+start 0 02 0 1 0 78
+hear 0000001702000000005313c00a0440520443707fffffff
+windows
+";
+    let wanted = b"ok given=none ended=- frames=-
+windows next-in=0 in=2048 next-out=12 remote-in=2 remote-out=2147483647 delivery=12
+";
+    assert!(rt; ends_so(alloc, 10, SENDING, script, wanted)?);
+    let script = b"hear 0000001f02000000005313c01207520a700000080043707fffffff43435205
+start 0 01 0 1 0 78
+start 0 02 0 1 0 78
+start 0 03 0 1 0 78
+hear 0000001802000000005313c00b04520e520443707fffffff
+windows
+";
+    let wanted = b"violation 6
+windows next-in=0 in=2048 next-out=13 remote-in=2045 remote-out=2147483647 delivery=13
+";
+    assert!(rt; ends_so(alloc, 10, SENDING, script, wanted)?);
+    Ok(())
+}
+
+/// A delivery that finds no credit has changed nothing; credit that is left is given up where the peer wishes it.
+#[test]
+fn credit_is_used_up(rt: HostRuntime) -> Result<(), Fail> {
+    let alloc = rt.alloc();
+    let script = b"hear 0000001e02000000005313c0110743700000080043707fffffff43435201
+start 0 01 0 1 0 78
+start 0 02 0 1 0 78
+windows
+";
+    let wanted = b"refused 14
+windows next-in=0 in=2048 next-out=1 remote-in=2047 remote-out=2147483647 delivery=1
+";
+    assert!(rt; ends_so(alloc, 0, SENDING, script, wanted)?);
+    let script = b"drained 0
+hear 0000002002000000005313c0130943700000080043707fffffff434352034041
+drained 0
+drained 0
+";
+    let wanted = b"refused 20
+ok given=none ended=- frames=-
+ok given=none ended=- frames=0000002002000000005313c0130943700000080043707fffffff435203434341
+refused 20
+";
+    assert!(rt; ends_so(alloc, 0, SENDING, script, wanted)?);
+    Ok(())
+}
+
+/// A grant is no larger than serial numbers allow, does not fall, and waits while a drain is open.
+#[test]
+fn credit_is_granted(rt: HostRuntime) -> Result<(), Fail> {
+    let alloc = rt.alloc();
+    let script = b"grant 0 2147483648 0 0
+grant 0 1 0 0
+grant 0 2 1 0
+grant 0 3 0 0
+";
+    let wanted = b"refused 17
+refused 18
+ok given=none ended=- frames=0000002002000000005313c0130943700000080043707fffffff434352024041
+refused 19
+";
+    assert!(rt; ends_so(alloc, 0, RECEIVING, script, wanted)?);
+    Ok(())
+}
+
+/// A delivery is held until an end settles it, and its tag is in use so long.
+#[test]
+fn deliveries_are_settled(rt: HostRuntime) -> Result<(), Fail> {
+    let alloc = rt.alloc();
+    let script = b"hear 0000001e02000000005313c0110743700000080043707fffffff43435205
+start 0 01 0 0 0 005375a0026869
+start 0 01 0 0 0 005375a0026869
+held sender
+dispose sender 0 0 1 -
+held sender
+";
+    let wanted =
+        b"ok given=delivery:0 ended=- frames=0000001b02000000005314c007044343a0010143005375a0026869
+refused 12
+held 0:0:-:-
+ok given=none ended=s0 frames=0000001202000000005315c0050442434341
+held -
+";
+    assert!(rt; ends_so(alloc, 0, SENDING, script, wanted)?);
+    Ok(())
+}
+
+/// Ids go on from 4294967295 to 0, and a range over both settles both.
+#[test]
+fn ids_that_wrap(rt: HostRuntime) -> Result<(), Fail> {
+    let alloc = rt.alloc();
+    let script = b"hear 0000002202000000005313c0150770ffffffff700000080043707fffffff43435205
+start 0 01 0 0 0 -
+start 0 02 0 0 0 -
+start 0 03 0 0 0 -
+hear 0000001a02000000005315c00d054170ffffffff434100532445
+hear 0000001a02000000005315c00d054170ffffffff434100532445
+held sender
+learn 0
+";
+    let wanted =
+        b"ok given=delivery:4294967295 ended=- frames=0000001802000000005314c00b044370ffffffffa0010143
+ok given=delivery:0 ended=- frames=0000001402000000005314c007044343a0010243
+ok given=delivery:1 ended=- frames=0000001502000000005314c00804435201a0010343
+ok given=none ended=s4294967295,s0 frames=-
+ok given=none ended=- frames=-
+held 1:0:-:-
+ok given=learned:4294967295:accepted:1 ended=- frames=-
+";
+    assert!(rt; ends_so(alloc, 4294967295, SENDING, script, wanted)?);
+    Ok(())
+}
+
+/// A delivery goes on in further transfers, or is given up.
+#[test]
+fn deliveries_in_parts(rt: HostRuntime) -> Result<(), Fail> {
+    let alloc = rt.alloc();
+    let script = b"hear 0000001e02000000005313c0110743700000080043707fffffff43435205
+start 0 01 0 0 1 78
+carry 0 0 78
+carry 0 0 78
+";
+    let wanted = b"ok given=delivery:0 ended=- frames=0000001702000000005314c009064343a0010143404178
+ok given=none ended=- frames=0000001002000000005314c002014378
+refused 11
+";
+    assert!(rt; ends_so(alloc, 0, SENDING, script, wanted)?);
+    let script = b"hear 0000001e02000000005313c0110743700000080043707fffffff43435205
+start 0 01 0 0 1 78
+abort 0
+";
+    let wanted = b"ok given=none ended=s0 frames=0000001802000000005314c00b0a43404040404040404041
+";
+    assert!(rt; ends_so(alloc, 0, SENDING, script, wanted)?);
+    let script = b"hear 0000001702000000005314c009064343a0010143404178
+hear 0000001402000000005314c00706434040404041
+hear 0000001802000000005314c00b0a43404040404140404041
+link 0
+take 0
+";
+    let wanted = b"ok given=none ended=- frames=-
+ok given=none ended=- frames=-
+ok given=none ended=r0 frames=-
+link 0 role=receiver phase=attached count=1 credit=1 drain=0 mid=0 ready=0
+refused 25
+";
+    assert!(rt; ends_so(alloc, 0, RECEIVING, script, wanted)?);
+    Ok(())
+}
+
+/// What is ready is taken once; a receiver that settles second waits for the sender.
+#[test]
+fn deliveries_are_taken(rt: HostRuntime) -> Result<(), Fail> {
+    let alloc = rt.alloc();
+    let script = b"hear 0000001c02000000005314c008054343a001014341005375a0026869
+take 0
+take 0
+";
+    let wanted = b"ok given=ready:0:0 ended=- frames=-
+ok given=taken:0:01:005375a0026869 ended=- frames=-
+refused 25
+";
+    assert!(rt; ends_so(alloc, 0, RECEIVING, script, wanted)?);
+    let script = b"attach receiver q 2 1 0 0
+hear 0000001c02000000005312c00f0aa101714342500250004040404043
+grant 0 2 0 0
+hear 0000001b02000000005314c007044343a0010143005375a0026869
+dispose receiver 0 0 1 accepted
+dispose receiver 0 0 0 accepted
+hear 0000001202000000005315c0050442434041
+take 0
+";
+    let wanted = b"ok given=ready:0:0 ended=- frames=-
+refused 23
+ok given=none ended=- frames=0000001602000000005315c009054143434000532445
+ok given=none ended=r0 frames=-
+ok given=taken:0:01:005375a0026869 ended=- frames=-
+";
+    assert!(rt; ends_so(alloc, 0, MAPPED, script, wanted)?);
+    Ok(())
+}
+
+/// An outcome stands, a range is looked at whole, and an id does not come twice.
+#[test]
+fn states_are_told_once(rt: HostRuntime) -> Result<(), Fail> {
+    let alloc = rt.alloc();
+    let script = b"hear 0000001b02000000005314c007044343a0010143005375a0026869
+dispose receiver 0 0 0 accepted
+dispose receiver 0 0 0 released
+dispose receiver 5 5 0 -
+dispose receiver 0 2147483648 0 -
+hear 0000001b02000000005314c007044343a0010143005375a0026869
+";
+    let wanted = b"refused 24
+refused 22
+refused 21
+violation 9
+";
+    assert!(rt; ends_so(alloc, 0, RECEIVING, script, wanted)?);
+    Ok(())
+}
+
+/// Either end says how long a message may be.
+#[test]
+fn messages_that_are_too_long(rt: HostRuntime) -> Result<(), Fail> {
+    let alloc = rt.alloc();
+    let script = b"attach sender q 2 0 0 0
+hear 0000001c02000000005312c00f0ba101714341404040404040405301
+hear 0000001e02000000005313c0110743700000080043707fffffff43435205
+start 0 01 0 0 0 7879
+";
+    let wanted = b"refused 16
+";
+    assert!(rt; ends_so(alloc, 0, MAPPED, script, wanted)?);
+    let script = b"attach receiver q 2 0 0 1
+hear 0000001c02000000005312c00f0aa101714342500250004040404043
+grant 0 2 0 0
+hear 0000001b02000000005314c007044343a0010143005375a0026869
+";
+    let wanted = b"violation 13
+";
+    assert!(rt; ends_so(alloc, 0, MAPPED, script, wanted)?);
+    Ok(())
+}
+
+/// A flow that asks for one is answered: of the session, or of the link that it names.
+#[test]
+fn flows_in_return(rt: HostRuntime) -> Result<(), Fail> {
+    let alloc = rt.alloc();
+    let script = b"hear 0000002002000000005313c0130a43700000080043707fffffff404040404041
+hear 0000001e02000000005313c0110743700000080043707fffffff43435205
+offer 0 7
+beat
+";
+    let wanted = b"ok given=none ended=- frames=0000001a02000000005313c00d0443700000080043707fffffff
+ok given=none ended=- frames=-
+ok given=none ended=- frames=0000002002000000005313c0130843700000080043707fffffff434352055207
+ok given=none ended=- frames=0000000802000000
+";
+    assert!(rt; ends_so(alloc, 0, SENDING, script, wanted)?);
+    let script = b"hear 0000002102000000005313c0140a43700000080043707fffffff43435205404041
+";
+    let wanted =
+        b"ok given=none ended=- frames=0000001f02000000005313c0120843700000080043707fffffff4343520543
+";
+    assert!(rt; ends_so(alloc, 0, SENDING, script, wanted)?);
     Ok(())
 }

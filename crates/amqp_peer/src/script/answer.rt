@@ -1,11 +1,13 @@
 //! The text of an answer.
 ghost use Rattle.std.specs.Prelude.{◌≤◌, length};
 
+use amqp_deliveries::HeldItem;
+use amqp_endpoint::endpoint::Endpoint;
 use amqp_endpoint::refusal::Refusal;
-use amqp_endpoint::reply::{Given, Reply, Sent};
+use amqp_endpoint::reply::{Given, Learned, Reply, Sent, Taken};
 use amqp_endpoint::status::{LinkPhase, LinkStatus, WindowView};
 use amqp_endpoint::violation::ViolationKind;
-use amqp_frames::Role;
+use amqp_frames::{DeliveryState, Role};
 use amqp_types::Items;
 use std::fmt;
 use std::fmt::{Formatter, Write};
@@ -20,6 +22,8 @@ pub enum Answer<'a> {
     Windows(WindowView),
     /// The link with this number, if there is one.
     Link(u32, Option<LinkStatus>),
+    /// The unsettled deliveries of this role of ours.
+    Held(&'a Endpoint, Role),
     BadLine,
 }
 
@@ -32,6 +36,7 @@ impl fmt::Display for Answer<'_> {
             Answer::Windows(windows) => write_windows(windows, f),
             Answer::Link(link, None) => write!(f, "link {link} none"),
             Answer::Link(link, Some(status)) => write_link(*link, status, f),
+            Answer::Held(endpoint, role) => write_held(endpoint, *role, f),
             Answer::BadLine => f.write_str("bad line"),
         }
     }
@@ -39,18 +44,38 @@ impl fmt::Display for Answer<'_> {
 
 fn write_reply<W: Write>(reply: &Reply, f: &mut Formatter<W>) -> fmt::Result {
     f.write_str("ok given=")?;
-    write_given(reply.given, f)?;
+    write_given(&reply.given, f)?;
     f.write_str(" ended=")?;
     write_ended(reply.ended.items.as_slice(), f)?;
     f.write_str(" frames=")?;
     write_frames(&reply.sent, f)
 }
 
-fn write_given<W: Write>(given: Given, f: &mut Formatter<W>) -> fmt::Result {
+fn write_given<W: Write>(given: &Given, f: &mut Formatter<W>) -> fmt::Result {
     match given {
         Given::Nothing => f.write_str("none"),
+        Given::Link(link) => write!(f, "link:{link}"),
+        Given::Offered(link) => write!(f, "offered:{link}"),
+        Given::Attached(link) => write!(f, "attached:{link}"),
+        Given::Gone(link) => write!(f, "gone:{link}"),
         Given::Delivery(id) => write!(f, "delivery:{id}"),
+        Given::Ready(link, id) => write!(f, "ready:{link}:{id}"),
+        Given::Taken(taken) => write_taken(taken, f),
+        Given::Learned(learned) => write_learned(learned, f),
     }
+}
+
+fn write_taken<W: Write>(taken: &Taken, f: &mut Formatter<W>) -> fmt::Result {
+    write!(f, "taken:{}:", taken.id)?;
+    write_octets(taken.tag.octets(), f)?;
+    f.write_str(":")?;
+    write_octets(taken.payload.as_slice(), f)
+}
+
+fn write_learned<W: Write>(learned: &Learned, f: &mut Formatter<W>) -> fmt::Result {
+    let state = state_word(&learned.state);
+    let settled = u8::from(learned.settled);
+    write!(f, "learned:{}:{state}:{settled}", learned.id)
 }
 
 /// `s` or `r` for our role and the id, for each delivery.
@@ -81,6 +106,14 @@ fn write_frames<W: Write>(sent: &Items<Sent>, f: &mut Formatter<W>) -> fmt::Resu
         write_hex(frame.bytes.as_slice(), f)?;
     }
     Ok(())
+}
+
+/// Hexadecimal, or `-` for no octets.
+fn write_octets<W: Write>(octets: &[u8], f: &mut Formatter<W>) -> fmt::Result {
+    if octets.is_empty() {
+        return f.write_str("-");
+    }
+    write_hex(octets, f)
 }
 
 /// How many octets are written at a time.
@@ -137,6 +170,41 @@ fn write_link<W: Write>(link: u32, status: &LinkStatus, f: &mut Formatter<W>) ->
     let drain = u8::from(status.drain);
     let mid = u8::from(status.mid);
     write!(f, " drain={drain} mid={mid} ready={}", status.ready)
+}
+
+/// What we told of each delivery and what the peer did, in the order of their ids.
+fn write_held<W: Write>(endpoint: &Endpoint, role: Role, f: &mut Formatter<W>) -> fmt::Result {
+    f.write_str("held ")?;
+    for place in 0..endpoint.unsettled_len(role) {
+        if place > 0 {
+            f.write_str(",")?;
+        }
+        if let Some(item) = endpoint.unsettled_at(role, place) {
+            write_item(item, f)?;
+        }
+    }
+    if endpoint.unsettled_len(role) == 0 {
+        f.write_str("-")?;
+    }
+    Ok(())
+}
+
+fn write_item<W: Write>(item: &HeldItem, f: &mut Formatter<W>) -> fmt::Result {
+    let ours = state_word(&item.local);
+    let heard = state_word(&item.remote);
+    write!(f, "{}:{}:{ours}:{heard}", item.id, item.link)
+}
+
+fn state_word(state: &Option<DeliveryState>) -> &'static str {
+    match state {
+        None => "-",
+        Some(DeliveryState::Received { .. }) => "received",
+        Some(DeliveryState::Accepted) => "accepted",
+        Some(DeliveryState::Rejected(_)) => "rejected",
+        Some(DeliveryState::Released) => "released",
+        Some(DeliveryState::Modified { .. }) => "modified",
+        Some(DeliveryState::Other(_)) => "other",
+    }
 }
 
 fn role_word(role: Role) -> &'static str {

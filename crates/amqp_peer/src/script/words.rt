@@ -4,7 +4,8 @@ ghost use Rattle.std.specs.Str.Parse.{IsNumeral, digits_value};
 ghost use Rattle.amqp_peer.specs.Words.{words, octets_of, truth_of};
 
 use crate::script::line::LineFault;
-use amqp_types::Tag;
+use amqp_frames::{DeliveryState, Role};
+use amqp_types::{Tag, Text};
 use std::alloc::Global;
 
 /// The words of a line that were not taken yet. One space stands between two words, so two spaces have an empty word
@@ -30,14 +31,34 @@ impl<'a> Words<'a> {
         self.next().ok_or(LineFault::Bad)
     }
 
-    /// A decimal number of at most 32 bits; leading zeros change nothing.
+    /// A decimal number of at most 64 bits; leading zeros change nothing.
+    pub fn long(&mut self) -> Result<u64, LineFault> {
+        long(self.word()?).ok_or(LineFault::Bad)
+    }
+
+    /// A decimal number of at most 32 bits.
     pub fn number(&mut self) -> Result<u32, LineFault> {
         number(self.word()?).ok_or(LineFault::Bad)
+    }
+
+    /// A decimal number of at most 8 bits.
+    pub fn octet(&mut self) -> Result<u8, LineFault> {
+        octet(self.word()?).ok_or(LineFault::Bad)
     }
 
     /// `0` or `1`.
     pub fn truth(&mut self) -> Result<bool, LineFault> {
         truth(self.word()?).ok_or(LineFault::Bad)
+    }
+
+    /// `sender` or `receiver`.
+    pub fn role(&mut self) -> Result<Role, LineFault> {
+        role(self.word()?).ok_or(LineFault::Bad)
+    }
+
+    /// `accepted`, `released`, or `-` for none.
+    pub fn state(&mut self) -> Result<Option<DeliveryState>, LineFault> {
+        state(self.word()?)
     }
 
     /// A tag in hexadecimal, or `-` for the one without octets.
@@ -102,24 +123,51 @@ impl<'a> Iterator for Words<'a> {
     }
 }
 
+/// A text of one octet at least.
+pub fn text(alloc: Global, word: &[u8]) -> Result<Text, LineFault> {
+    match std::str::from_utf8(word) {
+        Ok("") => Err(LineFault::Bad),
+        Ok(text) => Ok(Text::new(alloc, text)?),
+        Err(_) => Err(LineFault::Bad),
+    }
+}
+
 fn first_space(line: &[u8]) -> Option<usize>
     ensures { result ≡ position (λ octet. octet == 32) line.now }
 {
     line.iter().position(|octet| *octet == b' ')
 }
 
-fn number(word: &[u8]) -> Option<u32>
-    ensures { SomeIff result (IsNumeral 10 word.now × (digits_value 10 word.now < 2 ^ 32)) (digits_value 10 word.now) }
+fn long(word: &[u8]) -> Option<u64>
+    ensures { SomeIff result (IsNumeral 10 word.now × (digits_value 10 word.now < 2 ^ 64)) (digits_value 10 word.now) }
 {
     if word.is_empty() {
         return None;
     }
-    let mut value: u32 = 0;
+    let mut value: u64 = 0;
     for octet in word {
         let digit = char::from(*octet).to_digit(10)?;
-        value = value.checked_mul(10)?.checked_add(digit)?;
+        value = value.checked_mul(10)?.checked_add(u64::from(digit))?;
     }
     Some(value)
+}
+
+fn number(word: &[u8]) -> Option<u32>
+    ensures { SomeIff result (IsNumeral 10 word.now × (digits_value 10 word.now < 2 ^ 32)) (digits_value 10 word.now) }
+{
+    match long(word) {
+        Some(value) => u32::try_from(value).ok(),
+        None => None,
+    }
+}
+
+fn octet(word: &[u8]) -> Option<u8>
+    ensures { SomeIff result (IsNumeral 10 word.now × (digits_value 10 word.now < 2 ^ 8)) (digits_value 10 word.now) }
+{
+    match long(word) {
+        Some(value) => u8::try_from(value).ok(),
+        None => None,
+    }
 }
 
 fn truth(word: &[u8]) -> Option<bool>
@@ -129,6 +177,23 @@ fn truth(word: &[u8]) -> Option<bool>
         b"0" => Some(false),
         b"1" => Some(true),
         _ => None,
+    }
+}
+
+fn role(word: &[u8]) -> Option<Role> {
+    match word {
+        b"sender" => Some(Role::Sender),
+        b"receiver" => Some(Role::Receiver),
+        _ => None,
+    }
+}
+
+fn state(word: &[u8]) -> Result<Option<DeliveryState>, LineFault> {
+    match word {
+        b"-" => Ok(None),
+        b"accepted" => Ok(Some(DeliveryState::Accepted)),
+        b"released" => Ok(Some(DeliveryState::Released)),
+        _ => Err(LineFault::Bad),
     }
 }
 

@@ -1,0 +1,190 @@
+//! `amqp_journal`: two ends of a session, each an endpoint with its journal. The octets of one are fed to the other.
+
+use amqp_endpoint::config::Config;
+use amqp_endpoint::op::Op;
+use amqp_endpoint::reply::Given;
+use amqp_frames::{DeliveryState, Frame, Framer, Role};
+use amqp_journal::logged::Logged;
+use amqp_types::{Tag, Text};
+use anyhow::{Context, ensure};
+use bytes::Bytes;
+use std::alloc::Global;
+
+/// The longest frame that either end takes, in octets.
+const MAX_FRAME: u32 = 65536;
+
+/// More units than an end has waiting at any time here.
+const UNITS: u32 = 8;
+
+/// A message is sent, taken, accepted and settled.
+pub fn run<R: AllocGlobal + Print>(rt: &R) -> anyhow::Result<()> {
+    let alloc = rt.alloc();
+    let mut sender = End::new(alloc, "sender")?;
+    let mut receiver = End::new(alloc, "receiver")?;
+    sender.apply(rt, &Op::Begin)?;
+    exchange(rt, &mut sender, &mut receiver)?;
+    receiver.apply(rt, &Op::Begin)?;
+    exchange(rt, &mut sender, &mut receiver)?;
+    sender.apply(rt, &attach(alloc, Role::Sender)?)?;
+    receiver.apply(rt, &attach(alloc, Role::Receiver)?)?;
+    exchange(rt, &mut sender, &mut receiver)?;
+    // The link has no credit yet. A refusal has changed nothing, so the same operation may be tried again.
+    sender.apply(rt, &start(alloc)?)?;
+    receiver.apply(rt, &grant())?;
+    exchange(rt, &mut sender, &mut receiver)?;
+    sender.apply(rt, &start(alloc)?)?;
+    exchange(rt, &mut sender, &mut receiver)?;
+    settle(rt, &mut sender, &mut receiver)
+}
+
+/// The receiver takes the message and accepts it; the sender learns of it.
+fn settle<R: AllocGlobal + Print>(
+    rt: &R,
+    sender: &mut End,
+    receiver: &mut End,
+) -> anyhow::Result<()> {
+    receiver.apply(rt, &Op::Take { link: 0 })?;
+    receiver.apply(rt, &accept())?;
+    exchange(rt, sender, receiver)?;
+    sender.apply(rt, &Op::Learn { link: 0 })?;
+    sender.tell_steps(rt)?;
+    receiver.tell_steps(rt)
+}
+
+/// One end of the session, and the framer of what it hears.
+#[derive(Drop)]
+struct End {
+    name: &'static str,
+    logged: Logged,
+    framer: Framer,
+}
+
+impl End {
+    fn new(alloc: Global, name: &'static str) -> anyhow::Result<End> {
+        let config = Config {
+            first_id: 0,
+            window: 2048,
+            journal_limit: 1000,
+        };
+        ensure!(config.is_within_limits(), "a setting is out of its limits");
+        let mut logged = Logged::new(alloc, &config)?;
+        logged.opened(MAX_FRAME)?;
+        Ok(End {
+            name,
+            logged,
+            framer: Framer::new(alloc, MAX_FRAME),
+        })
+    }
+
+    /// Does an operation. What is to be sent waits as a unit.
+    fn apply<R: Print>(&mut self, rt: &R, op: &Op) -> anyhow::Result<()> {
+        match self.logged.apply(op) {
+            Ok(given) => self.tell(rt, &given),
+            Err(refusal) => Ok(println!(rt; "{}: refused, {refusal}", self.name)?),
+        }
+    }
+
+    /// Takes octets of the peer's. A frame that breaks the rules has changed nothing.
+    fn hear<R: AllocGlobal + Print>(&mut self, rt: &R, octets: &[u8]) -> anyhow::Result<()> {
+        let mut frames = Vec::new(rt.alloc());
+        self.framer.feed_all(octets, &mut frames)?;
+        for frame in &frames {
+            self.receive(rt, frame)?;
+        }
+        Ok(())
+    }
+
+    fn receive<R: Print>(&mut self, rt: &R, frame: &Frame) -> anyhow::Result<()> {
+        match self.logged.receive(frame) {
+            Ok(given) => self.tell(rt, &given),
+            Err(violation) => Ok(println!(rt; "{}: a violation, {violation}", self.name)?),
+        }
+    }
+
+    fn tell<R: Print>(&self, rt: &R, given: &Given) -> anyhow::Result<()> {
+        let name = self.name;
+        match given {
+            Given::Nothing => Ok(()),
+            Given::Link(link) => Ok(println!(rt; "{name}: link {link} is asked for")?),
+            Given::Offered(link) => Ok(println!(rt; "{name}: link {link} is offered")?),
+            Given::Attached(link) => Ok(println!(rt; "{name}: link {link} is attached")?),
+            Given::Gone(link) => Ok(println!(rt; "{name}: link {link} is gone")?),
+            Given::Delivery(id) => Ok(println!(rt; "{name}: delivery {id} begins")?),
+            Given::Ready(_, id) => Ok(println!(rt; "{name}: delivery {id} is ready")?),
+            Given::Taken(taken) => {
+                let (id, length) = (taken.id, taken.payload.len());
+                Ok(println!(rt; "{name}: delivery {id} is taken, {length} octets")?)
+            }
+            Given::Learned(learned) => {
+                let (id, settled) = (learned.id, learned.settled);
+                Ok(println!(rt; "{name}: delivery {id} is settled: {settled}")?)
+            }
+        }
+    }
+
+    fn tell_steps<R: Print>(&self, rt: &R) -> anyhow::Result<()> {
+        let steps = self.logged.journal().len();
+        Ok(println!(rt; "{}: {steps} steps in the journal", self.name)?)
+    }
+}
+
+/// Each end hears what the other put out.
+fn exchange<R: AllocGlobal + Print>(rt: &R, one: &mut End, other: &mut End) -> anyhow::Result<()> {
+    for _ in 0..UNITS {
+        if let Some(unit) = one.logged.pop_unit() {
+            other.hear(rt, unit.bytes.as_slice())?;
+        }
+        if let Some(unit) = other.logged.pop_unit() {
+            one.hear(rt, unit.bytes.as_slice())?;
+        }
+    }
+    Ok(())
+}
+
+fn attach(alloc: Global, role: Role) -> anyhow::Result<Op> {
+    let name = Text::new(alloc, "news")?;
+    Ok(Op::Attach {
+        name,
+        role,
+        snd: 2,
+        rcv: 0,
+        source: None,
+        target: None,
+        count: 0,
+        max_message: 0,
+    })
+}
+
+/// Ten deliveries may begin.
+fn grant() -> Op {
+    Op::Grant {
+        link: 0,
+        credit: 10,
+        drain: false,
+        echo: false,
+    }
+}
+
+fn start(alloc: Global) -> anyhow::Result<Op> {
+    let tag = Tag::new(&[1]).context("a tag has at most 32 octets")?;
+    let payload = Bytes::from_vec(b"hello".to_vec(alloc)?)?;
+    Ok(Op::Start {
+        link: 0,
+        tag,
+        format: 0,
+        settled: false,
+        payload,
+        more: false,
+    })
+}
+
+/// Delivery 0 is accepted, and settled.
+fn accept() -> Op {
+    Op::Dispose {
+        role: Role::Receiver,
+        first: 0,
+        last: 0,
+        settled: true,
+        state: Some(DeliveryState::Accepted),
+    }
+}
