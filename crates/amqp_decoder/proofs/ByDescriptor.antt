@@ -3,7 +3,7 @@ use Rattle.std.proofs.Common.{◌≡◌, ◌≤◌, ℕ, List, ◌++◌, length,
 use Rattle.std.specs.Prelude.{IfOk, Result, Ok, Err, Option, Some, None}
 use Rattle.std.proofs.lemmas.List.{take-append-drop}
 use Rattle.amqp_types.specs.Datum.{Datum}
-use Rattle.amqp_decoder.specs.declared.fields.Fields.{Fields as Cursor}
+use Rattle.amqp_decoder.specs.declared.fields.Cursor.{Cursor}
 use Rattle.amqp_performatives.specs.declared.performative.Performative.{Performative}
 use Rattle.amqp_performatives.specs.declared.performative.Performative.TheVariants.{Open, Begin, Attach, Flow, Transfer, Disposition, Detach, End, Close}
 use Rattle.amqp_decoder.specs.declared.fault.BodyFault.{BodyFault}

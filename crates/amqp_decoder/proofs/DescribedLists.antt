@@ -15,11 +15,11 @@ use Rattle.amqp_types.specs.declared.heads.Descriptor.{Descriptor}
 use Rattle.amqp_types.specs.declared.heads.Descriptor.TheVariants as descriptor
 use Rattle.amqp_types.specs.Codes.{class_of, table}
 use Rattle.amqp_types.specs.Datum.{Datum, number, octets, list, map, array, described, Data, none, item, count_of, depth_of, greatest_depth_of}
-use Rattle.amqp_types.specs.Grammar.{AreParts, IsPart, IsBody, IsFramed, IsListBody, IsDescribedBody, IsListWith, SpellsWithin, Spells}
+use Rattle.amqp_types.specs.Grammar.{AreParts, IsPart, IsBody, IsCompound, IsListBody, IsDescribedBody, IsListWith, SpellsWithin, Spells}
 use Rattle.amqp_types.specs.Heads.{IsListHead, HasNoList, datum_of}
 use Rattle.amqp_types.specs.Heads.{IsDescriptor as IsDescriptorFront}
-use Rattle.amqp_types.specs.Reading.{frame_at}
-use Rattle.amqp_types.proofs.Frames.{frame_again}
+use Rattle.amqp_types.specs.Reading.{compound_at}
+use Rattle.amqp_types.proofs.Compounds.{compound_again}
 use Rattle.amqp_types.proofs.Fronts.{is_code, class_listed}
 use Rattle.amqp_types.proofs.ListHeads.{head_of_list, described_from_parts}
 use Rattle.amqp_performatives.specs.Part.{Part, Fields, field, composite, FitInOrder, IsDescriptor}
@@ -38,7 +38,7 @@ headed n content rest = Some ((n, content), rest)
 
 abbrev head_at : Class → List ℕ → Head
 head_at Class.EmptyList os = headed 0 [] os
-head_at (Class.List w) os = frame_at w os
+head_at (Class.List w) os = compound_at w os
 head_at _ os = None
 
 abbrev code_head : List ℕ → Head
@@ -50,26 +50,26 @@ record AreItems (b content items : List ℕ) : Type 0 where
   empty : b ≡ [] → items ≡ []
   full : (b ≡ [] → ⊥) → items ≡ content
 
-same_items : (w : Width) (count : ℕ) (b content items : List ℕ) → IsFramed w count content b → AreItems b content items → content ≡ items
+same_items : (w : Width) (count : ℕ) (b content items : List ℕ) → IsCompound w count content b → AreItems b content items → content ≡ items
 same_items w count [] content items f i =
     let l : length content ≡ 0 = omega (arith, ap length f.parts, length-append f.size_field (f.count_field ++ content), length-append f.count_field content) in
     nil_from_length content l ∙ sym (i.empty refl)
 same_items w count (c ∷ b) content items f i = sym (i.full (λ q. absurd cc))
 
-framed_items : (w : Width) (count : ℕ) (b content items : List ℕ) → IsFramed w count content b → AreItems b content items → IsFramed w count items b
-framed_items w count b content items f i = subst (λ (x : List ℕ). IsFramed w count x b) (same_items w count b content items f i) f
+compound_items : (w : Width) (count : ℕ) (b content items : List ℕ) → IsCompound w count content b → AreItems b content items → IsCompound w count items b
+compound_items w count b content items f i = subst (λ (x : List ℕ). IsCompound w count x b) (same_items w count b content items f i) f
 
-of_content : (w : Width) (count : ℕ) (b content : List ℕ) → (content' : List ℕ) × (content' ≡ content) × IsFramed w count content' b → IsFramed w count content b
-of_content w count b content h = subst (λ (x : List ℕ). IsFramed w count x b) h.1 h.2
+of_content : (w : Width) (count : ℕ) (b content : List ℕ) → (content' : List ℕ) × (content' ≡ content) × IsCompound w count content' b → IsCompound w count content b
+of_content w count b content h = subst (λ (x : List ℕ). IsCompound w count x b) h.1 h.2
 
 items_read : (class : Class) (count : ℕ) (b content items rest : List ℕ) → IsListBody class count (λ x. x ≡ content) b → AreItems b content items → head_at class (b ++ rest) ≡ headed count items rest
 items_read Class.EmptyList count b content items rest h i = rw (h.1, h.0, i.empty h.1) refl
-items_read (Class.List w) count b content items rest h i = frame_again w count items b rest (framed_items w count b content items (of_content w count b content h) i)
+items_read (Class.List w) count b content items rest h i = compound_again w count items b rest (compound_items w count b content items (of_content w count b content h) i)
 items_read _ count b content items rest h i = absurd h
 
 items_body : (class : Class) (count : ℕ) (b content items : List ℕ) → IsListBody class count (λ x. x ≡ content) b → AreItems b content items → (ds : Data) → count_of ds ≡ count → AreParts ds None items → IsListBody class (count_of ds) (AreParts ds None) b
 items_body Class.EmptyList count b content items h i ds n are = (n ∙ h.0, h.1)
-items_body (Class.List w) count b content items h i ds n are = (items, are, subst (λ (k : ℕ). IsFramed w k items b) (sym n) (framed_items w count b content items (of_content w count b content h) i))
+items_body (Class.List w) count b content items h i ds n are = (items, are, subst (λ (k : ℕ). IsCompound w k items b) (sym n) (compound_items w count b content items (of_content w count b content h) i))
 items_body _ count b content items h i ds n are = absurd h
 
 no_parts : (ds : Data) → count_of ds ≡ 0 → AreParts ds None []
@@ -83,7 +83,7 @@ record IsRead (ds : Data) (head : List ℕ → Head) : Type 0 where
 
 list_read : (class : Class) (ds : Data) (b : List ℕ) → IsListBody class (count_of ds) (AreParts ds None) b → IsRead ds (λ rest. head_at class (b ++ rest))
 list_read Class.EmptyList ds b h = record { content = []; are = no_parts ds h.0; again = λ rest. rw (h.1, h.0) refl }
-list_read (Class.List w) ds b h = record { content = h.0; are = h.1; again = λ rest. frame_again w (count_of ds) h.0 b rest h.2 }
+list_read (Class.List w) ds b h = record { content = h.0; are = h.1; again = λ rest. compound_again w (count_of ds) h.0 b rest h.2 }
 list_read _ ds b h = absurd h
 
 spelled_list : (n : ℕ) (ds : Data) (x : List ℕ) → SpellsWithin n (list ds) x → IsRead ds (λ rest. code_head (x ++ rest))
@@ -328,9 +328,6 @@ unnamed_here : (depth : ℕ) (os : List ℕ) (D : Datum) → DescribedBy depth o
 unnamed_here depth os D named isnt d v x rest s e =
     let w = named (described d v) x rest s e in
     subst (λ (i : Datum). names_state i ≡ false) (sym (same_named d v D w.0 w.1)) isnt
-
-pub unnamed_opened : (depth : ℕ) (os : List ℕ) (D : Datum) (inner count : ℕ) (items : List ℕ) (used : ℕ) → Opens depth os D inner count items used → names_state D ≡ false → NoStateNamed depth os
-unnamed_opened depth os D inner count items used o isnt = unnamed_here depth os D o.named isnt
 
 pub unnamed_descriptor : (depth start : ℕ) (os x : List ℕ) (D : Datum) → 3 ≤ depth → depth ≤ 32 → Spells D x → take start os ≡ 0 ∷ x → names_state D ≡ false → NoStateNamed depth os
 unnamed_descriptor depth start os x D some low s t isnt = unnamed_here depth os D (described_by depth start os x D some low s t) isnt

@@ -10,3 +10,4 @@ pub mod ByDescriptor
 pub mod StateTypes
 pub mod OfKind
 pub mod StateParts
+pub mod BareLists

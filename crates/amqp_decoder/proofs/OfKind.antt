@@ -9,7 +9,7 @@ use Rattle.amqp_performatives.specs.declared.state.DeliveryState.TheVariants.{Re
 use Rattle.amqp_performatives.specs.Part.{composite, IsDescriptor}
 use Rattle.amqp_performatives.specs.Bodies.{state}
 use Rattle.amqp_performatives.specs.Fair.{where_present, is_present, is_fair_error, is_fair_state, is_null, is_other_state, names_state}
-use Rattle.amqp_decoder.specs.declared.fields.Fields.{Fields as Cursor}
+use Rattle.amqp_decoder.specs.declared.fields.Cursor.{Cursor}
 use Rattle.amqp_decoder.specs.declared.states.StateKind.{StateKind}
 use Rattle.amqp_decoder.specs.declared.states.StateKind.TheVariants as kind
 use Rattle.amqp_decoder.specs.Parts.{lone_error}
@@ -22,10 +22,6 @@ use Rattle.amqp_decoder.proofs.StateTypes.{apart}
 pub none_received : (from : Cursor) → ((r : ℕ × ℕ) → IsTrue (every r) → AreFields from.depth from.left (received_fields r) from.octets.now → ⊥) → (s : DeliveryState) → IsTrue (is_of kind.Received s && is_fair_state s) → AreFields from.depth from.left (state_fields s) from.octets.now → ⊥
 none_received from none (Received n o) fair h = none (n, o) refl h
 none_received from none _ fair h = absurd cc
-
-pub none_rejected : (from : Cursor) → ((e : Option AmqpError) → IsTrue (where_present is_fair_error e) → AreFields from.depth from.left (lone_error e) from.octets.now → ⊥) → (s : DeliveryState) → IsTrue (is_of kind.Rejected s && is_fair_state s) → AreFields from.depth from.left (state_fields s) from.octets.now → ⊥
-none_rejected from none (Rejected e) fair h = none e fair h
-none_rejected from none _ fair h = absurd cc
 
 pub none_modified : (from : Cursor) → ((m : Option Bool × Option Bool × Option Value) → IsTrue (where_present is_present m.2) → AreFields from.depth from.left (modified_fields m) from.octets.now → ⊥) → (s : DeliveryState) → IsTrue (is_of kind.Modified s && is_fair_state s) → AreFields from.depth from.left (state_fields s) from.octets.now → ⊥
 none_modified from none (Modified f u m) fair h = none (f, u, m) fair h

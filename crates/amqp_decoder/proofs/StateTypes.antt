@@ -41,6 +41,3 @@ false_of false h = refl
 
 pub not_descriptor : (type : ℕ × List ℕ) (d : Datum) → (IsDescriptor type d → ⊥) → is_descriptor type d ≡ false
 not_descriptor type d no_such = false_of (is_descriptor type d) (λ e. no_such (descriptor_true type d e))
-
-pub no_state : (d : Datum) → (IsDescriptor received_type d → ⊥) → (IsDescriptor accepted_type d → ⊥) → (IsDescriptor rejected_type d → ⊥) → (IsDescriptor released_type d → ⊥) → (IsDescriptor modified_type d → ⊥) → names_state d ≡ false
-no_state d a b c e f = rw (not_descriptor received_type d a, not_descriptor accepted_type d b, not_descriptor rejected_type d c, not_descriptor released_type d e, not_descriptor modified_type d f) refl

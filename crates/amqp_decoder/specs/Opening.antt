@@ -1,5 +1,5 @@
 -- What the private readers of described lists promise to one another.
-use Rattle.std.specs.Prelude.{ℕ, ◌≡◌, ◌≤◌, ◌+◌, suc, false, None, List, ◌++◌, length, take, drop}
+use Rattle.std.specs.Prelude.{ℕ, ◌≡◌, ◌≤◌, ◌<◌, ◌+◌, ◌^◌, suc, false, None, List, ◌∷◌, ◌++◌, length, take, drop}
 use Rattle.amqp_types.specs.Datum.{Datum, list, described, Data, count_of, greatest_depth_of}
 use Rattle.amqp_types.specs.Grammar.{AreParts, SpellsWithin}
 use Rattle.amqp_performatives.specs.Part.{Part, Fields, composite, Fits, IsDescriptor}
@@ -39,3 +39,9 @@ NotOpened depth octets = (type : ℕ × List ℕ) (fs : Fields) (x rest : List �
 -- no described value in front has the descriptor of one of the five delivery states
 abbrev pub NoStateNamed : ℕ → List ℕ → Type 0
 NoStateNamed depth octets = (d v : Datum) (x rest : List ℕ) → SpellsWithin depth (described d v) x → octets ≡ x ++ rest → names_state d ≡ false
+
+-- these four octets in front are a described value, its number in one octet, and a list of no items
+pub record IsBareList (number : ℕ) (octets : List ℕ) : Type 0 where
+  pub rest : List ℕ
+  pub is : octets ≡ 0x00 ∷ 0x53 ∷ number ∷ 0x45 ∷ rest
+  pub low : number < 2 ^ 8

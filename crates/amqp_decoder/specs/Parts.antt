@@ -6,7 +6,7 @@ use Rattle.amqp_decoder.specs.declared.borrowed.ErrorRef.{ErrorRef}
 use Rattle.amqp_decoder.specs.declared.borrowed.StateRef.{StateRef}
 use Rattle.amqp_decoder.specs.declared.borrowed.StateRef.TheVariants as borrowed
 use Rattle.amqp_performatives.specs.declared.error.AmqpError.{AmqpError}
-use Rattle.amqp_decoder.specs.declared.fields.Fields.{Fields as Cursor}
+use Rattle.amqp_decoder.specs.declared.fields.Cursor.{Cursor}
 use Rattle.amqp_performatives.specs.declared.state.DeliveryState.{DeliveryState}
 use Rattle.amqp_performatives.specs.declared.state.DeliveryState.TheVariants.{Received, Accepted, Rejected, Released, Modified, Other}
 use Rattle.amqp_performatives.specs.Part.{Fields, no_field}

@@ -1,7 +1,7 @@
 -- What the private readers of performatives promise.
 use Rattle.std.specs.Prelude.{ℕ, ◌≡◌, ◌≤◌, IsTrue, Result, Ok, Err, List, ◌++◌, length, take}
 use Rattle.amqp_types.specs.Datum.{Datum}
-use Rattle.amqp_decoder.specs.declared.fields.Fields.{Fields as Cursor}
+use Rattle.amqp_decoder.specs.declared.fields.Cursor.{Cursor}
 use Rattle.amqp_performatives.specs.declared.performative.Performative.{Performative}
 use Rattle.amqp_decoder.specs.declared.fault.BodyFault.{BodyFault}
 use Rattle.amqp_decoder.specs.declared.fault.BodyFault.TheVariants.{NoBody, NoMemory}

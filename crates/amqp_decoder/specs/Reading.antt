@@ -2,7 +2,7 @@
 use Rattle.std.specs.Prelude.{ℕ, ◌≡◌, ◌+◌, ◌≤◌, Bool, true, IsTrue, Option, Some, None, List, ◌++◌}
 use Rattle.amqp_types.specs.Datum.{Datum, Data, count_of, greatest_depth_of}
 use Rattle.amqp_types.specs.Grammar.{AreParts, SpellsWithin, Spells}
-use Rattle.amqp_decoder.specs.declared.fields.Fields.{Fields as Cursor}
+use Rattle.amqp_decoder.specs.declared.fields.Cursor.{Cursor}
 use Rattle.amqp_decoder.specs.Borrowed.{datum_in}
 use Rattle.amqp_performatives.specs.Part.{Part, Fields, absent, field, null, Fits, FitInOrder}
 

@@ -1,9 +1,10 @@
 -- What the readers promise that leave a performative in a slot.
-use Rattle.std.specs.Prelude.{ℕ, ◌≡◌, Bool, true, false, Option, Some, None, Result, Ok, Err, List}
+use Rattle.std.specs.Prelude.{ℕ, Bool, true, false, Option, Some, None, Result, Ok, Err, List}
 use Rattle.amqp_types.specs.Datum.{Datum}
-use Rattle.amqp_decoder.specs.declared.fields.Fields.{Fields as Cursor}
+use Rattle.amqp_decoder.specs.declared.fields.Cursor.{Cursor}
 use Rattle.amqp_performatives.specs.declared.performative.Performative.{Performative}
 use Rattle.amqp_decoder.specs.declared.fault.BodyFault.{BodyFault}
+use Rattle.amqp_performatives.specs.Part.{IsDescriptor}
 use Rattle.amqp_decoder.specs.ReadPerformatives.{ReadsDescribed, ReadsFront}
 
 -- where the answer is good the slot has the performative
@@ -16,3 +17,8 @@ abbrev pub LeavesFront : List ℕ → Result ℕ BodyFault → Option Performati
 LeavesFront octets (Ok used) (Some p) = ReadsFront octets (Ok (p, used))
 LeavesFront octets (Ok used) None = ⊥
 LeavesFront octets (Err fault) slot = ReadsFront octets (Err fault)
+
+-- the same for whatever descriptor is that of this type; false says nothing
+abbrev pub LeavesKind : ℕ × List ℕ → Cursor → Bool → Option Performative → Type 0
+LeavesKind type from true slot = (u : Unit {0}) (descriptor : Datum) → IsDescriptor type descriptor → LeavesDescribed descriptor from (Ok u) slot
+LeavesKind type from false slot = Unit

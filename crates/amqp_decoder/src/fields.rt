@@ -1,5 +1,5 @@
 //! The fields of a described list (part 1, 1.4), read one after the other where they lie: nothing is copied and no memory taken.
-ghost use Rattle.std.specs.Prelude.{◌≡◌, ◌≤◌, ◌+◌, ℕ, IsTrue, option_map, nat_le, length, drop};
+ghost use Rattle.std.specs.Prelude.{◌≡◌, ◌≤◌, ◌+◌, ℕ, Some, IfSome, IsTrue, option_map, nat_le, length, drop};
 
 use crate::borrowed::ValueRef;
 use amqp_performatives::Role;
@@ -10,7 +10,7 @@ use amqp_types::{
 
 /// The fields that are still to be read.
 #[derive(Clone, Copy)]
-pub(crate) struct Fields<'a> {
+pub(crate) struct Cursor<'a> {
     /// How deep their values may be nested.
     pub(crate) depth: usize,
     /// How many there are. A field past them was left off.
@@ -20,7 +20,19 @@ pub(crate) struct Fields<'a> {
     ghost most: { depth ≤ 32 },
 }
 
-impl<'a> Fields<'a> {
+/// Leaves the tag of these octets in the slot, where it is written once.
+#[inline(always)]
+fn set_tag(octets: &[u8], slot: &mut Option<Tag>)
+    requires { length octets.now ≤ 32 }
+    ensures { slot.new ≡ Some octets.now }
+{
+    *slot = Some(Tag::empty());
+    if let Some(tag) = slot {
+        tag.set(octets);
+    }
+}
+
+impl<'a> Cursor<'a> {
     ghost use Rattle.amqp_performatives.specs.Bodies.{boolean, ubyte, ushort, uint, ulong, binary, string, symbol, mapping, any, role, optional};
     ghost use Rattle.amqp_performatives.specs.Fair.{where_present, is_present, is_tag};
     ghost use Rattle.amqp_decoder.specs.Borrowed.{value_in, pairs_in};
@@ -28,12 +40,12 @@ impl<'a> Fields<'a> {
 
     /// The fields after the first one, which so many octets spell.
     #[inline(always)]
-    pub(crate) fn after(self, used: usize) -> Fields<'a>
+    pub(crate) fn after(self, used: usize) -> Cursor<'a>
         requires some { 1 ≤ self.left }
         requires within { used ≤ length self.octets.now }
         ensures { (result.depth ≡ self.entry.depth) × (result.left + 1 ≡ self.entry.left) × (result.octets.now ≡ drop used self.entry.octets.now) }
     {
-        Fields {
+        Cursor {
             depth: self.depth,
             left: self.left - 1,
             octets: &self.octets[used..],
@@ -42,7 +54,7 @@ impl<'a> Fields<'a> {
 
     /// The fields after the first one, where that is left off or null.
     #[inline(always)]
-    pub(crate) fn absent(self) -> Option<Fields<'a>>
+    pub(crate) fn absent(self) -> Option<Cursor<'a>>
         ensures { ReadsAbsent self.entry result }
     {
         if self.left == 0 {
@@ -56,7 +68,7 @@ impl<'a> Fields<'a> {
 
     /// A uint that is mandatory.
     #[inline(always)]
-    pub(crate) fn required_uint(self) -> Option<(u32, Fields<'a>)>
+    pub(crate) fn required_uint(self) -> Option<(u32, Cursor<'a>)>
         ensures { Reads uint every self.entry result }
     {
         if self.left == 0 {
@@ -70,7 +82,7 @@ impl<'a> Fields<'a> {
 
     /// A ulong that is mandatory.
     #[inline]
-    pub(crate) fn required_ulong(self) -> Option<(u64, Fields<'a>)>
+    pub(crate) fn required_ulong(self) -> Option<(u64, Cursor<'a>)>
         ensures { Reads ulong every self.entry result }
     {
         if self.left == 0 {
@@ -84,7 +96,7 @@ impl<'a> Fields<'a> {
 
     /// A ushort that is mandatory.
     #[inline]
-    fn required_ushort(self) -> Option<(u16, Fields<'a>)>
+    fn required_ushort(self) -> Option<(u16, Cursor<'a>)>
         ensures { Reads ushort every self.entry result }
     {
         if self.left == 0 {
@@ -98,7 +110,7 @@ impl<'a> Fields<'a> {
 
     /// A boolean that is mandatory.
     #[inline(always)]
-    fn required_boolean(self) -> Option<(bool, Fields<'a>)>
+    fn required_boolean(self) -> Option<(bool, Cursor<'a>)>
         ensures { Reads boolean every self.entry result }
     {
         if self.left == 0 {
@@ -112,7 +124,7 @@ impl<'a> Fields<'a> {
 
     /// A string that is mandatory.
     #[inline]
-    pub(crate) fn required_string(self) -> Option<(&'a str, Fields<'a>)>
+    pub(crate) fn required_string(self) -> Option<(&'a str, Cursor<'a>)>
         ensures { Reads string every self.entry (option_map (λ r. (r.0.now, r.1)) result) }
     {
         if self.left == 0 {
@@ -126,7 +138,7 @@ impl<'a> Fields<'a> {
 
     /// A symbol that is mandatory.
     #[inline]
-    pub(crate) fn required_symbol(self) -> Option<(&'a str, Fields<'a>)>
+    pub(crate) fn required_symbol(self) -> Option<(&'a str, Cursor<'a>)>
         ensures { Reads symbol every self.entry (option_map (λ r. (r.0.now, r.1)) result) }
     {
         if self.left == 0 {
@@ -140,7 +152,7 @@ impl<'a> Fields<'a> {
 
     /// A uint.
     #[inline(always)]
-    pub(crate) fn uint(self) -> Option<(Option<u32>, Fields<'a>)>
+    pub(crate) fn uint(self) -> Option<(Option<u32>, Cursor<'a>)>
         ensures { Reads (optional uint) (where_present every) self.entry result }
     {
         match self.absent() {
@@ -154,7 +166,7 @@ impl<'a> Fields<'a> {
 
     /// A ulong.
     #[inline]
-    pub(crate) fn ulong(self) -> Option<(Option<u64>, Fields<'a>)>
+    pub(crate) fn ulong(self) -> Option<(Option<u64>, Cursor<'a>)>
         ensures { Reads (optional ulong) (where_present every) self.entry result }
     {
         match self.absent() {
@@ -168,7 +180,7 @@ impl<'a> Fields<'a> {
 
     /// A ushort.
     #[inline]
-    pub(crate) fn ushort(self) -> Option<(Option<u16>, Fields<'a>)>
+    pub(crate) fn ushort(self) -> Option<(Option<u16>, Cursor<'a>)>
         ensures { Reads (optional ushort) (where_present every) self.entry result }
     {
         match self.absent() {
@@ -182,7 +194,7 @@ impl<'a> Fields<'a> {
 
     /// A boolean.
     #[inline(always)]
-    pub(crate) fn boolean(self) -> Option<(Option<bool>, Fields<'a>)>
+    pub(crate) fn boolean(self) -> Option<(Option<bool>, Cursor<'a>)>
         ensures { Reads (optional boolean) (where_present every) self.entry result }
     {
         match self.absent() {
@@ -196,7 +208,7 @@ impl<'a> Fields<'a> {
 
     /// A string.
     #[inline]
-    pub(crate) fn string(self) -> Option<(Option<&'a str>, Fields<'a>)>
+    pub(crate) fn string(self) -> Option<(Option<&'a str>, Cursor<'a>)>
         ensures { Reads (optional string) (where_present every) self.entry (option_map (λ r. (option_map (λ t. t.now) r.0, r.1)) result) }
     {
         match self.absent() {
@@ -210,7 +222,7 @@ impl<'a> Fields<'a> {
 
     /// A settle mode that is there (part 2, 2.8.2 and 2.8.3): at most this number.
     #[inline(always)]
-    fn required_mode(self, most: u8) -> Option<(u8, Fields<'a>)>
+    fn required_mode(self, most: u8) -> Option<(u8, Cursor<'a>)>
         ensures { Reads ubyte (λ n. nat_le n most) self.entry result }
     {
         if self.left == 0 {
@@ -228,7 +240,7 @@ impl<'a> Fields<'a> {
 
     /// A settle mode: at most this number.
     #[inline(always)]
-    pub(crate) fn mode(self, most: u8) -> Option<(Option<u8>, Fields<'a>)>
+    pub(crate) fn mode(self, most: u8) -> Option<(Option<u8>, Cursor<'a>)>
         ensures { Reads (optional ubyte) (where_present (λ (n : ℕ). nat_le n most)) self.entry result }
     {
         match self.absent() {
@@ -242,7 +254,7 @@ impl<'a> Fields<'a> {
 
     /// A delivery tag that is there: a binary of at most 32 octets (part 2, 2.8.7).
     #[inline(always)]
-    fn required_tag(self) -> Option<(Tag, Fields<'a>)>
+    fn required_tag(self) -> Option<(Tag, Cursor<'a>)>
         ensures { Reads binary is_tag self.entry result }
     {
         if self.left == 0 {
@@ -259,7 +271,7 @@ impl<'a> Fields<'a> {
 
     /// A delivery tag.
     #[inline(always)]
-    pub(crate) fn tag(self) -> Option<(Option<Tag>, Fields<'a>)>
+    pub(crate) fn tag(self) -> Option<(Option<Tag>, Cursor<'a>)>
         ensures { Reads (optional binary) (where_present is_tag) self.entry result }
     {
         match self.absent() {
@@ -271,9 +283,32 @@ impl<'a> Fields<'a> {
         }
     }
 
+    /// A delivery tag, left in the slot. None says nothing: then `tag` is to be asked.
+    #[inline(always)]
+    pub(crate) fn tag_into(self, slot: &mut Option<Tag>) -> Option<Cursor<'a>>
+        ensures { IfSome result (λ others. Reads (optional binary) (where_present is_tag) self.entry (Some (slot.new, others))) }
+    {
+        match self.absent() {
+            Some(others) => {
+                *slot = None;
+                Some(others)
+            }
+            None => match read_binary(self.octets) {
+                Some((octets, used)) => {
+                    if octets.len() > Tag::MAX_LEN {
+                        return None;
+                    }
+                    set_tag(octets, slot);
+                    Some(self.after(used))
+                }
+                None => None,
+            },
+        }
+    }
+
     /// A role, which is mandatory (part 2, 2.8.1).
     #[inline(always)]
-    pub(crate) fn role(self) -> Option<(Role, Fields<'a>)>
+    pub(crate) fn role(self) -> Option<(Role, Cursor<'a>)>
         ensures { Reads role every self.entry result }
     {
         match self.required_boolean() {
@@ -284,7 +319,7 @@ impl<'a> Fields<'a> {
     }
 
     /// A value of whatever type, null too.
-    pub(crate) fn value(self) -> Option<(ValueRef<'a>, Fields<'a>)>
+    pub(crate) fn value(self) -> Option<(ValueRef<'a>, Cursor<'a>)>
         ensures { ReadsValue self.entry (option_map (λ r. (r.0.octets.now, r.1)) result) }
     {
         if self.left == 0 {
@@ -302,7 +337,7 @@ impl<'a> Fields<'a> {
     }
 
     /// A value of whatever type.
-    pub(crate) fn any(self) -> Option<(Option<ValueRef<'a>>, Fields<'a>)>
+    pub(crate) fn any(self) -> Option<(Option<ValueRef<'a>>, Cursor<'a>)>
         ensures { Reads (optional any) (where_present is_present) self.entry (option_map (λ r. (option_map (λ v. value_in v.octets.now) r.0, r.1)) result) }
     {
         match self.absent() {
@@ -315,7 +350,7 @@ impl<'a> Fields<'a> {
     }
 
     /// A map.
-    pub(crate) fn map(self) -> Option<(Option<ValueRef<'a>>, Fields<'a>)>
+    pub(crate) fn map(self) -> Option<(Option<ValueRef<'a>>, Cursor<'a>)>
         ensures { Reads (optional mapping) (where_present every) self.entry (option_map (λ r. (option_map (λ v. pairs_in v.octets.now) r.0, r.1)) result) }
     {
         match self.absent() {

@@ -9,23 +9,23 @@ ghost use Rattle.amqp_types.specs.View.{view};
 ghost use Rattle.amqp_decoder.specs.ReadPerformatives.{ReadsDescribed, ReadsFront};
 ghost use Rattle.amqp_decoder.specs.Slots.{LeavesDescribed, LeavesFront};
 
+use crate::common::{common_disposition, common_flow, transfer_into};
 use crate::fault::BodyFault;
-use crate::fields::Fields;
+use crate::fields::Cursor;
 use crate::opening::open;
 use crate::reading::{
-    common_disposition, common_flow, common_transfer, read_close, read_detach, read_disposition,
-    read_end, read_flow, read_transfer,
+    read_close, read_detach, read_disposition, read_end, read_flow, read_transfer,
 };
 use crate::setup::{read_attach, read_begin, read_open};
 use amqp_performatives::{Composite, Performative};
-use amqp_types::Descriptor;
+use amqp_types::{Descriptor, MAX_DEPTH};
 use std::alloc::Global;
 
 /// The performative with this descriptor and these fields.
 fn read_described(
     alloc: Global,
     descriptor: Descriptor<'_>,
-    fields: Fields<'_>,
+    fields: Cursor<'_>,
 ) -> Result<Performative, BodyFault>
     requires { 5 ≤ fields.depth }
     ensures { ReadsDescribed (datum_of descriptor.entry) fields.entry result }
@@ -64,7 +64,7 @@ fn read_described(
 fn read_front(alloc: Global, octets: &[u8]) -> Result<(Performative, usize), BodyFault>
     ensures { ReadsFront octets.now result }
 {
-    match open(octets, 32) {
+    match open(octets, MAX_DEPTH) {
         Some(opened) => match read_described(alloc, opened.descriptor, opened.fields) {
             Ok(performative) => Ok((performative, opened.used)),
             Err(fault) => Err(fault),
@@ -91,7 +91,7 @@ pub fn read_performative(alloc: Global, octets: &[u8]) -> Result<(Performative, 
 fn described_into(
     alloc: Global,
     descriptor: Descriptor<'_>,
-    fields: Fields<'_>,
+    fields: Cursor<'_>,
     slot: &mut Option<Performative>,
 ) -> Result<(), BodyFault>
     requires { 5 ≤ fields.depth }
@@ -111,15 +111,14 @@ fn described_into(
 fn common_into(
     alloc: Global,
     descriptor: Descriptor<'_>,
-    fields: Fields<'_>,
+    fields: Cursor<'_>,
     slot: &mut Option<Performative>,
 ) -> Result<(), BodyFault>
     requires { 5 ≤ fields.depth }
     ensures { LeavesDescribed (datum_of descriptor.entry) fields.entry result slot.new }
 {
     if Composite::Transfer.is_named(descriptor) {
-        if let Some(body) = common_transfer(fields) {
-            *slot = Some(Performative::Transfer(body));
+        if transfer_into(fields, slot) {
             return Ok(());
         }
     } else if Composite::Flow.is_named(descriptor) {
@@ -149,7 +148,7 @@ pub fn read_performative_into(
 ) -> Result<usize, BodyFault>
     ensures { LeavesFront octets.now result slot.new }
 {
-    match open(octets, 32) {
+    match open(octets, MAX_DEPTH) {
         Some(opened) => match common_into(alloc, opened.descriptor, opened.fields, slot) {
             Ok(()) => Ok(opened.used),
             Err(fault) => Err(fault),

@@ -8,6 +8,7 @@
 #![tactic(auto)]
 
 mod borrowed;
+mod common;
 mod fault;
 mod fields;
 mod front;

@@ -3,14 +3,14 @@ ghost use Rattle.std.specs.Prelude.{◌≡◌, ◌≤◌, ◌+◌, MatchOption, 
 ghost use Rattle.amqp_types.specs.Heads.{datum_of};
 ghost use Rattle.amqp_decoder.specs.Opening.{FindsItems, NoItems, Opens, NotOpened};
 
-use crate::fields::Fields;
+use crate::fields::Cursor;
 use amqp_types::{Descriptor, read_descriptor, read_list_head};
 
 /// A described list that is in front of octets, as far as its head says.
 #[derive(Clone, Copy)]
 pub(crate) struct Opened<'a> {
     pub(crate) descriptor: Descriptor<'a>,
-    pub(crate) fields: Fields<'a>,
+    pub(crate) fields: Cursor<'a>,
     /// How many octets spell it.
     pub(crate) used: usize,
 }
@@ -38,7 +38,7 @@ pub(crate) fn open(octets: &[u8], depth: u8) -> Option<Opened<'_>>
         Some((descriptor, start)) => match list_items(&octets[start..]) {
             Some((left, items, used)) => Some(Opened {
                 descriptor,
-                fields: Fields {
+                fields: Cursor {
                     depth: (depth - 2) as usize,
                     left,
                     octets: items,

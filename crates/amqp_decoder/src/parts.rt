@@ -9,13 +9,13 @@ ghost use Rattle.amqp_decoder.specs.Parts.{ReadsAll, error_in, error_fields, lon
 ghost use Rattle.amqp_decoder.specs.Reading.{AreFields, Reads, every};
 
 use crate::borrowed::{ErrorRef, ValueRef};
-use crate::fields::Fields;
+use crate::fields::Cursor;
 use crate::opening::open;
 use amqp_performatives::{AmqpError, Composite};
 use amqp_types::{Boxed, Items, Text, Value, read_null};
 use std::alloc::{AllocError, Global};
 
-impl<'a> Fields<'a> {
+impl<'a> Cursor<'a> {
     /// Whether no field is left, but for null ones, and no octet.
     #[inline]
     pub(crate) fn is_at_end(self) -> bool
@@ -33,7 +33,7 @@ impl<'a> Fields<'a> {
 }
 
 /// The fields of an error.
-fn error_fields(fields: Fields<'_>) -> Option<ErrorRef<'_>>
+fn error_fields(fields: Cursor<'_>) -> Option<ErrorRef<'_>>
     ensures { ReadsAll error_fields is_fair_error fields.entry (option_map error_in result) }
 {
     let (condition, fields) = fields.required_symbol()?;
@@ -49,9 +49,9 @@ fn error_fields(fields: Fields<'_>) -> Option<ErrorRef<'_>>
     })
 }
 
-impl<'a> Fields<'a> {
+impl<'a> Cursor<'a> {
     /// An error that is there.
-    fn required_error(self) -> Option<(ErrorRef<'a>, Fields<'a>)>
+    fn required_error(self) -> Option<(ErrorRef<'a>, Cursor<'a>)>
         requires { 3 ≤ self.depth }
         ensures { Reads error_part is_fair_error self.entry (option_map (λ r. (error_in r.0, r.1)) result) }
     {
@@ -73,7 +73,7 @@ impl<'a> Fields<'a> {
     }
 
     /// An error.
-    pub(crate) fn error(self) -> Option<(Option<ErrorRef<'a>>, Fields<'a>)>
+    pub(crate) fn error(self) -> Option<(Option<ErrorRef<'a>>, Cursor<'a>)>
         requires { 3 ≤ self.depth }
         ensures { Reads (optional error_part) (where_present is_fair_error) self.entry (option_map (λ r. (option_map error_in r.0, r.1)) result) }
     {
@@ -88,7 +88,7 @@ impl<'a> Fields<'a> {
 }
 
 /// An error that is the one field.
-pub(crate) fn lone_error(fields: Fields<'_>) -> Option<Option<ErrorRef<'_>>>
+pub(crate) fn lone_error(fields: Cursor<'_>) -> Option<Option<ErrorRef<'_>>>
     requires { 3 ≤ fields.depth }
     ensures { ReadsAll lone_error (where_present is_fair_error) fields.entry (option_map (λ r. option_map error_in r) result) }
 {

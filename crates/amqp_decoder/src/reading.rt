@@ -1,6 +1,6 @@
 //! Reading performatives (part 2, 2.7), each by the table of its fields. A body is read where it lies, and memory is asked for last, so that a transfer,
 //! a flow or a disposition without errors and fields of any type takes none.
-ghost use Rattle.std.specs.Prelude.{◌≡◌, ◌≤◌, ◌&&◌, ℕ, Some, IfSome, option_map};
+ghost use Rattle.std.specs.Prelude.{◌≡◌, ◌≤◌, ◌&&◌, ℕ, option_map};
 ghost use Rattle.amqp_performatives.specs.Bodies.{flow_fields, transfer_fields, disposition_fields, detach_fields, end_fields, close_fields};
 ghost use Rattle.amqp_performatives.specs.Fair.{where_present, is_present, is_tag, is_receiver_mode, is_fair_error, is_fair_state};
 ghost use Rattle.amqp_decoder.specs.Parts.{ReadsAll, state_in};
@@ -9,17 +9,16 @@ ghost use Rattle.amqp_decoder.specs.ReadBodies.{flow_in, transfer_in, dispositio
 
 use crate::borrowed::{ErrorRef, StateRef, ValueRef};
 use crate::fault::BodyFault;
-use crate::fields::Fields;
+use crate::fields::Cursor;
 use crate::parts::{lone_error, owned_error, owned_value};
 use crate::states::owned_state;
 use amqp_performatives::{
-    CloseBody, DeliveryState, DetachBody, DispositionBody, EndBody, FlowBody, Performative,
-    TransferBody,
+    CloseBody, DetachBody, DispositionBody, EndBody, FlowBody, Performative, TransferBody,
 };
 use std::alloc::Global;
 
 /// The fields of flow, and the one that wants memory.
-fn flow_fields(fields: Fields<'_>) -> Option<(FlowBody, Option<ValueRef<'_>>)>
+fn flow_fields(fields: Cursor<'_>) -> Option<(FlowBody, Option<ValueRef<'_>>)>
     ensures { ReadsAll flow_fields (λ b. where_present is_present b.properties) fields.entry (option_map flow_in result) }
 {
     let (next_incoming_id, fields) = fields.uint()?;
@@ -55,7 +54,7 @@ fn flow_fields(fields: Fields<'_>) -> Option<(FlowBody, Option<ValueRef<'_>>)>
 }
 
 /// Flow.
-pub(crate) fn read_flow(alloc: Global, fields: Fields<'_>) -> Result<Performative, BodyFault>
+pub(crate) fn read_flow(alloc: Global, fields: Cursor<'_>) -> Result<Performative, BodyFault>
     ensures { ReadsKind flow_type fields.entry result }
 {
     match flow_fields(fields) {
@@ -71,7 +70,7 @@ pub(crate) fn read_flow(alloc: Global, fields: Fields<'_>) -> Result<Performativ
 }
 
 /// The fields of transfer, and the one that wants memory.
-fn transfer_fields(fields: Fields<'_>) -> Option<(TransferBody, Option<StateRef<'_>>)>
+fn transfer_fields(fields: Cursor<'_>) -> Option<(TransferBody, Option<StateRef<'_>>)>
     requires { 5 ≤ fields.depth }
     ensures { ReadsAll transfer_fields (λ b. where_present is_tag b.delivery_tag && where_present is_receiver_mode b.rcv_settle_mode && where_present is_fair_state b.state) fields.entry (option_map transfer_in result) }
 {
@@ -109,123 +108,8 @@ fn transfer_fields(fields: Fields<'_>) -> Option<(TransferBody, Option<StateRef<
     ))
 }
 
-/// Transfer without a state, the common one. None says nothing: then `transfer_fields` is to be asked.
-#[inline(always)]
-pub(crate) fn common_transfer(fields: Fields<'_>) -> Option<TransferBody>
-    ensures { IfSome result (λ b. ReadsAll transfer_fields (λ b. where_present is_tag b.delivery_tag && where_present is_receiver_mode b.rcv_settle_mode && where_present is_fair_state b.state) fields.entry (Some b)) }
-{
-    let (handle, fields) = fields.required_uint()?;
-    let (delivery_id, fields) = fields.uint()?;
-    let Some((delivery_tag, fields)) = fields.tag() else {
-        return None;
-    };
-    let (message_format, fields) = fields.uint()?;
-    let (settled, fields) = fields.boolean()?;
-    let (more, fields) = fields.boolean()?;
-    let (rcv_settle_mode, fields) = fields.mode(1)?;
-    let Some(fields) = fields.absent() else {
-        return None;
-    };
-    let (resume, fields) = fields.boolean()?;
-    let (aborted, fields) = fields.boolean()?;
-    let (batchable, fields) = fields.boolean()?;
-    if !fields.is_at_end() {
-        return None;
-    }
-    Some(TransferBody {
-        handle,
-        delivery_id,
-        delivery_tag,
-        message_format,
-        settled,
-        more,
-        rcv_settle_mode,
-        state: None,
-        resume,
-        aborted,
-        batchable,
-    })
-}
-
-/// Flow without properties, the common one. None says nothing: then `flow_fields` is to be asked.
-#[inline(always)]
-pub(crate) fn common_flow(fields: Fields<'_>) -> Option<FlowBody>
-    ensures { IfSome result (λ b. ReadsAll flow_fields (λ b. where_present is_present b.properties) fields.entry (Some b)) }
-{
-    let (next_incoming_id, fields) = fields.uint()?;
-    let (incoming_window, fields) = fields.required_uint()?;
-    let (next_outgoing_id, fields) = fields.required_uint()?;
-    let (outgoing_window, fields) = fields.required_uint()?;
-    let (handle, fields) = fields.uint()?;
-    let (delivery_count, fields) = fields.uint()?;
-    let (link_credit, fields) = fields.uint()?;
-    let (available, fields) = fields.uint()?;
-    let (drain, fields) = fields.boolean()?;
-    let (echo, fields) = fields.boolean()?;
-    let Some(fields) = fields.absent() else {
-        return None;
-    };
-    if !fields.is_at_end() {
-        return None;
-    }
-    Some(FlowBody {
-        next_incoming_id,
-        incoming_window,
-        next_outgoing_id,
-        outgoing_window,
-        handle,
-        delivery_count,
-        link_credit,
-        available,
-        drain,
-        echo,
-        properties: None,
-    })
-}
-
-/// The state, where it owns no memory.
-#[inline(always)]
-fn bare_state(state: Option<StateRef<'_>>) -> Option<Option<DeliveryState>>
-    ensures { IfSome result (λ s. s ≡ option_map state_in state.entry) }
-{
-    match state {
-        None => Some(None),
-        Some(StateRef::Accepted) => Some(Some(DeliveryState::Accepted)),
-        Some(StateRef::Released) => Some(Some(DeliveryState::Released)),
-        _ => None,
-    }
-}
-
-/// Disposition with a state that owns no memory, the common one. None says nothing: then `disposition_fields` is to be asked.
-#[inline(always)]
-pub(crate) fn common_disposition(fields: Fields<'_>) -> Option<DispositionBody>
-    requires { 5 ≤ fields.depth }
-    ensures { IfSome result (λ b. ReadsAll disposition_fields (λ b. where_present is_fair_state b.state) fields.entry (Some b)) }
-{
-    let (role, fields) = fields.role()?;
-    let (first, fields) = fields.required_uint()?;
-    let (last, fields) = fields.uint()?;
-    let (settled, fields) = fields.boolean()?;
-    let (reached, fields) = fields.state()?;
-    let (batchable, fields) = fields.boolean()?;
-    if !fields.is_at_end() {
-        return None;
-    }
-    let Some(state) = bare_state(reached) else {
-        return None;
-    };
-    Some(DispositionBody {
-        role,
-        first,
-        last,
-        settled,
-        state,
-        batchable,
-    })
-}
-
 /// Transfer.
-pub(crate) fn read_transfer(alloc: Global, fields: Fields<'_>) -> Result<Performative, BodyFault>
+pub(crate) fn read_transfer(alloc: Global, fields: Cursor<'_>) -> Result<Performative, BodyFault>
     requires { 5 ≤ fields.depth }
     ensures { ReadsKind transfer_type fields.entry result }
 {
@@ -242,7 +126,7 @@ pub(crate) fn read_transfer(alloc: Global, fields: Fields<'_>) -> Result<Perform
 }
 
 /// The fields of disposition, and the one that wants memory.
-fn disposition_fields(fields: Fields<'_>) -> Option<(DispositionBody, Option<StateRef<'_>>)>
+fn disposition_fields(fields: Cursor<'_>) -> Option<(DispositionBody, Option<StateRef<'_>>)>
     requires { 5 ≤ fields.depth }
     ensures { ReadsAll disposition_fields (λ b. where_present is_fair_state b.state) fields.entry (option_map disposition_in result) }
 {
@@ -269,7 +153,7 @@ fn disposition_fields(fields: Fields<'_>) -> Option<(DispositionBody, Option<Sta
 }
 
 /// Disposition.
-pub(crate) fn read_disposition(alloc: Global, fields: Fields<'_>) -> Result<Performative, BodyFault>
+pub(crate) fn read_disposition(alloc: Global, fields: Cursor<'_>) -> Result<Performative, BodyFault>
     requires { 5 ≤ fields.depth }
     ensures { ReadsKind disposition_type fields.entry result }
 {
@@ -286,7 +170,7 @@ pub(crate) fn read_disposition(alloc: Global, fields: Fields<'_>) -> Result<Perf
 }
 
 /// The fields of detach, and the one that wants memory.
-fn detach_fields(fields: Fields<'_>) -> Option<(DetachBody, Option<ErrorRef<'_>>)>
+fn detach_fields(fields: Cursor<'_>) -> Option<(DetachBody, Option<ErrorRef<'_>>)>
     requires { 3 ≤ fields.depth }
     ensures { ReadsAll detach_fields (λ b. where_present is_fair_error b.error) fields.entry (option_map detach_in result) }
 {
@@ -307,7 +191,7 @@ fn detach_fields(fields: Fields<'_>) -> Option<(DetachBody, Option<ErrorRef<'_>>
 }
 
 /// Detach.
-pub(crate) fn read_detach(alloc: Global, fields: Fields<'_>) -> Result<Performative, BodyFault>
+pub(crate) fn read_detach(alloc: Global, fields: Cursor<'_>) -> Result<Performative, BodyFault>
     requires { 3 ≤ fields.depth }
     ensures { ReadsKind detach_type fields.entry result }
 {
@@ -324,7 +208,7 @@ pub(crate) fn read_detach(alloc: Global, fields: Fields<'_>) -> Result<Performat
 }
 
 /// End.
-pub(crate) fn read_end(alloc: Global, fields: Fields<'_>) -> Result<Performative, BodyFault>
+pub(crate) fn read_end(alloc: Global, fields: Cursor<'_>) -> Result<Performative, BodyFault>
     requires { 3 ≤ fields.depth }
     ensures { ReadsKind end_type fields.entry result }
 {
@@ -338,7 +222,7 @@ pub(crate) fn read_end(alloc: Global, fields: Fields<'_>) -> Result<Performative
 }
 
 /// Close.
-pub(crate) fn read_close(alloc: Global, fields: Fields<'_>) -> Result<Performative, BodyFault>
+pub(crate) fn read_close(alloc: Global, fields: Cursor<'_>) -> Result<Performative, BodyFault>
     requires { 3 ≤ fields.depth }
     ensures { ReadsKind close_type fields.entry result }
 {

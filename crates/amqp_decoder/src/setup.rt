@@ -8,7 +8,7 @@ ghost use Rattle.amqp_decoder.specs.ReadSetup.{open_in, begin_in, attach_in};
 
 use crate::borrowed::ValueRef;
 use crate::fault::BodyFault;
-use crate::fields::Fields;
+use crate::fields::Cursor;
 use crate::parts::{owned_map, owned_text, owned_value};
 use amqp_performatives::{AttachBody, BeginBody, OpenBody, Performative, Role};
 use amqp_types::{Boxed, Text};
@@ -30,7 +30,7 @@ struct OpenRef<'a> {
 }
 
 /// The fields of open.
-fn open_fields(fields: Fields<'_>) -> Option<OpenRef<'_>>
+fn open_fields(fields: Cursor<'_>) -> Option<OpenRef<'_>>
     ensures { ReadsAll open_fields is_fair_open fields.entry (option_map open_in result) }
 {
     let (container_id, fields) = fields.required_string()?;
@@ -91,7 +91,7 @@ impl<'a> OpenRef<'a> {
 }
 
 /// Open.
-pub(crate) fn read_open(alloc: Global, fields: Fields<'_>) -> Result<Performative, BodyFault>
+pub(crate) fn read_open(alloc: Global, fields: Cursor<'_>) -> Result<Performative, BodyFault>
     ensures { ReadsKind open_type fields.entry result }
 {
     match open_fields(fields) {
@@ -117,7 +117,7 @@ struct BeginRef<'a> {
 }
 
 /// The fields of begin.
-fn begin_fields(fields: Fields<'_>) -> Option<BeginRef<'_>>
+fn begin_fields(fields: Cursor<'_>) -> Option<BeginRef<'_>>
     ensures { ReadsAll begin_fields is_fair_begin fields.entry (option_map begin_in result) }
 {
     let (remote_channel, fields) = fields.ushort()?;
@@ -168,7 +168,7 @@ impl<'a> BeginRef<'a> {
 }
 
 /// Begin.
-pub(crate) fn read_begin(alloc: Global, fields: Fields<'_>) -> Result<Performative, BodyFault>
+pub(crate) fn read_begin(alloc: Global, fields: Cursor<'_>) -> Result<Performative, BodyFault>
     ensures { ReadsKind begin_type fields.entry result }
 {
     match begin_fields(fields) {
@@ -200,7 +200,7 @@ struct AttachRef<'a> {
 }
 
 /// The fields of attach.
-fn attach_fields(fields: Fields<'_>) -> Option<AttachRef<'_>>
+fn attach_fields(fields: Cursor<'_>) -> Option<AttachRef<'_>>
     ensures { ReadsAll attach_fields is_fair_attach fields.entry (option_map attach_in result) }
 {
     let (name, fields) = fields.required_string()?;
@@ -273,7 +273,7 @@ impl<'a> AttachRef<'a> {
 }
 
 /// Attach.
-pub(crate) fn read_attach(alloc: Global, fields: Fields<'_>) -> Result<Performative, BodyFault>
+pub(crate) fn read_attach(alloc: Global, fields: Cursor<'_>) -> Result<Performative, BodyFault>
     ensures { ReadsKind attach_type fields.entry result }
 {
     match attach_fields(fields) {

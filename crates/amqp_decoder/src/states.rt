@@ -1,16 +1,16 @@
 //! Delivery states (part 3, 3.4).
-ghost use Rattle.std.specs.Prelude.{◌≡◌, ◌≤◌, ◌&&◌, false, ℕ, IfOk, MatchOption, option_map};
+ghost use Rattle.std.specs.Prelude.{◌≡◌, ◌≤◌, ◌&&◌, false, ℕ, Some, IfOk, IfSome, MatchOption, option_map};
 ghost use Rattle.amqp_types.specs.Heads.{datum_of};
 ghost use Rattle.amqp_performatives.specs.Bodies.{state as state_part, optional};
 ghost use Rattle.amqp_performatives.specs.Fair.{where_present, is_present, is_fair_state, names_state};
-ghost use Rattle.amqp_decoder.specs.Opening.{NoStateNamed};
+ghost use Rattle.amqp_decoder.specs.Opening.{NoStateNamed, IsBareList};
 ghost use Rattle.amqp_performatives.specs.Part.{IsDescriptor};
 ghost use Rattle.amqp_decoder.specs.Parts.{ReadsAll, state_in, values_in};
 ghost use Rattle.amqp_decoder.specs.Reading.{Reads, MissesAbsent, every};
-ghost use Rattle.amqp_decoder.specs.States.{type_of, is_of, received_fields, modified_fields, state_fields};
+ghost use Rattle.amqp_decoder.specs.States.{type_of, is_of, received_fields, modified_fields, state_fields, bare_in};
 
 use crate::borrowed::{StateRef, ValueRef};
-use crate::fields::Fields;
+use crate::fields::Cursor;
 use crate::opening::open;
 use crate::parts::{lone_error, owned_error, owned_value};
 use amqp_performatives::{Composite, DeliveryState};
@@ -25,6 +25,34 @@ enum StateKind {
     Rejected,
     Released,
     Modified,
+}
+
+/// A state that has no fields.
+#[derive(Clone, Copy)]
+pub(crate) enum BareState {
+    Accepted,
+    Released,
+}
+
+/// The number of the described list without items in front of the octets, where four of them spell it, the fewest that can.
+#[inline(always)]
+fn bare_list(octets: &[u8]) -> Option<u8>
+    ensures { IfSome result (λ number. IsBareList number octets.now) }
+{
+    let (described, rest) = octets.split_first()?;
+    let (small_ulong, rest) = rest.split_first()?;
+    let (number, rest) = rest.split_first()?;
+    let (empty_list, _) = rest.split_first()?;
+    if *described != 0x00 {
+        return None;
+    }
+    if *small_ulong != 0x53 {
+        return None;
+    }
+    if *empty_list != 0x45 {
+        return None;
+    }
+    Some(*number)
 }
 
 /// The type that the descriptor names.
@@ -51,7 +79,7 @@ fn state_kind(descriptor: Descriptor<'_>) -> Option<StateKind>
 }
 
 /// The fields of received (part 3, 3.4.1).
-fn received_fields(fields: Fields<'_>) -> Option<(u32, u64)>
+fn received_fields(fields: Cursor<'_>) -> Option<(u32, u64)>
     ensures { ReadsAll received_fields every fields.entry result }
 {
     let (section_number, fields) = fields.required_uint()?;
@@ -63,7 +91,7 @@ fn received_fields(fields: Fields<'_>) -> Option<(u32, u64)>
 }
 
 /// The fields of modified (part 3, 3.4.5).
-fn modified_fields(fields: Fields<'_>) -> Option<(Option<bool>, Option<bool>, Option<ValueRef<'_>>)>
+fn modified_fields(fields: Cursor<'_>) -> Option<(Option<bool>, Option<bool>, Option<ValueRef<'_>>)>
     ensures { ReadsAll modified_fields (λ m. where_present is_present m.2) fields.entry (option_map (λ r. (r.0, r.1, values_in r.2)) result) }
 {
     let (delivery_failed, fields) = fields.boolean()?;
@@ -76,7 +104,7 @@ fn modified_fields(fields: Fields<'_>) -> Option<(Option<bool>, Option<bool>, Op
 }
 
 /// The state of this type that has these fields.
-fn state_fields(kind: StateKind, fields: Fields<'_>) -> Option<StateRef<'_>>
+fn state_fields(kind: StateKind, fields: Cursor<'_>) -> Option<StateRef<'_>>
     requires { 3 ≤ fields.depth }
     ensures { ReadsAll state_fields (λ s. is_of kind s && is_fair_state s) fields.entry (option_map state_in result) }
 {
@@ -115,9 +143,9 @@ fn state_fields(kind: StateKind, fields: Fields<'_>) -> Option<StateRef<'_>>
     }
 }
 
-impl<'a> Fields<'a> {
+impl<'a> Cursor<'a> {
     /// A state that is none of the five, as a transaction's: kept as it is.
-    fn other_state(self) -> Option<(StateRef<'a>, Fields<'a>)>
+    fn other_state(self) -> Option<(StateRef<'a>, Cursor<'a>)>
         requires deep { 5 ≤ self.depth }
         requires present { MissesAbsent self.left self.octets.now }
         requires other { NoStateNamed self.depth self.octets.now }
@@ -130,7 +158,7 @@ impl<'a> Fields<'a> {
     }
 
     /// A state that is there.
-    fn required_state(self) -> Option<(StateRef<'a>, Fields<'a>)>
+    fn required_state(self) -> Option<(StateRef<'a>, Cursor<'a>)>
         requires deep { 5 ≤ self.depth }
         requires present { MissesAbsent self.left self.octets.now }
         ensures { Reads state_part is_fair_state self.entry (option_map (λ r. (state_in r.0, r.1)) result) }
@@ -155,7 +183,7 @@ impl<'a> Fields<'a> {
 
     /// A state.
     #[inline]
-    pub(crate) fn state(self) -> Option<(Option<StateRef<'a>>, Fields<'a>)>
+    pub(crate) fn state(self) -> Option<(Option<StateRef<'a>>, Cursor<'a>)>
         requires { 5 ≤ self.depth }
         ensures { Reads (optional state_part) (where_present is_fair_state) self.entry (option_map (λ r. (option_map state_in r.0, r.1)) result) }
     {
@@ -164,6 +192,24 @@ impl<'a> Fields<'a> {
             None => match self.required_state() {
                 Some((state, others)) => Some((Some(state), others)),
                 None => None,
+            },
+        }
+    }
+}
+
+impl<'a> Cursor<'a> {
+    /// No state or one without fields, in its common spelling. None says nothing: then `state` is to be asked.
+    #[inline(always)]
+    pub(crate) fn bare_state(self) -> Option<(Option<BareState>, Cursor<'a>)>
+        requires { 3 ≤ self.depth }
+        ensures { IfSome result (λ r. Reads (optional state_part) (where_present is_fair_state) self.entry (Some (option_map bare_in r.0, r.1))) }
+    {
+        match self.absent() {
+            Some(others) => Some((None, others)),
+            None => match bare_list(self.octets) {
+                Some(0x24) => Some((Some(BareState::Accepted), self.after(4))),
+                Some(0x26) => Some((Some(BareState::Released), self.after(4))),
+                _ => None,
             },
         }
     }

@@ -94,8 +94,3 @@ within_by code depth ds false some small deep e =
 
 pub composite_within : (code depth : ℕ) (ds : Data) → 0 < code → code < 256 → 2 ≤ depth → capped (form_within depth (composite_datum code ds)) ≡ size_from (measured (count_of ds) (forms_within (depth - 2) ds))
 composite_within code depth ds some small deep = within_by code depth ds (leb (greatest_depth_of ds) (depth - 2)) some small deep refl
-
-pub composite_deep : (code depth : ℕ) (ds : Data) → depth < 2 → form_within depth (composite_datum code ds) ≡ None
-composite_deep code depth ds lt =
-    let f : leb (depth_of (composite_datum code ds)) depth ≡ false = lt-leb _ _ (omega (arith, lt)) in
-    rw f refl

@@ -46,16 +46,16 @@ pub done_view : (m m' n : ℕ) (items kept : List ℕ) → m ≡ m' → take n i
 done_view m m' n items kept e f = same_state m m' [] [] (Some (take n items)) (Some kept) e refl (ap Some f)
 
 more_room : (max a b : ℕ) (x : List ℕ) → a ≤ b → HasRoom max a x → HasRoom max b x
-more_room max a b x h r = record { unfinished = r.unfinished; sized = λ n. let t = r.sized n in omega arith }
+more_room max a b x h r = record { unfinished = r.unfinished; sized = λ n s. let t = r.sized n s in omega arith }
 
 some_same : (a b : List ℕ) → Some a ≡ Some b → a ≡ b
 some_same a b e = cc
 
-pub sound_kept : (max old room n : ℕ) (items kept piece : List ℕ) → items ≡ kept ++ piece → n ≡ length kept → HasRoom max old kept → old ≤ room → IsUnfinished max (kept ++ piece) → (8 ≤ length (kept ++ piece) → size_of (kept ++ piece) ≤ room) → IsSound max room items (Some (take n items))
+pub sound_kept : (max old room n : ℕ) (items kept piece : List ℕ) → items ≡ kept ++ piece → n ≡ length kept → HasRoom max old kept → old ≤ room → IsUnfinished max (kept ++ piece) → (8 ≤ length (kept ++ piece) → size_of (kept ++ piece) ≤ 512 → size_of (kept ++ piece) ≤ room) → IsSound max room items (Some (take n items))
 sound_kept max old room n items kept piece e k h more u s =
     let front : take n items ≡ kept = ap (take n) e ∙ take_at kept piece n (sym k) in
     record {
-      now = record { unfinished = subst (λ (t : List ℕ). IsUnfinished max t) (sym e) u; sized = subst (λ (t : List ℕ). 8 ≤ length t → size_of t ≤ room) (sym e) s };
+      now = record { unfinished = subst (λ (t : List ℕ). IsUnfinished max t) (sym e) u; sized = subst (λ (t : List ℕ). 8 ≤ length t → size_of t ≤ 512 → size_of t ≤ room) (sym e) s };
       then = λ octets f. subst (λ (t : List ℕ). HasRoom max room t) (sym front ∙ some_same (take n items) octets f) (more_room max old room kept more h);
     }
 
@@ -72,12 +72,16 @@ same_view m is_done before items old e = ap (λ (t : List ℕ). state m (if is_d
 pub sound_done : (max old room n : ℕ) (items kept : List ℕ) → take n items ≡ kept → HasRoom max old kept → old ≤ room → IsSound max room [] (Some (take n items))
 sound_done max old room n items kept e h more =
     record {
-      now = record { unfinished = inl (omega arith); sized = λ t. absurd (omega arith) };
+      now = record { unfinished = inl (omega arith); sized = λ t s. absurd (omega arith) };
       then = λ octets f. subst (λ (t : List ℕ). HasRoom max room t) (sym e ∙ some_same (take n items) octets f) (more_room max old room kept more h);
     }
 
 pub extended : {E : Type 0} (r : Result (Unit {0}) E) (u : Unit {0}) (items a b : List ℕ) → items ≡ (if is_ok r then a ++ b else a) → r ≡ Ok u → items ≡ a ++ b
 extended r u items a b e k = e ∙ ap (λ t. if is_ok t then a ++ b else a) k
+
+-- behind the same octets in a buffer with more room
+pub joined : {E : Type 0} (r : Result (Unit {0}) E) (u : Unit {0}) (items a old b : List ℕ) → a ≡ old → items ≡ (if is_ok r then a ++ b else a) → r ≡ Ok u → items ≡ old ++ b
+joined r u items a old b s e k = extended r u items a b e k ∙ ap (λ (t : List ℕ). t ++ b) s
 
 pub room_of : (max room : ℕ) (a b : List ℕ) → a ≡ b → HasRoom max room a → HasRoom max room b
 room_of max room a b e h = subst (λ (t : List ℕ). HasRoom max room t) e h
@@ -87,13 +91,13 @@ unfinished_of a b x e h = subst (λ (t : ℕ). IsUnfinished t x) (sym e) h
 
 -- ---- a frame that the piece makes whole
 
-begins_front : (h : Header) (max : ℕ) (x z : List ℕ) → BeginsWith h max (x ++ z) → 8 ≤ length x → BeginsWith h max x
+pub begins_front : (h : Header) (max : ℕ) (x z : List ℕ) → BeginsWith h max (x ++ z) → 8 ≤ length x → BeginsWith h max x
 begins_front h max x z b n =
     let front : take 8 x ≡ header_octets h = sym (take-append-le 8 x z n) ∙ ap (take 8) b.parts in
     record { size_fits = b.size_fits; octet = b.octet; channel = b.channel; low = b.low; high = b.high; small = b.small; rest = drop 8 x; parts = sym (take-append-drop 8 x) ∙ ap (λ (t : List ℕ). t ++ drop 8 x) front }
 
 -- the octets of the frame
-abbrev whole : List ℕ → ℕ → List ℕ → List ℕ
+abbrev pub whole : List ℕ → ℕ → List ℕ → List ℕ
 whole kept missing piece = kept ++ take missing piece
 
 whole_len : (kept piece : List ℕ) (missing : ℕ) → missing ≤ length piece → length (whole kept missing piece) ≡ length kept + missing
@@ -118,7 +122,7 @@ framed f h max missing kept piece contents b s n e c k =
     (is_frame f h max (whole kept missing piece) c w (len ∙ s) (subst (λ (t : List ℕ). AreContents f.body f.payload t) (sym e) k), omega arith)
 
 pub refused : (fault : FrameFault) (h : Header) (max missing : ℕ) (kept piece contents : List ℕ) → BeginsWith h max (kept ++ piece) → length kept + missing ≡ h.size → missing ≤ length piece → drop (4 * h.doff) (whole kept missing piece) ≡ contents
-    → AreNoContents fault contents → Faulty fault max (kept ++ piece)
+    → AreNoContents fault contents → Faulty fault max kept piece
 refused ShortSize h max missing kept piece contents b s n e k = absurd k
 refused BadDoff h max missing kept piece contents b s n e k = absurd k
 refused TooBig h max missing kept piece contents b s n e k = absurd k

@@ -21,9 +21,6 @@ depth_some (map vs) = omega arith
 depth_some (array c vs) = omega arith
 depth_some (described d v) = omega arith
 
-pub at_no_depth : (depth : ℕ) (d : Datum) → depth ≡ 0 → form_within depth d ≡ None
-at_no_depth depth d z = let e : leb (depth_of d) depth ≡ false = lt-leb _ _ (omega (arith, depth_some d)) in rw e refl
-
 pub leaf_within : (depth : ℕ) (d : Datum) → depth_of d ≡ 1 → depth ≢ 0 → form_within depth d ≡ part_form None d
 leaf_within depth d one ne = let e : leb (depth_of d) depth ≡ true = le-leb _ _ (omega (arith, one, ne)) in rw e refl
 
@@ -54,10 +51,6 @@ forms_item depth v vs = forms_by depth v vs (leb (depth_of v) depth) (leb (great
 abbrev pub capped_behind : ℕ → Option (List ℕ) → Option ℕ
 capped_behind n form = form >>= λ x. Some (min (n + length x) (2 ^ 64 - 1))
 
-pub nothing_before : (form : Option (List ℕ)) → capped_behind 0 form ≡ capped form
-nothing_before (Some x) = ap (λ (k : ℕ). Some (min k (2 ^ 64 - 1))) (omega arith)
-nothing_before None = refl
-
 size_past : (size more next : ℕ) (a form : Option (List ℕ)) → Some more ≡ capped a → next ≡ min (size + more) (2 ^ 64 - 1) → capped_behind size (a >>= λ x. form >>= λ y. Some (x ++ y)) ≡ capped_behind next form
 size_past size more next (Some x) (Some y) e s =
     let m : more ≡ min (length x) (2 ^ 64 - 1) = cc in
@@ -65,26 +58,9 @@ size_past size more next (Some x) (Some y) e s =
 size_past size more next (Some x) None e s = refl
 size_past size more next None form e s = absurd cc
 
--- one more field
-pub size_step : (depth : ℕ) (fs : List Field) (i n : ℕ) (f : Field) (size more next : ℕ) (total : Option ℕ) → IsNext fs i n f → Some more ≡ capped (form_within depth (canonical (part_at f))) → next ≡ min (size + more) (2 ^ 64 - 1)
-    → capped_behind size (forms_within depth (shown_fields (drop i fs))) ≡ total → capped_behind next (forms_within depth (shown_fields (drop (i + 1) fs))) ≡ total
-size_step depth fs i n f size more next total h e s so_far =
-    let parts : forms_within depth (shown_fields (drop i fs)) ≡ (form_within depth (canonical (part_at f)) >>= λ x. forms_within depth (shown_fields (drop (i + 1) fs)) >>= λ y. Some (x ++ y)) =
-    ap (forms_within depth) h.parts ∙ forms_item depth (canonical (part_at f)) (shown_fields (drop (i + 1) fs)) in
-    sym (size_past size more next (form_within depth (canonical (part_at f))) (forms_within depth (shown_fields (drop (i + 1) fs))) e s) ∙ sym (ap (capped_behind size) parts) ∙ so_far
-
 none_capped : (a : Option (List ℕ)) → None ≡ capped a → a ≡ None
 none_capped (Some x) e = absurd cc
 none_capped None e = refl
-
--- a field that is not written at all
-pub size_missing : (depth : ℕ) (fs : List Field) (i n : ℕ) (f : Field) (size : ℕ) → IsNext fs i n f → None ≡ capped (form_within depth (canonical (part_at f)))
-    → capped_behind size (forms_within depth (shown_fields (drop i fs))) ≡ capped (forms_within depth (shown_fields fs)) → measured (count_of (shown_fields fs)) (forms_within depth (shown_fields fs)) ≡ None
-size_missing depth fs i n f size h e so_far =
-    let gone = none_capped (form_within depth (canonical (part_at f))) e in
-    let parts : forms_within depth (shown_fields (drop i fs)) ≡ None = ap (forms_within depth) h.parts ∙ forms_item depth (canonical (part_at f)) (shown_fields (drop (i + 1) fs)) ∙ rw gone refl in
-    let whole : forms_within depth (shown_fields fs) ≡ None = none_capped (forms_within depth (shown_fields fs)) (sym (ap (capped_behind size) parts) ∙ so_far) in
-    rw whole refl
 
 measured_as : (count size : ℕ) (form : Option (List ℕ)) → Some size ≡ capped form → Some (count, size) ≡ measured count form
 measured_as count size (Some x) e = let m : size ≡ min (length x) (2 ^ 64 - 1) = cc in rw m refl

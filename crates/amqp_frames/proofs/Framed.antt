@@ -7,7 +7,7 @@ use Rattle.amqp_types.specs.declared.class.Kind.TheVariants as Kind
 use Rattle.amqp_types.specs.Datum.{Data, none, item, number}
 use Rattle.amqp_types.specs.Reading.{◌>>=◌}
 use Rattle.amqp_types.specs.Canon.{canon}
-use Rattle.amqp_types.proofs.Frames.{guard_some, bind_some}
+use Rattle.amqp_types.proofs.Compounds.{guard_some, bind_some}
 use Rattle.amqp_types.proofs.Canonical.{canon_spells}
 use Rattle.amqp_frames.specs.declared.frame.Frame.{Frame}
 use Rattle.amqp_performatives.specs.declared.performative.Performative.{Performative}

@@ -39,9 +39,6 @@ pub begins_append : (h : Header) (max : ℕ) (x y : List ℕ) → BeginsWith h m
 begins_append h max x y b =
     record { size_fits = b.size_fits; octet = b.octet; channel = b.channel; low = b.low; high = b.high; small = b.small; rest = b.rest ++ y; parts = ap (λ (t : List ℕ). t ++ y) b.parts }
 
-pub begins_take : (h : Header) (max : ℕ) (x : List ℕ) → BeginsWith h max (take 8 x) → BeginsWith h max x
-begins_take h max x b = subst (λ (t : List ℕ). BeginsWith h max t) (take-append-drop 8 x) (begins_append h max (take 8 x) (drop 8 x) b)
-
 -- ---- a whole frame
 
 frame_len : (f : Frame) (x : List ℕ) (p : IsFrame f x) → length x ≡ 8 + length p.extended + length p.contents

@@ -13,6 +13,7 @@ pub mod Performatives
 pub mod Streams
 pub mod OneFrame
 pub mod Feeding
+pub mod Cuts
 pub mod Fields
 pub mod Steps
 pub mod Plain

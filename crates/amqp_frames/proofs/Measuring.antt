@@ -147,6 +147,3 @@ same_refusal : (e : FrameRefusal) → Answers (Err e) (Err e)
 same_refusal refusal.NotWritable = refl
 same_refusal refusal.FrameTooBig = refl
 same_refusal refusal.NoMemory = refl
-
-pub refused_answer : (answer : Result (List ℕ) FrameRefusal) (e : FrameRefusal) → answer ≡ Err e → Answers (Err e) answer
-refused_answer answer e h = subst (λ (r : Result (List ℕ) FrameRefusal). Answers (Err e) r) (sym h) (same_refusal e)

@@ -14,9 +14,6 @@ take_four (a ∷ b ∷ []) h = absurd (omega arith)
 take_four (a ∷ b ∷ c ∷ []) h = absurd (omega arith)
 take_four (a ∷ b ∷ c ∷ d ∷ x) h = refl
 
-pub size_of-reads : (x : List ℕ) → 4 ≤ length x → size_of x ≡ from_be_bytes w32 (first_four x)
-size_of-reads x h = ap (from_be_bytes w32) (take_four x h)
-
 four_small : (x : List ℕ) → ((i : ℕ) → get_or x i 0 < 256) → (i : ℕ) → get_or (first_four x) i 0 < 256
 four_small x h zero = h 0
 four_small x h (suc zero) = h 1

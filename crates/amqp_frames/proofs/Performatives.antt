@@ -60,9 +60,6 @@ one_front p q x y a b h k e =
     let s = one_spelling h.datum k.datum x y a b h.spelled k.spelled e in
     (same_kind p q k.datum (subst (λ (d : Datum). Fits (part_of p) d) s.0 h.fits) k.fits, s.1)
 
-pub never_empty : (p : Performative) → IsPerformative p [] → ⊥
-never_empty p h = h.spelled.0
-
 same_rest : (x a b : List ℕ) → x ++ a ≡ x ++ b → a ≡ b
 same_rest [] a b e = e
 same_rest (t ∷ x) a b e = same_rest x a b cc
@@ -71,7 +68,7 @@ follows : (t : Bool) (a b : List ℕ) → t ≡ false → a ≡ b → b ≢ [] �
 follows t a b e k n (inl h) = absurd cc
 follows t a b e k n (inr h) = n (sym k ∙ h)
 
-empty : (x : List ℕ) → length x ≡ 0 → x ≡ []
+pub empty : (x : List ℕ) → length x ≡ 0 → x ≡ []
 empty [] e = refl
 empty (a ∷ x) e = absurd (omega arith)
 

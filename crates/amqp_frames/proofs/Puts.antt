@@ -7,7 +7,7 @@ use Rattle.amqp_types.specs.Datum.{Datum, Data, count_of, depth_of}
 use Rattle.amqp_types.specs.Reading.{◌>>=◌}
 use Rattle.amqp_types.specs.Canon.{part_form, parts_form, canon, Appends, AppendsCanon}
 use Rattle.amqp_types.proofs.Canonical.{canon_is}
-use Rattle.amqp_types.proofs.Frames.{guard_some, bind_some}
+use Rattle.amqp_types.proofs.Compounds.{guard_some, bind_some}
 use Rattle.amqp_performatives.specs.declared.performative.Performative.{Performative}
 use Rattle.amqp_performatives.specs.Part.{canonical}
 use Rattle.amqp_performatives.specs.Bodies.{part_of}

@@ -85,9 +85,6 @@ tail piece used = take (length piece - used) (drop used piece)
 tail_is : (piece : List ℕ) (used : ℕ) → tail piece used ≡ drop used piece
 tail_is piece used = take_all (length piece - used) (drop used piece) (omega (arith, length-drop used piece))
 
-pub took_none : (old : FramerState) (piece : List ℕ) (before : List Frame) → Takes old piece before 0 old before
-took_none old piece before = record { given = []; put = sym (append-nil before); frames = refl; within = omega arith; max = refl }
-
 pub took_more : (old mid new : FramerState) (piece : List ℕ) (used more : ℕ) (before between after : List Frame) → Takes old piece before used mid between → FeedsInto mid (tail piece used) between (Ok more) new after
     → Takes old piece before (used + more) new after × IsUnfinished old.max_size new.kept
 took_more old mid new piece used more before between after a fed =
@@ -118,11 +115,6 @@ ended_by piece kept used more within not_all (inr e) =
 pub frame_ended : (old mid new : FramerState) (piece : List ℕ) (used more : ℕ) (before between after : List Frame) → Takes old piece before used mid between → FeedsInto mid (tail piece used) between (Ok more) new after → used + more ≢ length piece → EndsAFrame old (used + more) new
 frame_ended old mid new piece used more before between after a fed not_all = inr (ended_by piece new.kept used more a.within not_all fed.2)
 
--- octets are left where the piece has some: not all are used at first
-pub some_left : (piece : List ℕ) → piece ≢ [] → 0 ≢ length piece
-some_left [] some e = some refl
-some_left (x ∷ xs) some e = absurd (omega (arith, e))
-
 split : (piece : List ℕ) → (piece ≡ []) ⊎ (piece ≢ [])
 split [] = inl refl
 split (x ∷ xs) = inr (λ e. absurd cc)
@@ -136,7 +128,7 @@ less_by piece used within left fed (inr some) = let n = left some in omega (arit
 
 pub stopped : (old mid new : FramerState) (piece : List ℕ) (used : ℕ) (fault : FrameFault) (before between after : List Frame) → Takes old piece before used mid between → FeedsInto mid (tail piece used) between (Err fault) new after
     → EndsAFrame old used mid → (piece ≢ [] → used ≢ length piece) → (tail piece used ≡ [] → ⊥)
-    → Takes old piece before used new after × EndsAFrame old used new × (used < length piece) × Faulty fault old.max_size (new.kept ++ drop used piece)
+    → Takes old piece before used new after × EndsAFrame old used new × (used < length piece) × Faulty fault old.max_size new.kept (drop used piece)
 stopped old mid new piece used fault before between after a fed front left some =
     let b = subst (λ (r : List ℕ). FeedsInto mid r between (Err fault) new after) (tail_is piece used) fed in (
       record {
@@ -148,7 +140,7 @@ stopped old mid new piece used fault before between after a fed front left some 
       },
       subst (λ (k : List ℕ). ((used ≡ 0) × (k ≡ old.kept)) ⊎ (k ≡ [])) (sym b.2) front,
       less_by piece used a.within left some (split piece),
-      subst (λ (k : List ℕ). Faulty fault old.max_size (k ++ drop used piece)) (sym b.2) (subst (λ (m : ℕ). Faulty fault m (mid.kept ++ drop used piece)) a.max b.0),
+      subst (λ (k : List ℕ). Faulty fault old.max_size k (drop used piece)) (sym b.2) (subst (λ (m : ℕ). Faulty fault m mid.kept (drop used piece)) a.max b.0),
     )
 
 -- what is left of a piece that is not used up grows shorter

@@ -1,9 +1,11 @@
 -- A framer: what it holds, and what a piece of octets makes of it.
-use Rattle.std.specs.Prelude.{ℕ, ◌≡◌, ◌≤◌, ◌⊎◌, List, [], ◌++◌, length, take, Option, Some, None, Result, Ok, Err}
+use Rattle.std.specs.Prelude.{ℕ, ◌≡◌, ◌≤◌, ◌<◌, ◌*◌, ◌⊎◌, List, [], ◌++◌, length, take, drop, Option, Some, None, Result, Ok, Err}
 use Rattle.amqp_frames.specs.declared.fault.FrameFault.{FrameFault}
 use Rattle.amqp_frames.specs.declared.fault.FrameFault.TheVariants.{ShortSize, BadDoff, TooBig, BadKind, BadBody, NoMemory}
 use Rattle.amqp_frames.specs.declared.frame.Frame.{Frame}
-use Rattle.amqp_frames.specs.Framing.{IsFrame, Shows, IsUnfinished, size_of}
+use Rattle.amqp_performatives.specs.declared.performative.Performative.{Performative}
+use Rattle.amqp_performatives.specs.Spelling.{IsPerformative}
+use Rattle.amqp_frames.specs.Framing.{IsFrame, IsHeader, Shows, IsUnfinished, size_of, doff_of}
 
 -- the most octets that a frame may have, the octets of the next frame that are here, and those that unread puts back in their place
 pub record FramerState : Type 0 where
@@ -15,10 +17,10 @@ pub record FramerState : Type 0 where
 abbrev pub keeping : FramerState → List ℕ → FramerState
 keeping old octets = record { max_size = old.max_size; kept = octets; before = Some old.kept }
 
--- Octets of a frame that is not whole, and room for the whole frame once its header is there.
+-- Octets of a frame that is not whole, and room for the whole frame once its header is there and tells no more octets than each peer takes (part 2, 2.8.19).
 pub record HasRoom (max room : ℕ) (octets : List ℕ) : Type 0 where
   pub unfinished : IsUnfinished max octets
-  pub sized : 8 ≤ length octets → size_of octets ≤ room
+  pub sized : 8 ≤ length octets → size_of octets ≤ 512 → size_of octets ≤ room
 
 -- what is kept and what unread puts back are beginnings of frames
 pub record IsSound (max room : ℕ) (kept : List ℕ) (before : Option (List ℕ)) : Type 0 where
@@ -29,14 +31,23 @@ pub record IsSound (max room : ℕ) (kept : List ℕ) (before : Option (List ℕ
 abbrev pub BeginsWithFrame : ℕ → List ℕ → Type 0
 BeginsWithFrame max x = (f : Frame) × (front back : List ℕ) × IsFrame f front × (length front ≤ max) × (x ≡ front ++ back)
 
--- what a fault says of the octets: they show it, or for want of memory was refused what they show
-abbrev pub Faulty : FrameFault → ℕ → List ℕ → Type 0
-Faulty ShortSize max x = Shows ShortSize max x
-Faulty BadDoff max x = Shows BadDoff max x
-Faulty TooBig max x = Shows TooBig max x
-Faulty BadKind max x = Shows BadKind max x
-Faulty BadBody max x = Shows BadBody max x
-Faulty NoMemory max x = BeginsWithFrame max x ⊎ IsUnfinished max x
+-- A frame of more octets than each peer takes (part 2, 2.8.19) with a header that shows no fault, whole in what is kept and the piece, with its performative in neither alone.
+pub record IsCut (max : ℕ) (kept piece : List ℕ) : Type 0 where
+  pub header : IsHeader max (kept ++ piece)
+  pub long : 512 < size_of (kept ++ piece)
+  pub whole : size_of (kept ++ piece) ≤ length (kept ++ piece)
+  pub begun : 4 * doff_of (kept ++ piece) < length kept
+  pub cut : (p : Performative) (spelled rest : List ℕ) → IsPerformative p spelled → drop (4 * doff_of (kept ++ piece)) kept ≡ spelled ++ rest → ⊥
+
+-- What a fault says of the octets that are kept and then those of the piece: they show it, or for want of memory was refused what they show. A performative is
+-- read in one place, so want of memory for a performative that is cut says nothing of it.
+abbrev pub Faulty : FrameFault → ℕ → List ℕ → List ℕ → Type 0
+Faulty ShortSize max kept piece = Shows ShortSize max (kept ++ piece)
+Faulty BadDoff max kept piece = Shows BadDoff max (kept ++ piece)
+Faulty TooBig max kept piece = Shows TooBig max (kept ++ piece)
+Faulty BadKind max kept piece = Shows BadKind max (kept ++ piece)
+Faulty BadBody max kept piece = Shows BadBody max (kept ++ piece)
+Faulty NoMemory max kept piece = BeginsWithFrame max (kept ++ piece) ⊎ (IsUnfinished max (kept ++ piece) ⊎ IsCut max kept piece)
 
 -- what a feed of a piece answers and leaves: a frame and the number of octets taken, no frame, or a fault
 abbrev pub Feeds : FramerState → List ℕ → Result (ℕ × Option Frame) FrameFault → FramerState → Type 0
@@ -46,4 +57,4 @@ Feeds old piece (Ok (used, Some f)) new =
     × (length (old.kept ++ take used piece) ≤ old.max_size)
     × (new ≡ keeping old [])
 Feeds old piece (Ok (used, None)) new = (used ≡ length piece) × IsUnfinished old.max_size (old.kept ++ piece) × (new ≡ keeping old (old.kept ++ piece))
-Feeds old piece (Err fault) new = Faulty fault old.max_size (old.kept ++ piece) × (new ≡ old)
+Feeds old piece (Err fault) new = Faulty fault old.max_size old.kept piece × (new ≡ old)

@@ -18,7 +18,7 @@ pub record Takes (old : FramerState) (piece : List ℕ) (before : List Frame) (u
 -- one feed: it ends with a frame, or with the piece
 abbrev pub FeedsInto : FramerState → List ℕ → List Frame → Result ℕ FrameFault → FramerState → List Frame → Type 0
 FeedsInto old piece before (Ok used) new after = Takes old piece before used new after × IsUnfinished old.max_size new.kept × ((new.kept ≡ []) ⊎ (used ≡ length piece))
-FeedsInto old piece before (Err fault) new after = Faulty fault old.max_size (old.kept ++ piece) × (after ≡ before) × (new.kept ≡ old.kept) × (new.max_size ≡ old.max_size)
+FeedsInto old piece before (Err fault) new after = Faulty fault old.max_size old.kept piece × (after ≡ before) × (new.kept ≡ old.kept) × (new.max_size ≡ old.max_size)
 
 -- nothing was taken, or all up to the end of a frame
 abbrev pub EndsAFrame : FramerState → ℕ → FramerState → Type 0
@@ -31,4 +31,4 @@ FeedsAll old piece before (Err stopped) new after =
     Takes old piece before stopped.used new after
     × EndsAFrame old stopped.used new
     × (stopped.used < length piece)
-    × Faulty stopped.fault old.max_size (new.kept ++ drop stopped.used piece)
+    × Faulty stopped.fault old.max_size new.kept (drop stopped.used piece)

@@ -4,6 +4,7 @@ ghost use Rattle.std.specs.Int.{to_be_bytes, w32};
 ghost use Rattle.amqp_frames.specs.Plain.{Holds, full, trim, uint_octets, boolean_octets, ubyte_octets, binary_octets, bare_octets, state_of, IsShown, AreShown, Appended};
 ghost use Rattle.amqp_types.specs.Datum.{Data, count_of, greatest_depth_of};
 ghost use Rattle.amqp_types.specs.Canon.{canon, parts_form};
+ghost use Rattle.amqp_performatives.specs.Composite.{type_of};
 ghost use Rattle.amqp_performatives.specs.Part.{canonical_fields};
 ghost use Rattle.amqp_performatives.specs.Bodies.{uint, boolean, ubyte, binary, role as role_part, optional, transfer_fields, flow_fields, disposition_fields};
 ghost use Rattle.amqp_frames.specs.Field.{composite_datum, body_answer, header};
@@ -15,7 +16,7 @@ use crate::frame::Frame;
 use crate::measured::frame_size;
 use crate::written::write_frame;
 use amqp_performatives::{
-    DeliveryState, DispositionBody, FlowBody, Performative, Role, TransferBody,
+    Composite, DeliveryState, DispositionBody, FlowBody, Performative, Role, TransferBody,
 };
 use amqp_types::Tag;
 
@@ -215,7 +216,11 @@ fn state(head: &mut [u8; ROOM], spot: Spot, number: usize, state: BareState) -> 
     match state {
         BareState::Absent => absent(head, spot),
         BareState::Accepted => {
-            let at = put(head, spot.at, &[0x00, 0x53, 0x24, 0x45]);
+            let at = put(
+                head,
+                spot.at,
+                &[0x00, 0x53, Composite::Accepted.number(), 0x45],
+            );
             Spot {
                 at,
                 end: at,
@@ -223,7 +228,11 @@ fn state(head: &mut [u8; ROOM], spot: Spot, number: usize, state: BareState) -> 
             }
         }
         BareState::Released => {
-            let at = put(head, spot.at, &[0x00, 0x53, 0x26, 0x45]);
+            let at = put(
+                head,
+                spot.at,
+                &[0x00, 0x53, Composite::Released.number(), 0x45],
+            );
             Spot {
                 at,
                 end: at,
@@ -347,17 +356,18 @@ fn plain_head(size: u32, channel: u16, code: u8, end: usize, count: usize) -> [u
 #[inline(always)]
 fn append_plain(
     envelope: &Envelope<'_>,
-    code: u8,
+    composite: Composite,
     shown: (usize, usize),
     head: &mut [u8; ROOM],
     out: &mut Vec<u8>,
 ) -> Result<(), FrameRefusal>
-    requires some { (0 < code) × (0 < shown.1) × (shown.1 < 256) }
+    requires some { (0 < shown.1) × (shown.1 < 256) }
     requires bound { (14 ≤ shown.0) × (shown.0 ≤ 96) }
-    ensures { (ds : Data) (x : List ℕ) → parts_form ds None ≡ Some x → count_of ds ≡ shown.1 → greatest_depth_of ds ≤ 3 → take shown.0 head.old ≡ take 14 head.old ++ x → Appended result (body_answer envelope.now.channel envelope.now.max (canon (composite_datum code ds)) envelope.now.payload.now) out.old.items out.new.items }
+    ensures { (ds : Data) (x : List ℕ) → parts_form ds None ≡ Some x → count_of ds ≡ shown.1 → greatest_depth_of ds ≤ 3 → take shown.0 head.old ≡ take 14 head.old ++ x → Appended result (body_answer envelope.now.channel envelope.now.max (canon (composite_datum (type_of composite).0 ds)) envelope.now.payload.now) out.old.items out.new.items }
 {
     let (end, count) = shown;
     let payload = envelope.payload;
+    let code = composite.number();
     let size = match frame_size((end - 8) as u64, payload.len(), envelope.max) {
         Ok(size) => size,
         Err(refusal) => return Err(refusal),
@@ -380,11 +390,11 @@ fn append_transfer(
     out: &mut Vec<u8>,
 ) -> Result<(), FrameRefusal>
     requires { body.now.state ≡ state_of reached }
-    ensures { Appended result (body_answer envelope.now.channel envelope.now.max (canon (composite_datum 0x14 (canonical_fields (transfer_fields body.now)))) envelope.now.payload.now) out.old.items out.new.items }
+    ensures { Appended result (body_answer envelope.now.channel envelope.now.max (canon (composite_datum (type_of Composite.Transfer).0 (canonical_fields (transfer_fields body.now)))) envelope.now.payload.now) out.old.items out.new.items }
 {
     let mut head = [0; ROOM];
     let shown = put_transfer(body, reached, &mut head);
-    append_plain(envelope, 0x14, shown, &mut head, out)
+    append_plain(envelope, Composite::Transfer, shown, &mut head, out)
 }
 
 #[inline(always)]
@@ -394,11 +404,11 @@ fn append_flow(
     out: &mut Vec<u8>,
 ) -> Result<(), FrameRefusal>
     requires { body.now.properties ≡ None }
-    ensures { Appended result (body_answer envelope.now.channel envelope.now.max (canon (composite_datum 0x13 (canonical_fields (flow_fields body.now)))) envelope.now.payload.now) out.old.items out.new.items }
+    ensures { Appended result (body_answer envelope.now.channel envelope.now.max (canon (composite_datum (type_of Composite.Flow).0 (canonical_fields (flow_fields body.now)))) envelope.now.payload.now) out.old.items out.new.items }
 {
     let mut head = [0; ROOM];
     let shown = put_flow(body, &mut head);
-    append_plain(envelope, 0x13, shown, &mut head, out)
+    append_plain(envelope, Composite::Flow, shown, &mut head, out)
 }
 
 #[inline(always)]
@@ -409,11 +419,11 @@ fn append_disposition(
     out: &mut Vec<u8>,
 ) -> Result<(), FrameRefusal>
     requires { body.now.state ≡ state_of reached }
-    ensures { Appended result (body_answer envelope.now.channel envelope.now.max (canon (composite_datum 0x15 (canonical_fields (disposition_fields body.now)))) envelope.now.payload.now) out.old.items out.new.items }
+    ensures { Appended result (body_answer envelope.now.channel envelope.now.max (canon (composite_datum (type_of Composite.Disposition).0 (canonical_fields (disposition_fields body.now)))) envelope.now.payload.now) out.old.items out.new.items }
 {
     let mut head = [0; ROOM];
     let shown = put_disposition(body, reached, &mut head);
-    append_plain(envelope, 0x15, shown, &mut head, out)
+    append_plain(envelope, Composite::Disposition, shown, &mut head, out)
 }
 
 /// Appends the frame's octets as `write_frame` writes them.

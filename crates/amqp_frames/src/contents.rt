@@ -4,13 +4,13 @@ ghost use Rattle.amqp_performatives.specs.declared.performative.Performative.{Pe
 ghost use Rattle.amqp_frames.specs.Framing.{is_transfer, MayFollow, AreContents};
 ghost use Rattle.amqp_performatives.specs.Spelling.{IsPerformative};
 ghost use Rattle.amqp_decoder.specs.Slots.{LeavesFront};
-ghost use Rattle.amqp_frames.specs.Contents.{AreNoContents, BeginsWithPerformative};
+ghost use Rattle.amqp_frames.specs.Contents.{AreNoContents, BeginsWithPerformative, IsFrontFault};
 ghost use Rattle.amqp_frames.specs.Slots.{holds_transfer};
 
 use crate::fault::FrameFault;
 use crate::frame::Frame;
 use amqp_decoder::{BodyFault, read_performative, read_performative_into};
-use amqp_performatives::Performative;
+use amqp_performatives::{Composite, Performative};
 use amqp_types::{Descriptor, read_descriptor, skip_value};
 use bytes::Bytes;
 use std::alloc::{AllocError, Global};
@@ -89,9 +89,36 @@ fn names_transfer(octets: &[u8]) -> bool
     ensures { (p : Performative) (x rest : List ℕ) → IsPerformative p x → octets.now ≡ x ++ rest → result ≡ is_transfer p }
 {
     match read_descriptor(octets) {
-        Some((Descriptor::Number(number), _)) => number == 0x14,
-        Some((Descriptor::Name(name), _)) => name == "amqp:transfer:list",
+        Some((Descriptor::Number(number), _)) => number == u64::from(Composite::Transfer.number()),
+        Some((Descriptor::Name(name), _)) => name == Composite::Transfer.name(),
         None => false,
+    }
+}
+
+/// Why contents are refused that begin with these octets and have more behind them, where there is no memory to join both.
+#[inline(never)]
+pub(crate) fn front_fault(alloc: Global, octets: &[u8]) -> FrameFault
+    ensures { IsFrontFault result octets.now }
+{
+    match read_performative(alloc, octets) {
+        Ok((performative, _)) => {
+            drop(performative);
+            fault_behind(octets)
+        }
+        Err(BodyFault::NoMemory) => fault_behind(octets),
+        Err(BodyFault::NoBody) => FrameFault::NoMemory,
+    }
+}
+
+/// The same where a performative is in front: a transfer alone has more behind it.
+fn fault_behind(octets: &[u8]) -> FrameFault
+    requires { BeginsWithPerformative octets.now }
+    ensures { IsFrontFault result octets.now }
+{
+    if names_transfer(octets) {
+        FrameFault::NoMemory
+    } else {
+        FrameFault::BadBody
     }
 }
 

@@ -1,9 +1,12 @@
 //! Whether the fields hold what a reader can find there (part 2, 2.8.2 and 2.8.3; part 3, 3.4).
 ghost use Rattle.std.specs.Prelude.{◌≡◌};
 ghost use Rattle.amqp_types.specs.View.{view};
-ghost use Rattle.amqp_performatives.specs.Fair.{where_present, is_present, names_state, is_other_state, is_sender_mode, is_receiver_mode, is_tag, is_fair_error, is_fair_state, is_fair_open, is_fair_begin, is_fair_attach, is_fair};
+ghost use Rattle.amqp_performatives.specs.Composite.{type_of};
+ghost use Rattle.amqp_performatives.specs.Fair.{is_descriptor, where_present, is_present, names_state, is_other_state, is_sender_mode, is_receiver_mode, is_tag, is_fair_error, is_fair_state, is_fair_open, is_fair_begin, is_fair_attach, is_fair};
 
-use amqp_performatives::{AmqpError, AttachBody, BeginBody, DeliveryState, OpenBody, Performative};
+use amqp_performatives::{
+    AmqpError, AttachBody, BeginBody, Composite, DeliveryState, OpenBody, Performative,
+};
 use amqp_types::{Boxed, Tag, Value};
 
 fn is_present(value: &Value) -> bool
@@ -15,22 +18,26 @@ fn is_present(value: &Value) -> bool
     }
 }
 
+/// The descriptor of the type, by its number or its name.
+fn is_descriptor(composite: Composite, descriptor: &Value) -> bool
+    ensures { result ≡ is_descriptor (type_of composite) (view descriptor.now) }
+{
+    match descriptor {
+        Value::Ulong(number) => *number == u64::from(composite.number()),
+        Value::Symbol(name) => name.as_str() == composite.name(),
+        _ => false,
+    }
+}
+
 /// The descriptor of one of the five delivery states.
 fn names_state(descriptor: &Value) -> bool
     ensures { result ≡ names_state (view descriptor.now) }
 {
-    match descriptor {
-        Value::Ulong(n) => *n == 0x23 || *n == 0x24 || *n == 0x25 || *n == 0x26 || *n == 0x27,
-        Value::Symbol(name) => {
-            let name = name.as_str();
-            name == "amqp:received:list"
-                || name == "amqp:accepted:list"
-                || name == "amqp:rejected:list"
-                || name == "amqp:released:list"
-                || name == "amqp:modified:list"
-        }
-        _ => false,
-    }
+    is_descriptor(Composite::Received, descriptor)
+        || is_descriptor(Composite::Accepted, descriptor)
+        || is_descriptor(Composite::Rejected, descriptor)
+        || is_descriptor(Composite::Released, descriptor)
+        || is_descriptor(Composite::Modified, descriptor)
 }
 
 fn is_other_state(value: &Value) -> bool
@@ -73,7 +80,7 @@ fn is_tag(tag: &Option<Tag>) -> bool
     ensures { result ≡ where_present is_tag tag.now }
 {
     match tag {
-        Some(tag) => tag.octets().len() <= 32,
+        Some(tag) => tag.octets().len() <= Tag::MAX_LEN,
         None => true,
     }
 }

@@ -1,20 +1,25 @@
 //! Frames out of octets that come in pieces (part 2, 2.3).
-ghost use Rattle.std.specs.Prelude.{◌≡◌, ◌≢◌, ◌≤◌, ◌<◌, ◌*◌, ◌++◌, [], ℕ, List, Some, None, Ok, MatchOption, MatchResult, IsSome, IfOk, IfSome, ◌+◌, length, take, drop};
+ghost use Rattle.std.specs.Prelude.{◌≡◌, ◌≢◌, ◌≤◌, ◌<◌, ◌*◌, ◌++◌, [], ℕ, List, Some, None, Ok, MatchOption, MatchResult, IsSome, IfOk, IfSome, OnOk, ◌+◌, length, take, drop, min, max};
+ghost use Rattle.std.specs.Vec.{vec_len, vec_capacity};
 ghost use Rattle.amqp_frames.specs.Framing.{IsUnfinished, AreContents, size_of};
 ghost use Rattle.amqp_frames.specs.Header.{BeginsWith, IsHeaderPart, IsHeaderFault};
 ghost use Rattle.amqp_frames.specs.Contents.{AreNoContents};
 ghost use Rattle.amqp_frames.specs.Framer.{Feeds};
 ghost use Rattle.amqp_frames.specs.Slots.{FeedsSlot};
 
-use crate::contents::{read_contents, share_contents};
+use crate::contents::{front_fault, read_contents, share_contents};
 use crate::fault::FrameFault;
 use crate::frame::Frame;
 use crate::header::{Header, examine};
 use bytes::Bytes;
-use std::alloc::Global;
+use std::alloc::{AllocError, Global};
 use std::marker::Model;
 
-/// Takes octets in pieces of any length and gives the frames in them. What has come of the next frame is kept until it is whole.
+/// The standard's MIN-MAX-FRAME-SIZE (part 2, 2.8.19): each peer takes frames of so many octets.
+const MIN_MAX_FRAME_SIZE: usize = 512;
+
+/// Takes octets in pieces of any length and gives the frames in them. What has come of the next frame is kept until it is whole. Memory is taken
+/// as octets come: room for at most 512 octets, or for twice as many as are kept, whatever size the header tells.
 #[derive(Debug, Drop)]
 pub struct Framer {
     max_size: u32,
@@ -54,7 +59,8 @@ impl Framer {
     ///
     /// A fault is answered as soon as the octets show it (`FrameFault`): the size once four octets of the frame are there, the rest of its
     /// header once eight are, its body once it is whole. After a fault the framer is as before. A frame that lies whole in the piece is
-    /// read in place; a payload is copied once.
+    /// read in place; a payload is copied once. Want of memory is told of octets that show no fault, with one exception: in a frame of more than
+    /// 512 octets a performative of which a part was kept is not read where there is no memory to join it.
     pub fn feed(&mut self, piece: &[u8]) -> Result<(usize, Option<Frame>), FrameFault>
         ensures fed { Feeds self.old piece.now result self.new }
         ensures empty { piece.now ≡ [] → result ≡ Ok (0, None) }
@@ -90,15 +96,15 @@ impl Framer {
         }
     }
 
-    /// Keeps a piece that does not make the next frame whole, in a buffer that has room for so many octets.
-    fn keep(&mut self, piece: &[u8], room: usize) -> Result<(usize, Option<Frame>), FrameFault>
+    /// Keeps a piece that does not make the next frame whole. The frame has so many octets, or the header that tells it has.
+    fn keep(&mut self, piece: &[u8], size: usize) -> Result<(usize, Option<Frame>), FrameFault>
         requires unfinished { IsUnfinished self.old.max_size (self.old.kept ++ piece.now) }
-        requires within { length (self.old.kept ++ piece.now) ≤ room }
-        requires size { 8 ≤ length (self.old.kept ++ piece.now) → size_of (self.old.kept ++ piece.now) ≤ room }
+        requires within { length (self.old.kept ++ piece.now) ≤ size }
+        requires size { 8 ≤ length (self.old.kept ++ piece.now) → size_of (self.old.kept ++ piece.now) ≤ size }
         ensures { Feeds self.old piece.now result self.new }
     {
         let count = self.kept().len();
-        let Ok(()) = self.buffer.reserve(room.saturating_sub(self.buffer.len())) else {
+        let Ok(()) = make_room(&mut self.buffer, count + piece.len(), size) else {
             return Err(FrameFault::NoMemory);
         };
         self.buffer.truncate(count);
@@ -166,6 +172,9 @@ impl Framer {
         ensures { Feeds self.old piece.now result self.new }
     {
         let count = self.kept().len();
+        let Ok(()) = self.buffer.reserve_exact(missing) else {
+            return Err(front_fault(*self.buffer.allocator(), &self.buffer[header.start()..]));
+        };
         self.buffer.extend_from_slice(&piece[..missing]).unwrap();
         match read_contents(
             *self.buffer.allocator(),
@@ -274,6 +283,22 @@ impl Framer {
             self.before = None;
         }
     }
+}
+
+/// Makes room for so many octets of a frame of this size: for the whole frame where it is short, else for some of what is to come.
+fn make_room(buffer: &mut Vec<u8>, count: usize, size: usize) -> Result<(), AllocError>
+    requires { count ≤ size }
+    ensures items { buffer.new.items ≡ buffer.old.items }
+    ensures capacity { vec_capacity buffer.old ≤ vec_capacity buffer.new }
+    ensures enough { OnOk result (count ≤ vec_capacity buffer.new) }
+    ensures short { OnOk result (min size 512 ≤ vec_capacity buffer.new) }
+    ensures bounded { vec_capacity buffer.new ≤ max (vec_capacity buffer.old) (max 512 (2 * count)) }
+{
+    if count.max(size.min(MIN_MAX_FRAME_SIZE)) <= buffer.capacity() {
+        return Ok(());
+    }
+    let room = count.saturating_mul(2).max(MIN_MAX_FRAME_SIZE).min(size);
+    buffer.reserve_exact(room.saturating_sub(buffer.len()))
 }
 
 /// The octets from a place on.

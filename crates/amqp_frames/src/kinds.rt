@@ -1,6 +1,7 @@
 //! Frames of each kind of performative (part 2, 2.7), measured and written: a function for each, so that no more is set up than its own fields.
 ghost use Rattle.std.specs.Prelude.{◌≡◌, ℕ, List, length, Some, OnOk};
 ghost use Rattle.amqp_types.specs.Canon.{canon};
+ghost use Rattle.amqp_performatives.specs.Composite.{type_of};
 ghost use Rattle.amqp_performatives.specs.Part.{canonical_fields};
 ghost use Rattle.amqp_performatives.specs.Bodies.{open_fields, begin_fields, attach_fields, flow_fields, transfer_fields, disposition_fields, detach_fields, end_fields, close_fields};
 ghost use Rattle.amqp_frames.specs.Field.{composite_datum, added};
@@ -26,7 +27,7 @@ pub(crate) fn measure_open_body(
     payload_len: usize,
     max: u32,
 ) -> Result<Measured, FrameRefusal>
-    ensures { (channel : ℕ) (payload : List ℕ) → length payload ≡ payload_len → MeasuresList result channel max 0x10 (canonical_fields (open_fields body.now)) payload }
+    ensures { (channel : ℕ) (payload : List ℕ) → length payload ≡ payload_len → MeasuresList result channel max (type_of Composite.Open).0 (canonical_fields (open_fields body.now)) payload }
 {
     measure_list(&open_fields(body), payload_len, max)
 }
@@ -37,7 +38,7 @@ pub(crate) fn measure_begin_body(
     payload_len: usize,
     max: u32,
 ) -> Result<Measured, FrameRefusal>
-    ensures { (channel : ℕ) (payload : List ℕ) → length payload ≡ payload_len → MeasuresList result channel max 0x11 (canonical_fields (begin_fields body.now)) payload }
+    ensures { (channel : ℕ) (payload : List ℕ) → length payload ≡ payload_len → MeasuresList result channel max (type_of Composite.Begin).0 (canonical_fields (begin_fields body.now)) payload }
 {
     measure_list(&begin_fields(body), payload_len, max)
 }
@@ -48,7 +49,7 @@ pub(crate) fn measure_attach_body(
     payload_len: usize,
     max: u32,
 ) -> Result<Measured, FrameRefusal>
-    ensures { (channel : ℕ) (payload : List ℕ) → length payload ≡ payload_len → MeasuresList result channel max 0x12 (canonical_fields (attach_fields body.now)) payload }
+    ensures { (channel : ℕ) (payload : List ℕ) → length payload ≡ payload_len → MeasuresList result channel max (type_of Composite.Attach).0 (canonical_fields (attach_fields body.now)) payload }
 {
     measure_list(&attach_fields(body), payload_len, max)
 }
@@ -59,7 +60,7 @@ pub(crate) fn measure_flow_body(
     payload_len: usize,
     max: u32,
 ) -> Result<Measured, FrameRefusal>
-    ensures { (channel : ℕ) (payload : List ℕ) → length payload ≡ payload_len → MeasuresList result channel max 0x13 (canonical_fields (flow_fields body.now)) payload }
+    ensures { (channel : ℕ) (payload : List ℕ) → length payload ≡ payload_len → MeasuresList result channel max (type_of Composite.Flow).0 (canonical_fields (flow_fields body.now)) payload }
 {
     measure_list(&flow_fields(body), payload_len, max)
 }
@@ -70,7 +71,7 @@ pub(crate) fn measure_transfer_body(
     payload_len: usize,
     max: u32,
 ) -> Result<Measured, FrameRefusal>
-    ensures { (channel : ℕ) (payload : List ℕ) → length payload ≡ payload_len → MeasuresList result channel max 0x14 (canonical_fields (transfer_fields body.now)) payload }
+    ensures { (channel : ℕ) (payload : List ℕ) → length payload ≡ payload_len → MeasuresList result channel max (type_of Composite.Transfer).0 (canonical_fields (transfer_fields body.now)) payload }
 {
     measure_list(&transfer_fields(body), payload_len, max)
 }
@@ -81,7 +82,7 @@ pub(crate) fn measure_disposition_body(
     payload_len: usize,
     max: u32,
 ) -> Result<Measured, FrameRefusal>
-    ensures { (channel : ℕ) (payload : List ℕ) → length payload ≡ payload_len → MeasuresList result channel max 0x15 (canonical_fields (disposition_fields body.now)) payload }
+    ensures { (channel : ℕ) (payload : List ℕ) → length payload ≡ payload_len → MeasuresList result channel max (type_of Composite.Disposition).0 (canonical_fields (disposition_fields body.now)) payload }
 {
     measure_list(&disposition_fields(body), payload_len, max)
 }
@@ -92,7 +93,7 @@ pub(crate) fn measure_detach_body(
     payload_len: usize,
     max: u32,
 ) -> Result<Measured, FrameRefusal>
-    ensures { (channel : ℕ) (payload : List ℕ) → length payload ≡ payload_len → MeasuresList result channel max 0x16 (canonical_fields (detach_fields body.now)) payload }
+    ensures { (channel : ℕ) (payload : List ℕ) → length payload ≡ payload_len → MeasuresList result channel max (type_of Composite.Detach).0 (canonical_fields (detach_fields body.now)) payload }
 {
     measure_list(&detach_fields(body), payload_len, max)
 }
@@ -103,7 +104,7 @@ pub(crate) fn measure_end_body(
     payload_len: usize,
     max: u32,
 ) -> Result<Measured, FrameRefusal>
-    ensures { (channel : ℕ) (payload : List ℕ) → length payload ≡ payload_len → MeasuresList result channel max 0x17 (canonical_fields (end_fields body.now)) payload }
+    ensures { (channel : ℕ) (payload : List ℕ) → length payload ≡ payload_len → MeasuresList result channel max (type_of Composite.End).0 (canonical_fields (end_fields body.now)) payload }
 {
     measure_list(&end_fields(body), payload_len, max)
 }
@@ -114,7 +115,7 @@ pub(crate) fn measure_close_body(
     payload_len: usize,
     max: u32,
 ) -> Result<Measured, FrameRefusal>
-    ensures { (channel : ℕ) (payload : List ℕ) → length payload ≡ payload_len → MeasuresList result channel max 0x18 (canonical_fields (close_fields body.now)) payload }
+    ensures { (channel : ℕ) (payload : List ℕ) → length payload ≡ payload_len → MeasuresList result channel max (type_of Composite.Close).0 (canonical_fields (close_fields body.now)) payload }
 {
     measure_list(&close_fields(body), payload_len, max)
 }
@@ -122,7 +123,7 @@ pub(crate) fn measure_close_body(
 #[inline(never)]
 pub(crate) fn put_open(body: &OpenBody, list: Measure, out: &mut Vec<u8>) -> Result<(), WriteFault>
     requires { IsListMeasure 30 list (canonical_fields (open_fields body.now)) }
-    ensures { OnOk result (added out.old.items (canon (composite_datum 0x10 (canonical_fields (open_fields body.now)))) ≡ Some out.new.items) }
+    ensures { OnOk result (added out.old.items (canon (composite_datum (type_of Composite.Open).0 (canonical_fields (open_fields body.now)))) ≡ Some out.new.items) }
 {
     put_list(Composite::Open, &open_fields(body), list, out)
 }
@@ -134,7 +135,7 @@ pub(crate) fn put_begin(
     out: &mut Vec<u8>,
 ) -> Result<(), WriteFault>
     requires { IsListMeasure 30 list (canonical_fields (begin_fields body.now)) }
-    ensures { OnOk result (added out.old.items (canon (composite_datum 0x11 (canonical_fields (begin_fields body.now)))) ≡ Some out.new.items) }
+    ensures { OnOk result (added out.old.items (canon (composite_datum (type_of Composite.Begin).0 (canonical_fields (begin_fields body.now)))) ≡ Some out.new.items) }
 {
     put_list(Composite::Begin, &begin_fields(body), list, out)
 }
@@ -146,7 +147,7 @@ pub(crate) fn put_attach(
     out: &mut Vec<u8>,
 ) -> Result<(), WriteFault>
     requires { IsListMeasure 30 list (canonical_fields (attach_fields body.now)) }
-    ensures { OnOk result (added out.old.items (canon (composite_datum 0x12 (canonical_fields (attach_fields body.now)))) ≡ Some out.new.items) }
+    ensures { OnOk result (added out.old.items (canon (composite_datum (type_of Composite.Attach).0 (canonical_fields (attach_fields body.now)))) ≡ Some out.new.items) }
 {
     put_list(Composite::Attach, &attach_fields(body), list, out)
 }
@@ -154,7 +155,7 @@ pub(crate) fn put_attach(
 #[inline(never)]
 pub(crate) fn put_flow(body: &FlowBody, list: Measure, out: &mut Vec<u8>) -> Result<(), WriteFault>
     requires { IsListMeasure 30 list (canonical_fields (flow_fields body.now)) }
-    ensures { OnOk result (added out.old.items (canon (composite_datum 0x13 (canonical_fields (flow_fields body.now)))) ≡ Some out.new.items) }
+    ensures { OnOk result (added out.old.items (canon (composite_datum (type_of Composite.Flow).0 (canonical_fields (flow_fields body.now)))) ≡ Some out.new.items) }
 {
     put_list(Composite::Flow, &flow_fields(body), list, out)
 }
@@ -166,7 +167,7 @@ pub(crate) fn put_transfer(
     out: &mut Vec<u8>,
 ) -> Result<(), WriteFault>
     requires { IsListMeasure 30 list (canonical_fields (transfer_fields body.now)) }
-    ensures { OnOk result (added out.old.items (canon (composite_datum 0x14 (canonical_fields (transfer_fields body.now)))) ≡ Some out.new.items) }
+    ensures { OnOk result (added out.old.items (canon (composite_datum (type_of Composite.Transfer).0 (canonical_fields (transfer_fields body.now)))) ≡ Some out.new.items) }
 {
     put_list(Composite::Transfer, &transfer_fields(body), list, out)
 }
@@ -178,7 +179,7 @@ pub(crate) fn put_disposition(
     out: &mut Vec<u8>,
 ) -> Result<(), WriteFault>
     requires { IsListMeasure 30 list (canonical_fields (disposition_fields body.now)) }
-    ensures { OnOk result (added out.old.items (canon (composite_datum 0x15 (canonical_fields (disposition_fields body.now)))) ≡ Some out.new.items) }
+    ensures { OnOk result (added out.old.items (canon (composite_datum (type_of Composite.Disposition).0 (canonical_fields (disposition_fields body.now)))) ≡ Some out.new.items) }
 {
     put_list(Composite::Disposition, &disposition_fields(body), list, out)
 }
@@ -190,7 +191,7 @@ pub(crate) fn put_detach(
     out: &mut Vec<u8>,
 ) -> Result<(), WriteFault>
     requires { IsListMeasure 30 list (canonical_fields (detach_fields body.now)) }
-    ensures { OnOk result (added out.old.items (canon (composite_datum 0x16 (canonical_fields (detach_fields body.now)))) ≡ Some out.new.items) }
+    ensures { OnOk result (added out.old.items (canon (composite_datum (type_of Composite.Detach).0 (canonical_fields (detach_fields body.now)))) ≡ Some out.new.items) }
 {
     put_list(Composite::Detach, &detach_fields(body), list, out)
 }
@@ -198,7 +199,7 @@ pub(crate) fn put_detach(
 #[inline(never)]
 pub(crate) fn put_end(body: &EndBody, list: Measure, out: &mut Vec<u8>) -> Result<(), WriteFault>
     requires { IsListMeasure 30 list (canonical_fields (end_fields body.now)) }
-    ensures { OnOk result (added out.old.items (canon (composite_datum 0x17 (canonical_fields (end_fields body.now)))) ≡ Some out.new.items) }
+    ensures { OnOk result (added out.old.items (canon (composite_datum (type_of Composite.End).0 (canonical_fields (end_fields body.now)))) ≡ Some out.new.items) }
 {
     put_list(Composite::End, &end_fields(body), list, out)
 }
@@ -210,7 +211,7 @@ pub(crate) fn put_close(
     out: &mut Vec<u8>,
 ) -> Result<(), WriteFault>
     requires { IsListMeasure 30 list (canonical_fields (close_fields body.now)) }
-    ensures { OnOk result (added out.old.items (canon (composite_datum 0x18 (canonical_fields (close_fields body.now)))) ≡ Some out.new.items) }
+    ensures { OnOk result (added out.old.items (canon (composite_datum (type_of Composite.Close).0 (canonical_fields (close_fields body.now)))) ≡ Some out.new.items) }
 {
     put_list(Composite::Close, &close_fields(body), list, out)
 }

@@ -11,7 +11,12 @@ use crate::leaf::{list_len, run_len, ubyte_size, ushort_size};
 use amqp_performatives::field::{Field, any, boolean, failure};
 use amqp_performatives::listed::{error_fields, shown_count};
 use amqp_performatives::{AmqpError, DeliveryState};
-use amqp_types::{Value, is_symbol, map_size_within, size_within, uint_size, ulong_size};
+use amqp_types::{
+    MAX_DEPTH, Value, is_symbol, map_size_within, size_within, uint_size, ulong_size,
+};
+
+/// How deep a field may be nested: it lies in a list, which lies in a described value.
+pub(crate) const FIELD_DEPTH: u8 = MAX_DEPTH - 2;
 
 /// The count of fields and how many octets they take together.
 #[derive(Clone, Copy)]

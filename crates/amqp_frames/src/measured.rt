@@ -16,7 +16,7 @@ use crate::kinds::{
     measure_transfer_body,
 };
 use crate::leaf::list_len;
-use crate::measure::{Measure, fields_len};
+use crate::measure::{FIELD_DEPTH, Measure, fields_len};
 use amqp_performatives::Performative;
 use amqp_performatives::field::Field;
 
@@ -129,7 +129,7 @@ pub(crate) fn measure_list(
 ) -> Result<Measured, FrameRefusal>
     ensures { (code channel : ℕ) (payload : List ℕ) → 0 < code → code < 256 → length payload ≡ payload_len → MeasuresList result channel max code (shown_fields fields.now) payload }
 {
-    let Some(list) = fields_len(fields, 30) else {
+    let Some(list) = fields_len(fields, FIELD_DEPTH) else {
         return Err(FrameRefusal::NotWritable);
     };
     let Some(size) = list_len(list.count, list.size) else {

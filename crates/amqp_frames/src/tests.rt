@@ -388,6 +388,50 @@ fn an_octet_at_a_time(rt: HostRuntime) -> Result<(), Fail> {
     Ok(())
 }
 
+/// What is written for the frame that these octets are in pieces.
+fn written_in_pieces(alloc: Global, octets: &[u8]) -> Result<Bytes, FrameRefusal> {
+    let mut framer = Framer::new(alloc, 65536);
+    for piece in octets.chunks(700) {
+        match framer.feed(piece) {
+            Ok((_, Some(frame))) => {
+                let written = write_frame(alloc, &frame, 65536);
+                drop(frame);
+                return written;
+            }
+            _ => continue,
+        }
+    }
+    Err(FrameRefusal::NoMemory)
+}
+
+/// A transfer with 4980 octets of payload: room for it grows from piece to piece.
+#[test]
+fn a_long_frame_in_pieces(rt: HostRuntime) -> Result<(), Fail> {
+    let alloc = rt.alloc();
+    let mut long = octets(alloc, "0000138802000000 005314c00704 43 43a00100 43")?;
+    long.resize(5000, 0x61)?;
+    let again = written_in_pieces(alloc, long.as_slice())?;
+    assert!(rt; again.as_slice() == long.as_slice());
+    Ok(())
+}
+
+/// Eight octets of each of many peers tell frames of 4 GiB. So many of these would not fit in an address space of 47 bits.
+#[test]
+fn eight_octets_ask_for_little(rt: HostRuntime) -> Result<(), Fail> {
+    let alloc = rt.alloc();
+    let head = octets(alloc, "ffffffff02000000")?;
+    let mut framers = Vec::new(alloc);
+    for _ in 0..40_000u32 {
+        let mut framer = Framer::new(alloc, u32::MAX);
+        assert_eq!(rt; fed(&mut framer, head.as_slice())?, (8, false));
+        if framers.push(framer).is_err() {
+            break;
+        }
+    }
+    assert_eq!(rt; framers.len(), 40_000);
+    Ok(())
+}
+
 #[test]
 fn faults(rt: HostRuntime) -> Result<(), Fail> {
     let alloc = rt.alloc();

@@ -10,7 +10,7 @@ ghost use Rattle.amqp_frames.specs.Measuring.{IsListMeasure};
 ghost use Rattle.amqp_performatives.specs.Listed.{part_at, shown_fields};
 
 use crate::leaf::{put_list_head, put_run};
-use crate::measure::{Measure, fields_len};
+use crate::measure::{FIELD_DEPTH, Measure, fields_len};
 use amqp_performatives::field::{Field, any, boolean, failure};
 use amqp_performatives::listed::error_fields;
 use amqp_performatives::{AmqpError, Composite, DeliveryState};
@@ -162,7 +162,7 @@ pub(crate) fn put_list(
     requires { IsListMeasure 30 list (shown_fields fields.now) }
     ensures { OnOk result (added out.old.items (canon (composite_datum (type_of composite).0 (shown_fields fields.now))) ≡ Some out.new.items) }
 {
-    put_described(composite, fields, list, 30, out)
+    put_described(composite, fields, list, FIELD_DEPTH, out)
 }
 
 /// Writes so many of the fields, those up to the last that is present.

@@ -11,10 +11,10 @@ use Rattle.amqp_types.specs.declared.class.Width.{Width}
 use Rattle.std.proofs.lemmas.List.{append-nil}
 use Rattle.amqp_types.specs.Codes.{class_of, octets_in, kind_index, run_index}
 use Rattle.amqp_types.specs.Datum.{Datum, number, octets, list, map, array, described, Data, none, item, count_of, depth_of}
-use Rattle.amqp_types.specs.Grammar.{number_of, read_number, fits, is_run, is_even, is_element, IsField, IsFramed, IsNumberBody, IsOctetsBody, IsListBody, IsMapBody, IsArrayBody, IsDescribedBody, IsPart, IsBody, AreParts, Spells}
+use Rattle.amqp_types.specs.Grammar.{number_of, read_number, fits, is_run, is_even, is_element, IsField, IsCompound, IsNumberBody, IsOctetsBody, IsListBody, IsMapBody, IsArrayBody, IsDescribedBody, IsPart, IsBody, AreParts, Spells}
 use Rattle.amqp_types.specs.Reading.{◌>>=◌}
-use Rattle.amqp_types.specs.Canon.{unread_number, field, size_field, number_form, octets_head, frame_head, list_head, map_head, array_head, described_head, Draft, number_draft, octets_draft, list_draft, map_draft, array_draft, described_draft, draft_form, first_or, first_of, codes, spelled, draft, parts_form, canon}
-use Rattle.amqp_types.proofs.Frames.{bind_some, guard_some, guard_past, some_is}
+use Rattle.amqp_types.specs.Canon.{unread_number, field, size_field, number_form, octets_head, compound_head, list_head, map_head, array_head, described_head, Draft, number_draft, octets_draft, list_draft, map_draft, array_draft, described_draft, draft_form, first_or, first_of, codes, spelled, draft, parts_form, canon}
+use Rattle.amqp_types.proofs.Compounds.{bind_some, guard_some, guard_past, some_is}
 
 abbrev kind_at : ℕ → Kind
 kind_at zero = Kind.Null
@@ -153,8 +153,8 @@ octets_body (Class.Sixteen r') r text b e =
     (same_run r' r p.0, q.0, eqb-true _ _ q.1, sym (some_is (m.0 ++ text) b m.2) ∙ ap (λ (x : List ℕ). x ++ text) nothing)
 octets_body _ r text b e = absurd cc
 
-frame_body : (w : Width) (count size : ℕ) (content h : List ℕ) → size ≡ length content → frame_head w count size ≡ Some h → IsFramed w count content (h ++ content)
-frame_body w count size content h len e =
+compound_body : (w : Width) (count size : ℕ) (content h : List ℕ) → size ≡ length content → compound_head w count size ≡ Some h → IsCompound w count content (h ++ content)
+compound_body w count size content h len e =
     let s = bind_some (size_field w (octets_in w + size)) (λ s. size_field w count >>= λ c. Some (s ++ c)) h e in
     let c = bind_some (size_field w count) (λ c. Some (s.0 ++ c)) h s.2 in
     let sized : IsField w (octets_in w + length content) s.0 = rw (← len) (size_field_is w (octets_in w + size) s.0 s.1) in
@@ -174,24 +174,24 @@ list_body Class.EmptyList count content P p empty b e =
     let nothing : m.0 ≡ [] = sym (some_is [] m.0 g.1) in
     (none, sym (some_is (m.0 ++ content) b m.2) ∙ ap (λ (x : List ℕ). x ++ content) nothing ∙ empty none)
 list_body (Class.List w) count content P p empty b e =
-    let m = bind_some (frame_head w count (length content)) (λ h. Some (h ++ content)) b e in
-    (content, p, subst (λ (x : List ℕ). IsFramed w count content x) (some_is (m.0 ++ content) b m.2) (frame_body w count (length content) content m.0 refl m.1))
+    let m = bind_some (compound_head w count (length content)) (λ h. Some (h ++ content)) b e in
+    (content, p, subst (λ (x : List ℕ). IsCompound w count content x) (some_is (m.0 ++ content) b m.2) (compound_body w count (length content) content m.0 refl m.1))
 list_body _ count content P p empty b e = absurd cc
 
 map_body : (class : Class) (count : ℕ) (content : List ℕ) (P : List ℕ → Type 0) → P content → (b : List ℕ) → (map_head class count (length content) >>= λ h. Some (h ++ content)) ≡ Some b → IsMapBody class count P b
 map_body (Class.Map w) count content P p b e =
     let m = bind_some (map_head (Class.Map w) count (length content)) (λ h. Some (h ++ content)) b e in
-    let g = guard_some (is_even count) (frame_head w count (length content)) m.0 m.1 in
-    (g.0, content, p, subst (λ (x : List ℕ). IsFramed w count content x) (some_is (m.0 ++ content) b m.2) (frame_body w count (length content) content m.0 refl g.1))
+    let g = guard_some (is_even count) (compound_head w count (length content)) m.0 m.1 in
+    (g.0, content, p, subst (λ (x : List ℕ). IsCompound w count content x) (some_is (m.0 ++ content) b m.2) (compound_body w count (length content) content m.0 refl g.1))
 map_body _ count content P p b e = absurd cc
 
 array_body : (class : Class) (code count : ℕ) (bodies : List ℕ) (P : List ℕ → Type 0) → P bodies → (b : List ℕ) → (array_head class code count (length bodies) >>= λ h. Some (h ++ bodies)) ≡ Some b → IsArrayBody class code count P b
 array_body (Class.Array w) code count bodies P p b e =
     let m = bind_some (array_head (Class.Array w) code count (length bodies)) (λ h. Some (h ++ bodies)) b e in
-    let g = guard_some (is_element (class_of code) count) (frame_head w count (1 + length bodies) >>= λ h. Some (h ++ code ∷ [])) m.0 m.1 in
-    let f = bind_some (frame_head w count (1 + length bodies)) (λ h. Some (h ++ code ∷ [])) m.0 g.1 in
+    let g = guard_some (is_element (class_of code) count) (compound_head w count (1 + length bodies) >>= λ h. Some (h ++ code ∷ [])) m.0 m.1 in
+    let f = bind_some (compound_head w count (1 + length bodies)) (λ h. Some (h ++ code ∷ [])) m.0 g.1 in
     let whole : f.0 ++ (code ∷ bodies) ≡ b = sym (append_assoc f.0 (code ∷ []) bodies) ∙ ap (λ (x : List ℕ). x ++ bodies) (some_is (f.0 ++ code ∷ []) m.0 f.2) ∙ some_is (m.0 ++ bodies) b m.2 in
-    (code ∷ bodies, (refl, g.0, p), subst (λ (x : List ℕ). IsFramed w count (code ∷ bodies) x) whole (frame_body w count (1 + length bodies) (code ∷ bodies) f.0 (omega arith) f.1))
+    (code ∷ bodies, (refl, g.0, p), subst (λ (x : List ℕ). IsCompound w count (code ∷ bodies) x) whole (compound_body w count (1 + length bodies) (code ∷ bodies) f.0 (omega arith) f.1))
 array_body _ code count bodies P p b e = absurd cc
 
 described_body : (class : Class) (x y : List ℕ) (P Q : List ℕ → Type 0) → P x → Q y → (b : List ℕ) → (described_head class >>= λ h. Some (h ++ (x ++ y))) ≡ Some b → IsDescribedBody class P Q b

@@ -39,38 +39,38 @@ ulong_chosen n false true false e0 e1 e2 = simp (e0, e1, e2)
 ulong_chosen n false false true e0 e1 e2 = simp (e0, e1, e2)
 ulong_chosen n false false false e0 e1 e2 = simp (e0, e1, e2)
 
-frame_list : (count : ℕ) (content : List ℕ) (b0 b1 b2 : Bool) → eqb count 0 ≡ b0 → ltb (1 + length content) 256 ≡ b1 → ltb count 256 ≡ b2 → IsChosen (list_draft count content)
+compound_list : (count : ℕ) (content : List ℕ) (b0 b1 b2 : Bool) → eqb count 0 ≡ b0 → ltb (1 + length content) 256 ≡ b1 → ltb count 256 ≡ b2 → IsChosen (list_draft count content)
 unfolding class_of
-frame_list count content true true true e0 e1 e2 = simp (e0, e1, e2)
-frame_list count content true true false e0 e1 e2 = simp (e0, e1, e2)
-frame_list count content true false true e0 e1 e2 = simp (e0, e1, e2)
-frame_list count content true false false e0 e1 e2 = simp (e0, e1, e2)
-frame_list count content false true true e0 e1 e2 = simp (e0, e1, e2)
-frame_list count content false true false e0 e1 e2 = simp (e0, e1, e2)
-frame_list count content false false true e0 e1 e2 = simp (e0, e1, e2)
-frame_list count content false false false e0 e1 e2 = simp (e0, e1, e2)
+compound_list count content true true true e0 e1 e2 = simp (e0, e1, e2)
+compound_list count content true true false e0 e1 e2 = simp (e0, e1, e2)
+compound_list count content true false true e0 e1 e2 = simp (e0, e1, e2)
+compound_list count content true false false e0 e1 e2 = simp (e0, e1, e2)
+compound_list count content false true true e0 e1 e2 = simp (e0, e1, e2)
+compound_list count content false true false e0 e1 e2 = simp (e0, e1, e2)
+compound_list count content false false true e0 e1 e2 = simp (e0, e1, e2)
+compound_list count content false false false e0 e1 e2 = simp (e0, e1, e2)
 
-frame_map : (count : ℕ) (content : List ℕ) (b0 b1 b2 : Bool) → is_even count ≡ b0 → ltb (1 + length content) 256 ≡ b1 → ltb count 256 ≡ b2 → IsChosen (map_draft count content)
+compound_map : (count : ℕ) (content : List ℕ) (b0 b1 b2 : Bool) → is_even count ≡ b0 → ltb (1 + length content) 256 ≡ b1 → ltb count 256 ≡ b2 → IsChosen (map_draft count content)
 unfolding class_of
-frame_map count content true true true e0 e1 e2 = simp (e0, e1, e2)
-frame_map count content true true false e0 e1 e2 = simp (e0, e1, e2)
-frame_map count content true false true e0 e1 e2 = simp (e0, e1, e2)
-frame_map count content true false false e0 e1 e2 = simp (e0, e1, e2)
-frame_map count content false true true e0 e1 e2 = simp (e0, e1, e2)
-frame_map count content false true false e0 e1 e2 = simp (e0, e1, e2)
-frame_map count content false false true e0 e1 e2 = simp (e0, e1, e2)
-frame_map count content false false false e0 e1 e2 = simp (e0, e1, e2)
+compound_map count content true true true e0 e1 e2 = simp (e0, e1, e2)
+compound_map count content true true false e0 e1 e2 = simp (e0, e1, e2)
+compound_map count content true false true e0 e1 e2 = simp (e0, e1, e2)
+compound_map count content true false false e0 e1 e2 = simp (e0, e1, e2)
+compound_map count content false true true e0 e1 e2 = simp (e0, e1, e2)
+compound_map count content false true false e0 e1 e2 = simp (e0, e1, e2)
+compound_map count content false false true e0 e1 e2 = simp (e0, e1, e2)
+compound_map count content false false false e0 e1 e2 = simp (e0, e1, e2)
 
-frame_array : (code count : ℕ) (content : List ℕ) (b0 b1 b2 : Bool) → is_element (class_of code) count ≡ b0 → ltb (1 + (1 + length content)) 256 ≡ b1 → ltb count 256 ≡ b2 → IsChosen (array_draft code count content)
+compound_array : (code count : ℕ) (content : List ℕ) (b0 b1 b2 : Bool) → is_element (class_of code) count ≡ b0 → ltb (1 + (1 + length content)) 256 ≡ b1 → ltb count 256 ≡ b2 → IsChosen (array_draft code count content)
 unfolding class_of
-frame_array code count content true true true e0 e1 e2 = simp (e0, e1, e2)
-frame_array code count content true true false e0 e1 e2 = simp (e0, e1, e2)
-frame_array code count content true false true e0 e1 e2 = simp (e0, e1, e2)
-frame_array code count content true false false e0 e1 e2 = simp (e0, e1, e2)
-frame_array code count content false true true e0 e1 e2 = simp (e0, e1, e2)
-frame_array code count content false true false e0 e1 e2 = simp (e0, e1, e2)
-frame_array code count content false false true e0 e1 e2 = simp (e0, e1, e2)
-frame_array code count content false false false e0 e1 e2 = simp (e0, e1, e2)
+compound_array code count content true true true e0 e1 e2 = simp (e0, e1, e2)
+compound_array code count content true true false e0 e1 e2 = simp (e0, e1, e2)
+compound_array code count content true false true e0 e1 e2 = simp (e0, e1, e2)
+compound_array code count content true false false e0 e1 e2 = simp (e0, e1, e2)
+compound_array code count content false true true e0 e1 e2 = simp (e0, e1, e2)
+compound_array code count content false true false e0 e1 e2 = simp (e0, e1, e2)
+compound_array code count content false false true e0 e1 e2 = simp (e0, e1, e2)
+compound_array code count content false false false e0 e1 e2 = simp (e0, e1, e2)
 
 binary_chosen : (text : List ℕ) (b0 b1 : Bool) → is_run Run.Binary text ≡ b0 → ltb (length text) 256 ≡ b1 → IsChosen (octets_draft Run.Binary text)
 unfolding class_of
@@ -152,9 +152,9 @@ described_chosen content = refl
 pub chosen : (d : Draft) → IsChosen d
 chosen (number_draft k n) = number_chosen k n
 chosen (octets_draft r text) = octets_chosen r text
-chosen (list_draft count content) = frame_list count content (eqb count 0) (ltb (1 + length content) 256) (ltb count 256) refl refl refl
-chosen (map_draft count content) = frame_map count content (is_even count) (ltb (1 + length content) 256) (ltb count 256) refl refl refl
-chosen (array_draft code count content) = frame_array code count content (is_element (class_of code) count) (ltb (1 + (1 + length content)) 256) (ltb count 256) refl refl refl
+chosen (list_draft count content) = compound_list count content (eqb count 0) (ltb (1 + length content) 256) (ltb count 256) refl refl refl
+chosen (map_draft count content) = compound_map count content (is_even count) (ltb (1 + length content) 256) (ltb count 256) refl refl refl
+chosen (array_draft code count content) = compound_array code count content (is_element (class_of code) count) (ltb (1 + (1 + length content)) 256) (ltb count 256) refl refl refl
 chosen (described_draft content) = described_chosen content
 
 -- the spelling with a code, and where there is none

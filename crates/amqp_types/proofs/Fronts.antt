@@ -15,7 +15,7 @@ use Rattle.amqp_types.specs.Codes.{table, class_in, class_of, octets_in, kind_in
 use Rattle.amqp_types.specs.Datum.{number, octets}
 use Rattle.amqp_types.specs.Grammar.{number_from, number_of, read_number, fits, IsNumberBody, IsOctetsBody, is_run, Spells, IsFront, IsCandidate}
 use Rattle.amqp_types.specs.Reading.{split, field_at, number_at, run_at, octets_at, body_by, body_at, part_at}
-use Rattle.amqp_types.proofs.Frames.{field_takes, split_takes, guard_some}
+use Rattle.amqp_types.proofs.Compounds.{field_takes, split_takes, guard_some}
 use Rattle.amqp_types.proofs.Laws.{nothing_read, spelling_taken, spelled_is_read}
 
 -- ---- the codes of a type

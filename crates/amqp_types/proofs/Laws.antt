@@ -12,8 +12,8 @@ use Rattle.amqp_types.specs.declared.class.Width.{Width}
 use Rattle.amqp_types.specs.Codes.{class_of}
 use Rattle.amqp_types.specs.Datum.{Datum, number, octets, list, map, array, described, Data, none, item, count_of, depth_of, greatest_depth_of}
 use Rattle.amqp_types.specs.Grammar.{number_of, read_number, fits, is_run, is_even, is_element, IsNumberBody, IsOctetsBody, IsListBody, IsMapBody, IsArrayContent, IsArrayBody, IsDescribedBody, IsPart, IsBody, AreParts, SpellsWithin, Spells}
-use Rattle.amqp_types.specs.Reading.{◌>>=◌, split, field_at, frame_at, number_at, run_at, octets_at, parts_at, all_parts_at, list_at, map_at, array_content_at, array_at, described_at, body_by, body_at, part_at, PartReader}
-use Rattle.amqp_types.proofs.Frames.{bind_some, guard_some, some_is, split_takes, split_again, field_takes, field_again, frame_takes, frame_again}
+use Rattle.amqp_types.specs.Reading.{◌>>=◌, split, field_at, compound_at, number_at, run_at, octets_at, parts_at, all_parts_at, list_at, map_at, array_content_at, array_at, described_at, body_by, body_at, part_at, PartReader}
+use Rattle.amqp_types.proofs.Compounds.{bind_some, guard_some, some_is, split_takes, split_again, field_takes, field_again, compound_takes, compound_again}
 
 -- ---- what is spelled so is read
 
@@ -51,12 +51,12 @@ none_from_count (item v vs) h = absurd cc
 list_again : (vs : Data) (P : List ℕ → Type 0) (part : PartReader) → PartsRead part None vs P → (class : Class) (b rest : List ℕ) → IsListBody class (count_of vs) P b → body_by part class (b ++ rest) ≡ Some (list vs, rest)
 unfolding list_at
 list_again vs P part reads Class.EmptyList b rest h = rw (h.1, none_from_count vs h.0) refl
-list_again vs P part reads (Class.List w) b rest h = rw (frame_again w (count_of vs) h.0 b rest h.2, all_again part None vs P reads h.0 h.1) refl
+list_again vs P part reads (Class.List w) b rest h = rw (compound_again w (count_of vs) h.0 b rest h.2, all_again part None vs P reads h.0 h.1) refl
 list_again vs P part reads _ b rest h = absurd h
 
 map_again : (vs : Data) (P : List ℕ → Type 0) (part : PartReader) → PartsRead part None vs P → (class : Class) (b rest : List ℕ) → IsMapBody class (count_of vs) P b → body_by part class (b ++ rest) ≡ Some (map vs, rest)
 unfolding map_at
-map_again vs P part reads (Class.Map w) b rest h = rw (frame_again w (count_of vs) h.1 b rest h.3, h.0, all_again part None vs P reads h.1 h.2) refl
+map_again vs P part reads (Class.Map w) b rest h = rw (compound_again w (count_of vs) h.1 b rest h.3, h.0, all_again part None vs P reads h.1 h.2) refl
 map_again vs P part reads _ b rest h = absurd h
 
 content_again : (code : ℕ) (vs : Data) (P : List ℕ → Type 0) (part : PartReader) → PartsRead part (Some code) vs P → (x : List ℕ) → IsArrayContent code (count_of vs) P x → array_content_at part (count_of vs) x ≡ Some (array code vs)
@@ -66,7 +66,7 @@ content_again code vs P part reads (c ∷ x) h = rw (h.0, h.1, all_again part (S
 
 array_again : (code : ℕ) (vs : Data) (P : List ℕ → Type 0) (part : PartReader) → PartsRead part (Some code) vs P → (class : Class) (b rest : List ℕ) → IsArrayBody class code (count_of vs) P b → body_by part class (b ++ rest) ≡ Some (array code vs, rest)
 unfolding array_at
-array_again code vs P part reads (Class.Array w) b rest h = rw (frame_again w (count_of vs) h.0 b rest h.2, content_again code vs P part reads h.0 h.1) refl
+array_again code vs P part reads (Class.Array w) b rest h = rw (compound_again w (count_of vs) h.0 b rest h.2, content_again code vs P part reads h.0 h.1) refl
 array_again code vs P part reads _ b rest h = absurd h
 
 abbrev PartRead : PartReader → Option ℕ → Datum → (List ℕ → Type 0) → Type 0
@@ -223,23 +223,23 @@ sixteen_takes n c r is os x e =
 list_takes : (n c : ℕ) → BodySound n → (w : Width) → class_of c ≡ Class.List w → (os : List ℕ) (x : Datum × List ℕ) → list_at (part_at n) w os ≡ Some x → TakesBody (suc n) c x.0 os x.1
 unfolding list_at
 list_takes n c sound w is os x e =
-    let a = bind_some (frame_at w os) (λ f. all_parts_at (part_at n None) f.0.0 f.0.1 >>= λ vs. Some (list vs, f.1)) x e in
+    let a = bind_some (compound_at w os) (λ f. all_parts_at (part_at n None) f.0.0 f.0.1 >>= λ vs. Some (list vs, f.1)) x e in
     let b = bind_some (all_parts_at (part_at n None) a.0.0.0 a.0.0.1) (λ vs. Some (list vs, a.0.1)) x a.2 in
-    let f = frame_takes w os a.0 a.1 in
+    let f = compound_takes w os a.0 a.1 in
     let t = all_take n sound None a.0.0.0 a.0.0.1 b.0 b.1 in
     subst (λ (y : Datum × List ℕ). TakesBody (suc n) c y.0 os y.1) (some_is (list b.0, a.0.1) x b.2)
-    (record { text = f.body; body = rw (is, t.counted) (a.0.0.1, t.are, f.framed); parts = f.parts; depth = omega (arith, t.depth) })
+    (record { text = f.body; body = rw (is, t.counted) (a.0.0.1, t.are, f.compound); parts = f.parts; depth = omega (arith, t.depth) })
 
 map_takes : (n c : ℕ) → BodySound n → (w : Width) → class_of c ≡ Class.Map w → (os : List ℕ) (x : Datum × List ℕ) → map_at (part_at n) w os ≡ Some x → TakesBody (suc n) c x.0 os x.1
 unfolding map_at
 map_takes n c sound w is os x e =
-    let a = bind_some (frame_at w os) (λ f. cond (is_even f.0.0) (all_parts_at (part_at n None) f.0.0 f.0.1) None >>= λ vs. Some (map vs, f.1)) x e in
+    let a = bind_some (compound_at w os) (λ f. cond (is_even f.0.0) (all_parts_at (part_at n None) f.0.0 f.0.1) None >>= λ vs. Some (map vs, f.1)) x e in
     let b = bind_some (cond (is_even a.0.0.0) (all_parts_at (part_at n None) a.0.0.0 a.0.0.1) None) (λ vs. Some (map vs, a.0.1)) x a.2 in
     let g = guard_some (is_even a.0.0.0) (all_parts_at (part_at n None) a.0.0.0 a.0.0.1) b.0 b.1 in
-    let f = frame_takes w os a.0 a.1 in
+    let f = compound_takes w os a.0 a.1 in
     let t = all_take n sound None a.0.0.0 a.0.0.1 b.0 g.1 in
     subst (λ (y : Datum × List ℕ). TakesBody (suc n) c y.0 os y.1) (some_is (map b.0, a.0.1) x b.2)
-    (record { text = f.body; body = rw (is, t.counted) (g.0, a.0.0.1, t.are, f.framed); parts = f.parts; depth = omega (arith, t.depth) })
+    (record { text = f.body; body = rw (is, t.counted) (g.0, a.0.0.1, t.are, f.compound); parts = f.parts; depth = omega (arith, t.depth) })
 
 record IsArrayOf (n : ℕ) (count : ℕ) (v : Datum) (os : List ℕ) : Type 0 where
   code : ℕ
@@ -264,13 +264,13 @@ content_takes n sound count (c ∷ os) v e =
 array_takes : (n c : ℕ) → BodySound n → (w : Width) → class_of c ≡ Class.Array w → (os : List ℕ) (x : Datum × List ℕ) → array_at (part_at n) w os ≡ Some x → TakesBody (suc n) c x.0 os x.1
 unfolding array_at
 array_takes n c sound w is os x e =
-    let a = bind_some (frame_at w os) (λ f. array_content_at (part_at n) f.0.0 f.0.1 >>= λ v. Some (v, f.1)) x e in
+    let a = bind_some (compound_at w os) (λ f. array_content_at (part_at n) f.0.0 f.0.1 >>= λ v. Some (v, f.1)) x e in
     let b = bind_some (array_content_at (part_at n) a.0.0.0 a.0.0.1) (λ v. Some (v, a.0.1)) x a.2 in
-    let f = frame_takes w os a.0 a.1 in
+    let f = compound_takes w os a.0 a.1 in
     let t = content_takes n sound a.0.0.0 a.0.0.1 b.0 b.1 in
     subst (λ (y : Datum × List ℕ). TakesBody (suc n) c y.0 os y.1) (some_is (b.0, a.0.1) x b.2)
     (moved (suc n) c b.0 (array t.code t.items) os a.0.1 t.is
-    (record { text = f.body; body = rw is (a.0.0.1, t.content, rw t.counted f.framed); parts = f.parts; depth = omega (arith, t.depth) }))
+    (record { text = f.body; body = rw is (a.0.0.1, t.content, rw t.counted f.compound); parts = f.parts; depth = omega (arith, t.depth) }))
 
 described_takes : (n c : ℕ) → BodySound n → class_of c ≡ Class.Described → (os : List ℕ) (x : Datum × List ℕ) → described_at (part_at n) os ≡ Some x → TakesBody (suc n) c x.0 os x.1
 unfolding described_at

@@ -6,7 +6,7 @@ pub mod Loop
 pub mod Views
 pub mod Equal
 pub mod Bodies
-pub mod Frames
+pub mod Compounds
 pub mod Laws
 pub mod Scans
 pub mod Octets

@@ -8,33 +8,33 @@ use Rattle.amqp_types.specs.declared.class.Class.{Class}
 use Rattle.amqp_types.specs.declared.class.Width.{Width}
 use Rattle.amqp_types.specs.Codes.{table, class_of, codes_in}
 use Rattle.amqp_types.specs.Datum.{Datum, list, described, Data, none, item, count_of}
-use Rattle.amqp_types.specs.Grammar.{IsListBody, IsFramed, AreParts, SpellsWithin, IsListWith}
+use Rattle.amqp_types.specs.Grammar.{IsListBody, IsCompound, AreParts, SpellsWithin, IsListWith}
 use Rattle.amqp_types.specs.Heads.{IsListHead, HasNoList}
-use Rattle.amqp_types.specs.Reading.{frame_at}
-use Rattle.amqp_types.proofs.Frames.{frame_takes, frame_again}
+use Rattle.amqp_types.specs.Reading.{compound_at}
+use Rattle.amqp_types.proofs.Compounds.{compound_takes, compound_again}
 use Rattle.amqp_types.proofs.Fronts.{of_list, is_code, class_listed}
 
 -- ---- a list's head found
 
-framed_drop : (w : Width) (count : ℕ) (content body : List ℕ) (c start : ℕ) → IsFramed w count content body → start + length content ≡ suc (length body) → drop start (c ∷ body) ≡ content
-framed_drop w count content body c start f at =
+compound_drop : (w : Width) (count : ℕ) (content body : List ℕ) (c start : ℕ) → IsCompound w count content body → start + length content ≡ suc (length body) → drop start (c ∷ body) ≡ content
+compound_drop w count content body c start f at =
     let front : List ℕ = c ∷ (f.size_field ++ f.count_field) in
     let whole : c ∷ body ≡ front ++ content = ap (λ (l : List ℕ). c ∷ l) (f.parts ∙ sym (append_assoc f.size_field f.count_field content)) in
     let len : length front ≡ start = omega (arith, ap length whole, length-append front content, at) in
     ap (drop start) whole ∙ drop_at front content start len
 
 pub head_found : (c : ℕ) (w : Width) (body bytes : List ℕ) → IsFirstAndRest bytes c body → class_of c ≡ Class.List w
-    → (count start end : ℕ) (content after : List ℕ) → frame_at w body ≡ Some ((count, content), after) → end + length after ≡ length bytes → start + length content ≡ end → IsListHead bytes count start end
-head_found c w body bytes first is count start end content after framed end_is start_is =
-    let f = frame_takes w body ((count, content), after) framed in
+    → (count start end : ℕ) (content after : List ℕ) → compound_at w body ≡ Some ((count, content), after) → end + length after ≡ length bytes → start + length content ≡ end → IsListHead bytes count start end
+head_found c w body bytes first is count start end content after compound end_is start_is =
+    let f = compound_takes w body ((count, content), after) compound in
     let whole : bytes ≡ (c ∷ f.body) ++ after = first.0 ∙ ap (λ (l : List ℕ). c ∷ l) f.parts in
     let len : length (c ∷ f.body) ≡ end = omega (arith, ap length whole, length-append (c ∷ f.body) after, end_is) in
     let front : take end bytes ≡ c ∷ f.body = ap (take end) whole ∙ take_at (c ∷ f.body) after end len in
-    let items : drop start (c ∷ f.body) ≡ content = framed_drop w count content f.body c start f.framed (start_is ∙ sym len) in (
+    let items : drop start (c ∷ f.body) ≡ content = compound_drop w count content f.body c start f.compound (start_is ∙ sym len) in (
       omega arith,
       omega arith,
-      subst (λ (x : List ℕ). IsListWith count (drop start x) x) (sym front) (rw is (content, sym items, f.framed)),
-      (λ e. omega (arith, e, len, start_is, ap length f.framed.parts, length-append f.framed.size_field (f.framed.count_field ++ content), length-append f.framed.count_field content)),
+      subst (λ (x : List ℕ). IsListWith count (drop start x) x) (sym front) (rw is (content, sym items, f.compound)),
+      (λ e. omega (arith, e, len, start_is, ap length f.compound.parts, length-append f.compound.size_field (f.compound.count_field ++ content), length-append f.compound.count_field content)),
     )
 
 pub empty_head : (c : ℕ) (body bytes : List ℕ) → IsFirstAndRest bytes c body → class_of c ≡ Class.EmptyList → IsListHead bytes 0 1 1
@@ -58,21 +58,21 @@ no_list_code c body bytes first other count content (c' ∷ b) rest h e =
     let yes : is_code (69 ∷ 192 ∷ 208 ∷ []) c ≡ true = subst (λ (d : ℕ). is_code (codes_in of_list table) d ≡ true) same listed in
     absurd (let q : false ≡ true = sym other ∙ yes in cc)
 
-list_body_again : (w : Width) (count : ℕ) (content : List ℕ) (class : Class) (b rest : List ℕ) → class ≡ Class.List w → IsListBody class count (λ x. x ≡ content) b → frame_at w (b ++ rest) ≡ Some ((count, content), rest)
+list_body_again : (w : Width) (count : ℕ) (content : List ℕ) (class : Class) (b rest : List ℕ) → class ≡ Class.List w → IsListBody class count (λ x. x ≡ content) b → compound_at w (b ++ rest) ≡ Some ((count, content), rest)
 list_body_again w count content (Class.List v) b rest e h =
     let same : v ≡ w = cc in
-    let framed : IsFramed w count content b = subst (λ (u : Width). IsFramed u count content b) same (subst (λ (x : List ℕ). IsFramed v count x b) h.1 h.2) in
-    frame_again w count content b rest framed
+    let compound : IsCompound w count content b = subst (λ (u : Width). IsCompound u count content b) same (subst (λ (x : List ℕ). IsCompound v count x b) h.1 h.2) in
+    compound_again w count content b rest compound
 list_body_again w count content _ b rest e h = absurd cc
 
-pub no_list_frame : (c : ℕ) (w : Width) (body bytes : List ℕ) → IsFirstAndRest bytes c body → class_of c ≡ Class.List w → frame_at w body ≡ None → HasNoList bytes
-no_list_frame c w body bytes first is missing count content [] rest h e = h
-no_list_frame c w body bytes first is missing count content (c' ∷ b) rest h e =
+pub no_list_compound : (c : ℕ) (w : Width) (body bytes : List ℕ) → IsFirstAndRest bytes c body → class_of c ≡ Class.List w → compound_at w body ≡ None → HasNoList bytes
+no_list_compound c w body bytes first is missing count content [] rest h e = h
+no_list_compound c w body bytes first is missing count content (c' ∷ b) rest h e =
     let both : c ∷ body ≡ c' ∷ (b ++ rest) = sym first.0 ∙ e in
     let same : c' ≡ c = cc in
     let behind : body ≡ b ++ rest = cc in
-    let again : frame_at w (b ++ rest) ≡ Some ((count, content), rest) = list_body_again w count content (class_of c') b rest (ap class_of same ∙ is) h in
-    let missed : frame_at w (b ++ rest) ≡ None = ap (frame_at w) (sym behind) ∙ missing in
+    let again : compound_at w (b ++ rest) ≡ Some ((count, content), rest) = list_body_again w count content (class_of c') b rest (ap class_of same ∙ is) h in
+    let missed : compound_at w (b ++ rest) ≡ None = ap (compound_at w) (sym behind) ∙ missing in
     absurd (let q : ◌≡◌ {A = Option ((ℕ × List ℕ) × List ℕ)} None (Some ((count, content), rest)) = sym missed ∙ again in cc)
 
 -- ---- a list from its head and its items
@@ -97,18 +97,18 @@ pub described_from_parts : (n : ℕ) (d v : Datum) (x y : List ℕ) → SpellsWi
 unfolding class_of
 described_from_parts n d v x y hd hv = ((x, y, hd.0, hv.0, refl), omega (arith, hd.1, hv.1))
 
--- ---- what framed_head gives
+-- ---- what read_compound_head gives
 
-pub framed_room : (w : Width) (body : List ℕ) (count : ℕ) (content after : List ℕ) → Some ((count, content), after) ≡ frame_at w body → length content + length after ≤ length body
-framed_room w body count content after framed =
-    let f = frame_takes w body ((count, content), after) (sym framed) in
-    omega (arith, ap length f.parts, length-append f.body after, ap length f.framed.parts, length-append f.framed.size_field (f.framed.count_field ++ content), length-append f.framed.count_field content)
+pub compound_room : (w : Width) (body : List ℕ) (count : ℕ) (content after : List ℕ) → Some ((count, content), after) ≡ compound_at w body → length content + length after ≤ length body
+compound_room w body count content after compound =
+    let f = compound_takes w body ((count, content), after) (sym compound) in
+    omega (arith, ap length f.parts, length-append f.body after, ap length f.compound.parts, length-append f.compound.size_field (f.compound.count_field ++ content), length-append f.compound.count_field content)
 
-abbrev IsFramedHead : Width → List ℕ → ℕ → Option ListHead → Type 0
-IsFramedHead w body whole answer = MatchOption answer (frame_at w body ≡ None)
-    (λ head. (content after : List ℕ) × (frame_at w body ≡ Some ((head.count, content), after)) × (head.end + length after ≡ whole) × (head.start + length content ≡ head.end))
+abbrev IsCompoundHead : Width → List ℕ → ℕ → Option ListHead → Type 0
+IsCompoundHead w body whole answer = MatchOption answer (compound_at w body ≡ None)
+    (λ head. (content after : List ℕ) × (compound_at w body ≡ Some ((head.count, content), after)) × (head.end + length after ≡ whole) × (head.start + length content ≡ head.end))
 
-pub framed_answer : (c code : ℕ) (w : Width) (body bytes : List ℕ) → IsFirstAndRest bytes c body → c ≡ code → class_of code ≡ Class.List w → (whole : ℕ) → whole ≡ length bytes → (answer : Option ListHead) → IsFramedHead w body whole answer
+pub compound_answer : (c code : ℕ) (w : Width) (body bytes : List ℕ) → IsFirstAndRest bytes c body → c ≡ code → class_of code ≡ Class.List w → (whole : ℕ) → whole ≡ length bytes → (answer : Option ListHead) → IsCompoundHead w body whole answer
     → MatchOption answer (HasNoList bytes) (λ head. IsListHead bytes head.count head.start head.end)
-framed_answer c code w body bytes first e is whole all None h = no_list_frame c w body bytes first (ap class_of e ∙ is) h
-framed_answer c code w body bytes first e is whole all (Some head) h = head_found c w body bytes first (ap class_of e ∙ is) head.count head.start head.end h.0 h.1 h.2 (h.3 ∙ all) h.4
+compound_answer c code w body bytes first e is whole all None h = no_list_compound c w body bytes first (ap class_of e ∙ is) h
+compound_answer c code w body bytes first e is whole all (Some head) h = head_found c w body bytes first (ap class_of e ∙ is) head.count head.start head.end h.0 h.1 h.2 (h.3 ∙ all) h.4

@@ -6,7 +6,7 @@ use Rattle.amqp_types.specs.Datum.{Datum, Data, item}
 use Rattle.amqp_types.specs.Reading.{◌>>=◌, after, parts_at, all_parts_at, part_at}
 use Rattle.amqp_types.specs.Grammar.{BeginsWithValue, SpellsWithin}
 use Rattle.amqp_types.proofs.Laws.{nothing_read, rest_is_short, spelling_taken}
-use Rattle.amqp_types.proofs.Frames.{some_is}
+use Rattle.amqp_types.proofs.Compounds.{some_is}
 use Rattle.amqp_types.proofs.Loop.{Reader}
 
 from_after : {A : Type 0} (o : Option (A × List ℕ)) (r : List ℕ) → Some r ≡ after o → (x : A × List ℕ) × (o ≡ Some x) × (x.1 ≡ r)

@@ -13,11 +13,11 @@ use Rattle.amqp_types.specs.declared.class.Conversion.{Conversion}
 use Rattle.amqp_types.specs.declared.class.Width.{Width}
 use Rattle.amqp_types.specs.Codes.{table, class_in, class_of, octets_in, kind_index, run_index}
 use Rattle.amqp_types.specs.Datum.{Datum, number, octets, list, map, array, described, Data, none, item, count_of, depth_of}
-use Rattle.amqp_types.specs.Grammar.{number_from, number_of, read_number, fits, is_run, is_even, is_element, IsField, IsFramed, IsNumberBody, IsOctetsBody, IsListBody, IsMapBody, IsArrayContent, IsArrayBody, IsDescribedBody, IsPart, IsBody, AreParts, Spells}
+use Rattle.amqp_types.specs.Grammar.{number_from, number_of, read_number, fits, is_run, is_even, is_element, IsField, IsCompound, IsNumberBody, IsOctetsBody, IsListBody, IsMapBody, IsArrayContent, IsArrayBody, IsDescribedBody, IsPart, IsBody, AreParts, Spells}
 use Rattle.amqp_types.specs.Reading.{◌>>=◌}
-use Rattle.amqp_types.specs.Canon.{unread_number, field, size_field, number_form, octets_head, frame_head, list_head, map_head, array_head, described_head, Draft, number_draft, octets_draft, list_draft, map_draft, array_draft, described_draft, head_of, content_of, draft_form, first_or, first_of, codes, spelled, draft, parts_form, canon}
+use Rattle.amqp_types.specs.Canon.{unread_number, field, size_field, number_form, octets_head, compound_head, list_head, map_head, array_head, described_head, Draft, number_draft, octets_draft, list_draft, map_draft, array_draft, described_draft, head_of, content_of, draft_form, first_or, first_of, codes, spelled, draft, parts_form, canon}
 use Rattle.amqp_types.specs.Shortest.{HasNoEmptyNulls, HaveNoEmptyNulls}
-use Rattle.amqp_types.proofs.Frames.{bind_some, guard_some, some_is}
+use Rattle.amqp_types.proofs.Compounds.{bind_some, guard_some, some_is}
 use Rattle.amqp_types.proofs.Numbers.{grows}
 use Rattle.amqp_types.proofs.Fronts.{is_code, class_listed}
 use Rattle.amqp_types.proofs.Canonical.{field_is, no_content}
@@ -148,9 +148,9 @@ octets_within (Class.Sixteen r') r text b row h o =
     with_content (octets_draft r text) (Class.Sixteen r') 0 (length b) ([], rw (same, h.1, len) refl, refl) (omega (arith, ap length h.3))
 octets_within _ r text b row h o = absurd h
 
-frame_there : (w : Width) (count size : ℕ) (content b : List ℕ) → is_sized w ≡ true → IsFramed w count content b → AreOctets b → size ≤ length content
-    → IsThere (frame_head w count size) (octets_in w + octets_in w) × ((octets_in w + octets_in w) + length content ≡ length b) × AreOctets content
-frame_there w count size content b row h o le =
+compound_there : (w : Width) (count size : ℕ) (content b : List ℕ) → is_sized w ≡ true → IsCompound w count content b → AreOctets b → size ≤ length content
+    → IsThere (compound_head w count size) (octets_in w + octets_in w) × ((octets_in w + octets_in w) + length content ≡ length b) × AreOctets content
+compound_there w count size content b row h o le =
     let after = back_octets h.size_field (h.count_field ++ content) b h.parts o in
     let sized = field_small w (octets_in w + length content) h.size_field h.size_is (front_octets h.size_field (h.count_field ++ content) b h.parts o) in
     let s = size_there w (octets_in w + size) row (omega (arith, sized)) in
@@ -164,22 +164,22 @@ frame_there w count size content b row h o le =
 abbrev IsLeastOf : (List ℕ → Type 0) → List ℕ → Type 0
 IsLeastOf P x = (y : List ℕ) → P y → AreOctets y → length x ≤ length y
 
-framed_within : (d : Draft) (class : Class) (w : Width) (count : ℕ) (content b : List ℕ) → is_sized w ≡ true → IsFramed w count content b → AreOctets b
-    → head_of d class ≡ frame_head w count (length (content_of d)) → (AreOctets content → length (content_of d) ≤ length content) → IsWithin (draft_form d class) (length b)
-framed_within d class w count content b row h o e least =
+compound_within : (d : Draft) (class : Class) (w : Width) (count : ℕ) (content b : List ℕ) → is_sized w ≡ true → IsCompound w count content b → AreOctets b
+    → head_of d class ≡ compound_head w count (length (content_of d)) → (AreOctets content → length (content_of d) ≤ length content) → IsWithin (draft_form d class) (length b)
+compound_within d class w count content b row h o e least =
     let inside = back_octets h.count_field content (h.count_field ++ content) refl (back_octets h.size_field (h.count_field ++ content) b h.parts o) in
-    let f = frame_there w count (length (content_of d)) content b row h o (least inside) in
+    let f = compound_there w count (length (content_of d)) content b row h o (least inside) in
     with_content d class (octets_in w + octets_in w) (length b) (f.0.0, e ∙ f.0.1, f.0.2) (omega (arith, f.1, least inside))
 
 list_within : (class : Class) (count : ℕ) (x b : List ℕ) (P : List ℕ → Type 0) → is_row class ≡ true → IsListBody class count P b → AreOctets b → IsLeastOf P x → (count ≡ 0 → x ≡ []) → IsWithin (draft_form (list_draft count x) class) (length b)
 list_within Class.EmptyList count x b P row h o least empty =
     let nothing : eqb count 0 ≡ true = eq-eqb _ _ h.0 in
     with_content (list_draft count x) Class.EmptyList 0 (length b) ([], rw nothing refl, refl) (omega (arith, ap length (empty h.0)))
-list_within (Class.List w) count x b P row h o least empty = framed_within (list_draft count x) (Class.List w) w count h.0 b row h.2 o refl (λ i. least h.0 h.1 i)
+list_within (Class.List w) count x b P row h o least empty = compound_within (list_draft count x) (Class.List w) w count h.0 b row h.2 o refl (λ i. least h.0 h.1 i)
 list_within _ count x b P row h o least empty = absurd h
 
 map_within : (class : Class) (count : ℕ) (x b : List ℕ) (P : List ℕ → Type 0) → is_row class ≡ true → IsMapBody class count P b → AreOctets b → IsLeastOf P x → IsWithin (draft_form (map_draft count x) class) (length b)
-map_within (Class.Map w) count x b P row h o least = framed_within (map_draft count x) (Class.Map w) w count h.1 b row h.3 o (rw h.0 refl) (λ i. least h.1 h.2 i)
+map_within (Class.Map w) count x b P row h o least = compound_within (map_draft count x) (Class.Map w) w count h.1 b row h.3 o (rw h.0 refl) (λ i. least h.1 h.2 i)
 map_within _ count x b P row h o least = absurd h
 
 -- the content of an array has a constructor, unless there are no items and this is null's
@@ -193,7 +193,7 @@ array_within : (class : Class) (code count : ℕ) (x b : List ℕ) (P : List ℕ
 array_within (Class.Array w) code count x b P row h o some least =
     let inside = back_octets h.2.count_field h.0 (h.2.count_field ++ h.0) refl (back_octets h.2.size_field (h.2.count_field ++ h.0) b h.2.parts o) in
     let c = constructed code count x h.0 P some least h.1 inside in
-    let f = frame_there w count (1 + length x) h.0 b row h.2 o c.1 in
+    let f = compound_there w count (1 + length x) h.0 b row h.2 o c.1 in
     with_content (array_draft code count x) (Class.Array w) ((octets_in w + octets_in w) + 1) (length b)
     (f.0.0 ++ code ∷ [], rw (c.0, f.0.1) refl, omega (arith, length-append f.0.0 (code ∷ []), f.0.2)) (omega (arith, f.1, c.1))
 array_within _ code count x b P row h o some least = absurd h
@@ -241,8 +241,8 @@ size_length Width.One n h e = (field_is Width.One n h e).0
 size_length Width.Four n h e = (field_is Width.Four n h e).0
 size_length _ n h e = absurd cc
 
-frame_length : (w : Width) (count size : ℕ) (h : List ℕ) → frame_head w count size ≡ Some h → length h ≡ octets_in w + octets_in w
-frame_length w count size h e =
+compound_length : (w : Width) (count size : ℕ) (h : List ℕ) → compound_head w count size ≡ Some h → length h ≡ octets_in w + octets_in w
+compound_length w count size h e =
     let s = bind_some (size_field w (octets_in w + size)) (λ s. size_field w count >>= λ c. Some (s ++ c)) h e in
     let c = bind_some (size_field w count) (λ c. Some (s.0 ++ c)) h s.2 in
     omega (arith, ap length (some_is (s.0 ++ c.0) h c.2), length-append s.0 c.0, size_length w (octets_in w + size) s.0 s.1, size_length w count c.0 c.1)
@@ -271,18 +271,18 @@ octets_measured r text _ h e = absurd cc
 
 list_measured : (count : ℕ) (content : List ℕ) (class : Class) (h : List ℕ) → list_head class count (length content) ≡ Some h → IsMeasured (list_draft count content) class h
 list_measured count content Class.EmptyList h e = let g = guard_some (eqb count 0) (Some []) h e in (refl, ap length (sym (some_is [] h g.1)))
-list_measured count content (Class.List w) h e = (refl, frame_length w count (length content) h e)
+list_measured count content (Class.List w) h e = (refl, compound_length w count (length content) h e)
 list_measured count content _ h e = absurd cc
 
 map_measured : (count : ℕ) (content : List ℕ) (class : Class) (h : List ℕ) → map_head class count (length content) ≡ Some h → IsMeasured (map_draft count content) class h
-map_measured count content (Class.Map w) h e = let g = guard_some (is_even count) (frame_head w count (length content)) h e in (refl, frame_length w count (length content) h g.1)
+map_measured count content (Class.Map w) h e = let g = guard_some (is_even count) (compound_head w count (length content)) h e in (refl, compound_length w count (length content) h g.1)
 map_measured count content _ h e = absurd cc
 
 array_measured : (code count : ℕ) (bodies : List ℕ) (class : Class) (h : List ℕ) → array_head class code count (length bodies) ≡ Some h → IsMeasured (array_draft code count bodies) class h
 array_measured code count bodies (Class.Array w) h e =
-    let g = guard_some (is_element (class_of code) count) (frame_head w count (1 + length bodies) >>= λ h. Some (h ++ code ∷ [])) h e in
-    let f = bind_some (frame_head w count (1 + length bodies)) (λ h. Some (h ++ code ∷ [])) h g.1 in
-    (refl, omega (arith, ap length (some_is (f.0 ++ code ∷ []) h f.2), length-append f.0 (code ∷ []), frame_length w count (1 + length bodies) f.0 f.1))
+    let g = guard_some (is_element (class_of code) count) (compound_head w count (1 + length bodies) >>= λ h. Some (h ++ code ∷ [])) h e in
+    let f = bind_some (compound_head w count (1 + length bodies)) (λ h. Some (h ++ code ∷ [])) h g.1 in
+    (refl, omega (arith, ap length (some_is (f.0 ++ code ∷ []) h f.2), length-append f.0 (code ∷ []), compound_length w count (1 + length bodies) f.0 f.1))
 array_measured code count bodies _ h e = absurd cc
 
 described_measured : (content : List ℕ) (class : Class) (h : List ℕ) → described_head class ≡ Some h → IsMeasured (described_draft content) class h

@@ -17,11 +17,11 @@ use Rattle.amqp_types.specs.Codes.{class_of, octets_in}
 use Rattle.amqp_types.specs.Datum.{Datum, number, list, map, array, described}
 use Rattle.amqp_types.specs.View.{views, views_of_pairs}
 use Rattle.amqp_types.specs.Reading.{◌>>=◌}
-use Rattle.amqp_types.specs.Canon.{Writes, size_field, frame_head, list_head, map_head, array_head, Draft, number_draft, octets_draft, list_draft, map_draft, array_draft, described_draft, head_of, content_of, spelled, draft, part_form, parts_form, Appends, canon, capped}
-use Rattle.amqp_types.specs.Writing.{code_for, frame_code}
+use Rattle.amqp_types.specs.Canon.{Writes, size_field, compound_head, list_head, map_head, array_head, Draft, number_draft, octets_draft, list_draft, map_draft, array_draft, described_draft, head_of, content_of, spelled, draft, part_form, parts_form, Appends, canon, capped}
+use Rattle.amqp_types.specs.Writing.{code_for, compound_code}
 use Rattle.amqp_types.specs.Forms.{head_form, head_code, spelled_head, capped_with}
 use Rattle.amqp_types.proofs.Canonical.{canon_there}
-use Rattle.amqp_types.proofs.Frames.{some_is}
+use Rattle.amqp_types.proofs.Compounds.{some_is}
 use Rattle.amqp_types.proofs.Choice.{spelled_with, spelled_under}
 use Rattle.amqp_types.proofs.Contents.{count_of-views, count_of-pairs}
 
@@ -53,11 +53,11 @@ size_field_same Width.Two m n s = refl
 size_field_same Width.Four m n s = field_same (2 ^ 32) m n (to_be_bytes w32) (omega arith) s
 size_field_same Width.Eight m n s = refl
 
-frame_head_same : (w : Width) (count m n : ℕ) → SameSize m n → frame_head w count m ≡ frame_head w count n
-frame_head_same w count m n s = rw (size_field_same w (octets_in w + m) (octets_in w + n) (omega (arith, s))) refl
+compound_head_same : (w : Width) (count m n : ℕ) → SameSize m n → compound_head w count m ≡ compound_head w count n
+compound_head_same w count m n s = rw (size_field_same w (octets_in w + m) (octets_in w + n) (omega (arith, s))) refl
 
-frame_code_same : (small large count m n : ℕ) → SameSize m n → frame_code small large count m ≡ frame_code small large count n
-frame_code_same small large count m n s = rw (same_size (1 + m) (1 + n) (omega (arith, s)) 256 (omega arith)) refl
+compound_code_same : (small large count m n : ℕ) → SameSize m n → compound_code small large count m ≡ compound_code small large count n
+compound_code_same small large count m n s = rw (same_size (1 + m) (1 + n) (omega (arith, s)) 256 (omega arith)) refl
 
 -- ---- heads of drafts
 
@@ -72,25 +72,25 @@ pub octets_head_of : (r : Run) (text : Bor (List ℕ)) → IsHeadOf (octets_draf
 octets_head_of r text = record { form = λ class. refl; code = refl }
 
 list_head_same : (class : Class) (count m n : ℕ) → SameSize m n → list_head class count m ≡ list_head class count n
-list_head_same (Class.List w) count m n s = frame_head_same w count m n s
+list_head_same (Class.List w) count m n s = compound_head_same w count m n s
 list_head_same _ count m n s = refl
 
 map_head_same : (class : Class) (count m n : ℕ) → SameSize m n → map_head class count m ≡ map_head class count n
-map_head_same (Class.Map w) count m n s = rw (frame_head_same w count m n s) refl
+map_head_same (Class.Map w) count m n s = rw (compound_head_same w count m n s) refl
 map_head_same _ count m n s = refl
 
 array_head_same : (class : Class) (code count m n : ℕ) → SameSize m n → array_head class code count m ≡ array_head class code count n
-array_head_same (Class.Array w) code count m n s = rw (frame_head_same w count (1 + m) (1 + n) (omega (arith, s))) refl
+array_head_same (Class.Array w) code count m n s = rw (compound_head_same w count (1 + m) (1 + n) (omega (arith, s))) refl
 array_head_same _ code count m n s = refl
 
 pub list_head_of : (count size : ℕ) (content : List ℕ) → SameSize size (length content) → IsHeadOf (list_draft count content) (head.List count size)
-list_head_of count size content s = record { form = λ class. list_head_same class count size (length content) s; code = rw (frame_code_same 0xc0 0xd0 count size (length content) s) refl }
+list_head_of count size content s = record { form = λ class. list_head_same class count size (length content) s; code = rw (compound_code_same 0xc0 0xd0 count size (length content) s) refl }
 
 pub map_head_of : (count size : ℕ) (content : List ℕ) → SameSize size (length content) → IsHeadOf (map_draft count content) (head.Map count size)
-map_head_of count size content s = record { form = λ class. map_head_same class count size (length content) s; code = frame_code_same 0xc1 0xd1 count size (length content) s }
+map_head_of count size content s = record { form = λ class. map_head_same class count size (length content) s; code = compound_code_same 0xc1 0xd1 count size (length content) s }
 
 pub array_head_of : (code count size : ℕ) (bodies : List ℕ) → SameSize size (length bodies) → IsHeadOf (array_draft code count bodies) (head.Array code count size)
-array_head_of code count size bodies s = record { form = λ class. array_head_same class code count size (length bodies) s; code = frame_code_same 0xe0 0xf0 count (1 + size) (1 + length bodies) (omega (arith, s)) }
+array_head_of code count size bodies s = record { form = λ class. array_head_same class code count size (length bodies) s; code = compound_code_same 0xe0 0xf0 count (1 + size) (1 + length bodies) (omega (arith, s)) }
 
 pub described_head_of : (content : List ℕ) → IsHeadOf (described_draft content) head.Described
 described_head_of content = record { form = λ class. refl; code = refl }

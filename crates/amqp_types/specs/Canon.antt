@@ -45,21 +45,21 @@ octets_head (Class.Octets r' w) r text = if (run_index r' == run_index r) && is_
 octets_head (Class.Sixteen r') r text = if (run_index r' == run_index r) && (is_run r text && (length text == 16)) then Some [] else None
 octets_head _ r text = None
 
-abbrev pub frame_head : Width → ℕ → ℕ → Option (List ℕ)
-frame_head w count size = size_field w (octets_in w + size) >>= λ s. size_field w count >>= λ c. Some (s ++ c)
+abbrev pub compound_head : Width → ℕ → ℕ → Option (List ℕ)
+compound_head w count size = size_field w (octets_in w + size) >>= λ s. size_field w count >>= λ c. Some (s ++ c)
 
 abbrev pub list_head : Class → ℕ → ℕ → Option (List ℕ)
 list_head Class.EmptyList count size = if count == 0 then Some [] else None
-list_head (Class.List w) count size = frame_head w count size
+list_head (Class.List w) count size = compound_head w count size
 list_head _ count size = None
 
 abbrev pub map_head : Class → ℕ → ℕ → Option (List ℕ)
-map_head (Class.Map w) count size = if is_even count then frame_head w count size else None
+map_head (Class.Map w) count size = if is_even count then compound_head w count size else None
 map_head _ count size = None
 
 -- with the code of the elements behind it
 abbrev pub array_head : Class → ℕ → ℕ → ℕ → Option (List ℕ)
-array_head (Class.Array w) code count size = if is_element (class_of code) count then frame_head w count (1 + size) >>= (λ h. Some (h ++ code ∷ [])) else None
+array_head (Class.Array w) code count size = if is_element (class_of code) count then compound_head w count (1 + size) >>= (λ h. Some (h ++ code ∷ [])) else None
 array_head _ code count size = None
 
 abbrev pub described_head : Class → Option (List ℕ)

@@ -6,7 +6,7 @@ use Rattle.amqp_types.specs.declared.forms.Head.TheVariants as head
 use Rattle.amqp_types.specs.Codes.{class_of}
 use Rattle.amqp_types.specs.Reading.{◌>>=◌}
 use Rattle.amqp_types.specs.Canon.{number_form, octets_head, list_head, map_head, array_head, described_head}
-use Rattle.amqp_types.specs.Writing.{number_code, octets_code, frame_code}
+use Rattle.amqp_types.specs.Writing.{number_code, octets_code, compound_code}
 
 abbrev pub head_form : Head → Class → Option (List ℕ)
 head_form (head.Number k n) class = number_form class k n
@@ -19,9 +19,9 @@ head_form head.Described class = described_head class
 abbrev pub head_code : Head → ℕ
 head_code (head.Number k n) = number_code k n
 head_code (head.Octets r text) = octets_code r (length text.now)
-head_code (head.List count size) = if count == 0 then 0x45 else frame_code 0xc0 0xd0 count size
-head_code (head.Map count size) = frame_code 0xc1 0xd1 count size
-head_code (head.Array code count size) = frame_code 0xe0 0xf0 count (1 + size)
+head_code (head.List count size) = if count == 0 then 0x45 else compound_code 0xc0 0xd0 count size
+head_code (head.Map count size) = compound_code 0xc1 0xd1 count size
+head_code (head.Array code count size) = compound_code 0xe0 0xf0 count (1 + size)
 head_code head.Described = 0
 
 -- with its code, or under that of an array

@@ -84,7 +84,7 @@ abbrev pub IsField : Width → ℕ → List ℕ → Type 0
 IsField w n os = (length os ≡ octets_in w) × (number_of os ≡ n)
 
 -- Size and count, then the content: the size counts the count's octets and the content's.
-pub record IsFramed (w : Width) (count : ℕ) (content os : List ℕ) : Type 0 where
+pub record IsCompound (w : Width) (count : ℕ) (content os : List ℕ) : Type 0 where
   pub size_field : List ℕ
   pub count_field : List ℕ
   pub size_is : IsField w (octets_in w + length content) size_field
@@ -102,11 +102,11 @@ IsOctetsBody _ r text os = ⊥
 
 abbrev pub IsListBody : Class → ℕ → (List ℕ → Type 0) → List ℕ → Type 0
 IsListBody Class.EmptyList count Content os = (count ≡ 0) × (os ≡ [])
-IsListBody (Class.List w) count Content os = (content : List ℕ) × Content content × IsFramed w count content os
+IsListBody (Class.List w) count Content os = (content : List ℕ) × Content content × IsCompound w count content os
 IsListBody _ count Content os = ⊥
 
 abbrev pub IsMapBody : Class → ℕ → (List ℕ → Type 0) → List ℕ → Type 0
-IsMapBody (Class.Map w) count Content os = IsTrue (is_even count) × (content : List ℕ) × Content content × IsFramed w count content os
+IsMapBody (Class.Map w) count Content os = IsTrue (is_even count) × (content : List ℕ) × Content content × IsCompound w count content os
 IsMapBody _ count Content os = ⊥
 
 -- the constructor and the bodies; an empty array of null may have no constructor
@@ -115,7 +115,7 @@ IsArrayContent code count Bodies [] = (count ≡ 0) × (code ≡ 0x40)
 IsArrayContent code count Bodies (c ∷ os) = (c ≡ code) × IsTrue (is_element (class_of code) count) × Bodies os
 
 abbrev pub IsArrayBody : Class → ℕ → ℕ → (List ℕ → Type 0) → List ℕ → Type 0
-IsArrayBody (Class.Array w) code count Bodies os = (content : List ℕ) × IsArrayContent code count Bodies content × IsFramed w count content os
+IsArrayBody (Class.Array w) code count Bodies os = (content : List ℕ) × IsArrayContent code count Bodies content × IsCompound w count content os
 IsArrayBody _ code count Bodies os = ⊥
 
 -- one after the other

@@ -47,8 +47,8 @@ octets_at r w os = do
   run_at r n.0 n.1
 
 -- the count and the content, and what follows
-unfoldable pub frame_at : Width → List ℕ → Option ((ℕ × List ℕ) × List ℕ)
-frame_at w os = do
+unfoldable pub compound_at : Width → List ℕ → Option ((ℕ × List ℕ) × List ℕ)
+compound_at w os = do
   size ← field_at w os
   inside ← split size.0 size.1
   count ← field_at w inside.0
@@ -72,13 +72,13 @@ all_parts_at part n os = do
 
 unfoldable pub list_at : PartReader → Width → List ℕ → Option (Datum × List ℕ)
 list_at part w os = do
-  f ← frame_at w os
+  f ← compound_at w os
   vs ← all_parts_at (part None) f.0.0 f.0.1
   Some (list vs, f.1)
 
 unfoldable pub map_at : PartReader → Width → List ℕ → Option (Datum × List ℕ)
 map_at part w os = do
-  f ← frame_at w os
+  f ← compound_at w os
   vs ← (if is_even f.0.0 then all_parts_at (part None) f.0.0 f.0.1 else None)
   Some (map vs, f.1)
 
@@ -90,7 +90,7 @@ array_content_at part count (c ∷ os) = do
 
 unfoldable pub array_at : PartReader → Width → List ℕ → Option (Datum × List ℕ)
 array_at part w os = do
-  f ← frame_at w os
+  f ← compound_at w os
   v ← array_content_at part f.0.0 f.0.1
   Some (v, f.1)
 

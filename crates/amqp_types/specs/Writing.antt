@@ -29,13 +29,13 @@ octets_code Run.Symbol n = if nat_lt n 256 then 0xa3 else 0xb3
 octets_code Run.Dec128 n = 0x94
 octets_code Run.Uuid n = 0x98
 
-abbrev pub frame_code : ℕ → ℕ → ℕ → ℕ → ℕ
-frame_code small large count size = if nat_lt (1 + size) 256 && nat_lt count 256 then small else large
+abbrev pub compound_code : ℕ → ℕ → ℕ → ℕ → ℕ
+compound_code small large count size = if nat_lt (1 + size) 256 && nat_lt count 256 then small else large
 
 abbrev pub code_for : Draft → ℕ
 code_for (number_draft k n) = number_code k n
 code_for (octets_draft r text) = octets_code r (length text)
-code_for (list_draft count content) = if count == 0 then 0x45 else frame_code 0xc0 0xd0 count (length content)
-code_for (map_draft count content) = frame_code 0xc1 0xd1 count (length content)
-code_for (array_draft code count bodies) = frame_code 0xe0 0xf0 count (1 + length bodies)
+code_for (list_draft count content) = if count == 0 then 0x45 else compound_code 0xc0 0xd0 count (length content)
+code_for (map_draft count content) = compound_code 0xc1 0xd1 count (length content)
+code_for (array_draft code count bodies) = compound_code 0xe0 0xf0 count (1 + length bodies)
 code_for (described_draft content) = 0

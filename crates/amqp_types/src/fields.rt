@@ -10,7 +10,7 @@ use crate::class::{Run, Width};
 use crate::leaves::{eight, four, is_ascii, one, split, two};
 
 /// How many octets spell the null in front.
-#[inline]
+#[inline(always)]
 pub fn read_null(bytes: &[u8]) -> Option<usize>
     ensures { IsFront (λ _. number Kind.Null 0) bytes.now (option_map (λ used. (used, used)) result) }
 {
@@ -18,8 +18,21 @@ pub fn read_null(bytes: &[u8]) -> Option<usize>
     if *code == 0x40 { Some(1) } else { None }
 }
 
-#[inline]
+#[inline(always)]
 pub fn read_boolean(bytes: &[u8]) -> Option<(bool, usize)>
+    ensures { IsFront (λ b. number Kind.Bool (if b then 1 else 0)) bytes.now result }
+{
+    let (code, _) = bytes.split_first()?;
+    match *code {
+        0x41 => Some((true, 1)),
+        0x42 => Some((false, 1)),
+        _ => read_any_boolean(bytes),
+    }
+}
+
+/// The same in any of its spellings: rare, and so out of line.
+#[inline(never)]
+fn read_any_boolean(bytes: &[u8]) -> Option<(bool, usize)>
     ensures { IsFront (λ b. number Kind.Bool (if b then 1 else 0)) bytes.now result }
 {
     let (code, rest) = bytes.split_first()?;
@@ -66,7 +79,7 @@ pub fn read_ushort(bytes: &[u8]) -> Option<(u16, usize)>
     }
 }
 
-#[inline]
+#[inline(always)]
 pub fn read_uint(bytes: &[u8]) -> Option<(u32, usize)>
     ensures { IsFront (λ n. number Kind.Uint n) bytes.now result }
 {
@@ -124,7 +137,7 @@ fn candidate(run: Run, small: u8, large: u8, bytes: &[u8]) -> Option<(&[u8], usi
     }
 }
 
-#[inline]
+#[inline(always)]
 pub fn read_binary(bytes: &[u8]) -> Option<(&[u8], usize)>
     ensures { IsFront (λ text. octets Run.Binary text.now) bytes.now result }
 {

@@ -1,7 +1,7 @@
 //! How one level of a value is spelled: its code, and what stands between the code and the content.
 ghost use Rattle.std.specs.Prelude.{◌≡◌, ◌≤◌, Some, None, length, option_map, MatchOption};
-ghost use Rattle.amqp_types.specs.Canon.{Writes, unread_number, field, size_field, number_form, octets_head, frame_head, array_head};
-ghost use Rattle.amqp_types.specs.Writing.{number_code, octets_code, frame_code};
+ghost use Rattle.amqp_types.specs.Canon.{Writes, unread_number, field, size_field, number_form, octets_head, compound_head, array_head};
+ghost use Rattle.amqp_types.specs.Writing.{number_code, octets_code, compound_code};
 ghost use Rattle.amqp_types.specs.Forms.{head_form, head_code, spelled_head, capped_with};
 
 use crate::class::{Class, Conversion, Kind, Run, Width, class_of, kind_index, run_index};
@@ -121,8 +121,8 @@ fn put_size(width: Width, n: u64, out: &mut Vec<u8>) -> Result<(), WriteFault>
 }
 
 /// Writes size and count in front of a content of this size.
-fn put_frame(width: Width, count: u64, size: u64, out: &mut Vec<u8>) -> Result<(), WriteFault>
-    ensures { Writes (frame_head width count size) result out.old.items out.new.items }
+fn put_compound(width: Width, count: u64, size: u64, out: &mut Vec<u8>) -> Result<(), WriteFault>
+    ensures { Writes (compound_head width count size) result out.old.items out.new.items }
 {
     match size.checked_add(width.octets() as u64) {
         None => Err(WriteFault::NotWritable),
@@ -134,8 +134,8 @@ fn put_frame(width: Width, count: u64, size: u64, out: &mut Vec<u8>) -> Result<(
 }
 
 /// How many octets size and count take there.
-fn frame_len(width: Width, count: u64, size: u64) -> Option<u64>
-    ensures { result ≡ option_map (λ h. length h) (frame_head width count size) }
+fn compound_len(width: Width, count: u64, size: u64) -> Option<u64>
+    ensures { result ≡ option_map (λ h. length h) (compound_head width count size) }
 {
     match size.checked_add(width.octets() as u64) {
         None => None,
@@ -206,7 +206,7 @@ fn array_head_len(class: Class, code: u8, count: u64, size: u64) -> Option<u64>
                 return None;
             }
             let whole = size.checked_add(1)?;
-            let len = frame_len(width, count, whole)?;
+            let len = compound_len(width, count, whole)?;
             Some(len.saturating_add(1))
         }
         _ => None,
@@ -230,7 +230,7 @@ fn put_array_head(
             let Some(whole) = size.checked_add(1) else {
                 return Err(WriteFault::NotWritable);
             };
-            put_frame(width, count, whole, out)?;
+            put_compound(width, count, whole, out)?;
             out.push(code)?;
             Ok(())
         }
@@ -250,12 +250,12 @@ fn head_len(head: &Head<'_>, class: Class) -> Option<u64>
         Head::Octets(run, octets) => octets_head_len(class, *run, octets),
         Head::List(count, size) => match class {
             Class::EmptyList => if *count == 0 { Some(0) } else { None },
-            Class::List(width) => frame_len(width, *count, *size),
+            Class::List(width) => compound_len(width, *count, *size),
             _ => None,
         },
         Head::Map(count, size) => match class {
             Class::Map(width) => if is_even(*count) {
-                frame_len(width, *count, *size)
+                compound_len(width, *count, *size)
             } else {
                 None
             },
@@ -284,12 +284,12 @@ fn put_head(head: &Head<'_>, class: Class, out: &mut Vec<u8>) -> Result<(), Writ
             } else {
                 Err(WriteFault::NotWritable)
             },
-            Class::List(width) => put_frame(width, *count, *size, out),
+            Class::List(width) => put_compound(width, *count, *size, out),
             _ => Err(WriteFault::NotWritable),
         },
         Head::Map(count, size) => match class {
             Class::Map(width) => if is_even(*count) {
-                put_frame(width, *count, *size, out)
+                put_compound(width, *count, *size, out)
             } else {
                 Err(WriteFault::NotWritable)
             },
@@ -364,8 +364,8 @@ fn octets_code(run: Run, len: usize) -> u8
     }
 }
 
-fn frame_code(small: u8, large: u8, count: u64, size: u64) -> u8
-    ensures { result ≡ frame_code small large count size }
+fn compound_code(small: u8, large: u8, count: u64, size: u64) -> u8
+    ensures { result ≡ compound_code small large count size }
 {
     if size < 255 && count < 256 {
         small
@@ -384,10 +384,10 @@ fn head_code(head: &Head<'_>) -> u8
         Head::List(count, size) => if *count == 0 {
             0x45
         } else {
-            frame_code(0xc0, 0xd0, *count, *size)
+            compound_code(0xc0, 0xd0, *count, *size)
         },
-        Head::Map(count, size) => frame_code(0xc1, 0xd1, *count, *size),
-        Head::Array(_, count, size) => frame_code(0xe0, 0xf0, *count, size.saturating_add(1)),
+        Head::Map(count, size) => compound_code(0xc1, 0xd1, *count, *size),
+        Head::Array(_, count, size) => compound_code(0xe0, 0xf0, *count, size.saturating_add(1)),
         Head::Described => 0,
     }
 }

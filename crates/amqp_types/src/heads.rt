@@ -1,7 +1,7 @@
 //! What stands in front of the parts of a list or of a described value, so that a caller reads the parts one by one.
 ghost use Rattle.std.specs.Prelude.{◌≡◌, ◌≤◌, ◌+◌, ℕ, List, length, Some, None, MatchOption};
 ghost use Rattle.amqp_types.specs.Heads.{IsListHead, HasNoList, IsDescriptor};
-ghost use Rattle.amqp_types.specs.Reading.{frame_at};
+ghost use Rattle.amqp_types.specs.Reading.{compound_at};
 ghost use Rattle.amqp_types.specs.Grammar.{IsFront};
 ghost use Rattle.amqp_types.specs.Datum.{octets};
 ghost use Rattle.amqp_types.specs.declared.class.Run.{Run};
@@ -9,7 +9,7 @@ ghost use Rattle.amqp_types.specs.declared.class.Width.{Width};
 
 use crate::class::Width;
 use crate::fields::{read_symbol, read_ulong};
-use crate::parts::frame;
+use crate::parts::compound;
 
 /// Where the items of a list lie.
 #[derive(Clone, Copy, Debug, PartialEq, Eq)]
@@ -24,7 +24,7 @@ pub struct ListHead {
 
 /// The head of the list in front of the octets (OASIS AMQP 1.0, part 1, section 1.6.22). It says nothing about the items: the list is one
 /// where `count` items, read in turn from `start` on, end exactly at `end`.
-#[inline]
+#[inline(always)]
 pub fn read_list_head(bytes: &[u8]) -> Option<ListHead>
     ensures { MatchOption result (HasNoList bytes.now) (λ head. IsListHead bytes.now head.count head.start head.end) }
 {
@@ -35,7 +35,7 @@ pub fn read_list_head(bytes: &[u8]) -> Option<ListHead>
             start: 1,
             end: 1,
         }),
-        0xc0 => framed_head(Width::One, rest, bytes.len()),
+        0xc0 => read_compound_head(Width::One, rest, bytes.len()),
         0xd0 => wide_head(rest, bytes.len()),
         _ => None,
     }
@@ -45,20 +45,20 @@ pub fn read_list_head(bytes: &[u8]) -> Option<ListHead>
 #[inline(never)]
 fn wide_head(body: &[u8], whole: usize) -> Option<ListHead>
     requires { whole ≡ length body.now + 1 }
-    ensures { MatchOption result (frame_at Width.Four body.now ≡ None) (λ head. (content after : List ℕ) × (frame_at Width.Four body.now ≡ Some ((head.count, content), after))
+    ensures { MatchOption result (compound_at Width.Four body.now ≡ None) (λ head. (content after : List ℕ) × (compound_at Width.Four body.now ≡ Some ((head.count, content), after))
         × (head.end + length after ≡ whole) × (head.start + length content ≡ head.end)) }
 {
-    framed_head(Width::Four, body, whole)
+    read_compound_head(Width::Four, body, whole)
 }
 
 /// The head whose size and count have this width, where the octets with the format code are so many.
 #[inline]
-fn framed_head(width: Width, body: &[u8], whole: usize) -> Option<ListHead>
+fn read_compound_head(width: Width, body: &[u8], whole: usize) -> Option<ListHead>
     requires { whole ≡ length body.now + 1 }
-    ensures { MatchOption result (frame_at width body.now ≡ None) (λ head. (content after : List ℕ) × (frame_at width body.now ≡ Some ((head.count, content), after))
+    ensures { MatchOption result (compound_at width body.now ≡ None) (λ head. (content after : List ℕ) × (compound_at width body.now ≡ Some ((head.count, content), after))
         × (head.end + length after ≡ whole) × (head.start + length content ≡ head.end)) }
 {
-    match frame(body, width) {
+    match compound(body, width) {
         None => None,
         Some((count, content, after)) => {
             let end = whole - after.len();
@@ -80,7 +80,7 @@ pub enum Descriptor<'a> {
 
 /// The descriptor in front of the octets where a described value begins with one that is a ulong or a symbol (OASIS AMQP 1.0, part 1,
 /// section 1.5), and how many octets it takes with the octet before it. The described value follows.
-#[inline]
+#[inline(always)]
 pub fn read_descriptor(bytes: &[u8]) -> Option<(Descriptor<'_>, usize)>
     ensures { IsDescriptor bytes.now result }
 {

@@ -4,7 +4,7 @@ ghost use Rattle.std.specs.Str.{IsUtf8, is_utf8};
 ghost use Rattle.amqp_types.specs.Datum.{Datum, number, octets};
 ghost use Rattle.amqp_types.specs.Grammar.{number_of, read_number, fits, is_scalar, is_run, is_ascii, is_element};
 ghost use Rattle.amqp_types.specs.Codes.{class_of};
-ghost use Rattle.amqp_types.specs.Reading.{Gives, split, field_at, number_at, run_at, octets_at, frame_at, all_parts_at, list_at, map_at, array_content_at, array_at, described_at, body_by, part_at, body_at};
+ghost use Rattle.amqp_types.specs.Reading.{Gives, split, field_at, number_at, run_at, octets_at, compound_at, all_parts_at, list_at, map_at, array_content_at, array_at, described_at, body_by, part_at, body_at};
 ghost use Rattle.amqp_types.specs.View.{view, views};
 
 use crate::class::{Class, Conversion, Kind, Run, Width, class_of};

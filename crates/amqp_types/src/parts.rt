@@ -3,7 +3,7 @@ ghost use Rattle.std.specs.Prelude.{◌≡◌, ◌≤◌, ◌<◌, IsTrue, Some,
 ghost use Rattle.amqp_types.specs.Codes.{class_of};
 ghost use Rattle.amqp_types.specs.Datum.{array, map};
 ghost use Rattle.amqp_types.specs.Grammar.{is_element, is_even};
-ghost use Rattle.amqp_types.specs.Reading.{Gives, octets_at, frame_at, all_parts_at, list_at, map_at, array_content_at, array_at, described_at, part_at, body_at};
+ghost use Rattle.amqp_types.specs.Reading.{Gives, octets_at, compound_at, all_parts_at, list_at, map_at, array_content_at, array_at, described_at, part_at, body_at};
 ghost use Rattle.amqp_types.specs.View.{view, views, views_of_pairs};
 
 use crate::boxed::Boxed;
@@ -15,9 +15,9 @@ use crate::value::Value;
 use std::alloc::Global;
 
 /// The count and the content, and what follows.
-#[tactic(auto, unfolding(crate::specs::Reading::frame_at))]
-pub(crate) fn frame(bytes: &[u8], width: Width) -> Option<(u64, &[u8], &[u8])>
-    ensures { option_map (λ x. ((x.0, x.1.now), x.2.now)) result ≡ frame_at width bytes.now }
+#[tactic(auto, unfolding(crate::specs::Reading::compound_at))]
+pub(crate) fn compound(bytes: &[u8], width: Width) -> Option<(u64, &[u8], &[u8])>
+    ensures { option_map (λ x. ((x.0, x.1.now), x.2.now)) result ≡ compound_at width bytes.now }
 {
     let (size, rest) = field(bytes, width)?;
     let (inside, after) = split(rest, size as usize)?;
@@ -92,7 +92,7 @@ fn parts(
 fn list(alloc: Global, depth: u8, width: Width, bytes: &[u8]) -> Result<(Value, &[u8]), ReadFault>
     ensures { Gives (λ x. (view x.0, x.1.now)) result (list_at (part_at depth) width bytes.now) }
 {
-    let (count, content, rest) = frame(bytes, width).ok_or(ReadFault::NoValue)?;
+    let (count, content, rest) = compound(bytes, width).ok_or(ReadFault::NoValue)?;
     let items = parts(alloc, depth, None, count, content)?;
     Ok((Value::List(Items { items }), rest))
 }
@@ -128,7 +128,7 @@ fn pairs(
 fn map(alloc: Global, depth: u8, width: Width, bytes: &[u8]) -> Result<(Value, &[u8]), ReadFault>
     ensures { Gives (λ x. (view x.0, x.1.now)) result (map_at (part_at depth) width bytes.now) }
 {
-    let (count, content, rest) = frame(bytes, width).ok_or(ReadFault::NoValue)?;
+    let (count, content, rest) = compound(bytes, width).ok_or(ReadFault::NoValue)?;
     if !is_even(count) {
         return Err(ReadFault::NoValue);
     }
@@ -170,7 +170,7 @@ fn array_content(alloc: Global, depth: u8, count: u64, content: &[u8]) -> Result
 fn array(alloc: Global, depth: u8, width: Width, bytes: &[u8]) -> Result<(Value, &[u8]), ReadFault>
     ensures { Gives (λ x. (view x.0, x.1.now)) result (array_at (part_at depth) width bytes.now) }
 {
-    let (count, content, rest) = frame(bytes, width).ok_or(ReadFault::NoValue)?;
+    let (count, content, rest) = compound(bytes, width).ok_or(ReadFault::NoValue)?;
     let value = array_content(alloc, depth, count, content)?;
     Ok((value, rest))
 }

@@ -3,11 +3,11 @@ ghost use Rattle.std.specs.Prelude.{◌≤◌, ◌-◌, length, take, MatchOptio
 ghost use Rattle.amqp_types.specs.Datum.{Datum};
 ghost use Rattle.amqp_types.specs.Grammar.{SpellsWithin, BeginsWithValue};
 ghost use Rattle.std.specs.Prelude.{◌≡◌, None, option_map, is_some};
-ghost use Rattle.amqp_types.specs.Reading.{number_at, run_at, octets_at, frame_at, all_parts_at, list_at, map_at, array_content_at, array_at, described_at, part_at, body_at, after};
+ghost use Rattle.amqp_types.specs.Reading.{number_at, run_at, octets_at, compound_at, all_parts_at, list_at, map_at, array_content_at, array_at, described_at, part_at, body_at, after};
 
 use crate::class::{Class, Conversion, Kind, Run, Width, class_of};
 use crate::leaves::{field, fits, is_run, read_number, split};
-use crate::parts::{frame, is_element, is_even};
+use crate::parts::{compound, is_element, is_even};
 use crate::value::MAX_DEPTH;
 
 /// How many octets spell the value in front, nested at most 32 deep; None exactly where none is there.
@@ -115,7 +115,7 @@ fn scan_described(depth: u8, bytes: &[u8]) -> Option<&[u8]>
 fn scan_list(depth: u8, width: Width, bytes: &[u8]) -> Option<&[u8]>
     ensures { option_map (λ r. r.now) result ≡ after (list_at (part_at depth) width bytes.now) }
 {
-    match frame(bytes, width) {
+    match compound(bytes, width) {
         None => None,
         Some((count, content, rest)) => if are_parts(depth, None, count, content) {
             Some(rest)
@@ -130,7 +130,7 @@ fn scan_list(depth: u8, width: Width, bytes: &[u8]) -> Option<&[u8]>
 fn scan_map(depth: u8, width: Width, bytes: &[u8]) -> Option<&[u8]>
     ensures { option_map (λ r. r.now) result ≡ after (map_at (part_at depth) width bytes.now) }
 {
-    match frame(bytes, width) {
+    match compound(bytes, width) {
         None => None,
         Some((count, content, rest)) => {
             if is_even(count) && are_parts(depth, None, count, content) {
@@ -147,7 +147,7 @@ fn scan_map(depth: u8, width: Width, bytes: &[u8]) -> Option<&[u8]>
 fn scan_array(depth: u8, width: Width, bytes: &[u8]) -> Option<&[u8]>
     ensures { option_map (λ r. r.now) result ≡ after (array_at (part_at depth) width bytes.now) }
 {
-    match frame(bytes, width) {
+    match compound(bytes, width) {
         None => None,
         Some((count, content, rest)) => if is_array_content(depth, count, content) {
             Some(rest)

@@ -1,5 +1,5 @@
 //! The tag of a delivery.
-ghost use Rattle.std.specs.Prelude.{◌≡◌, ◌<◌, ◌≤◌, length, MatchOption};
+ghost use Rattle.std.specs.Prelude.{◌≡◌, ◌<◌, ◌≤◌, [], length, MatchOption};
 
 use std::fmt;
 use std::marker::Model;
@@ -38,12 +38,31 @@ impl Tag {
         if octets.len() > Tag::MAX_LEN {
             return None;
         }
-        let mut all = [0u8; Tag::MAX_LEN];
-        all[..octets.len()].copy_from_slice(octets);
-        Some(Tag {
-            octets: all,
-            used: octets.len() as u8,
-        })
+        let mut tag = Tag::empty();
+        tag.set(octets);
+        Some(tag)
+    }
+
+    /// The tag of no octets.
+    #[inline(always)]
+    pub fn empty() -> Tag
+        ensures { result ≡ [] }
+    {
+        Tag {
+            octets: [0u8; Tag::MAX_LEN],
+            used: 0,
+        }
+    }
+
+    /// Makes it the tag of these octets, in its place.
+    #[inline(always)]
+    pub fn set(&mut self, octets: &[u8])
+        requires { length octets.now ≤ 32 }
+        ensures { self.new ≡ octets.now }
+    {
+        self.octets = [0u8; Tag::MAX_LEN];
+        self.octets[..octets.len()].copy_from_slice(octets);
+        self.used = octets.len() as u8;
     }
 
     /// The octets of the tag.

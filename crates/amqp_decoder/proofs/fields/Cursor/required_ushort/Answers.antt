@@ -1,0 +1,12 @@
+use Rattle.std.proofs.Common.{refl, arith}
+use Rattle.amqp_types.specs.declared.class.Kind.TheVariants as Kind
+use Rattle.amqp_types.specs.Datum.{number}
+use Rattle.amqp_decoder.specs.Reading.{every}
+use Rattle.amqp_decoder.proofs.FirstField.{leaf_takes, leaf_misses}
+use Rattle.amqp_decoder.proofs.fields.Cursor.required_ushort.Goals as goal
+
+pub returns-in-Some : goal.returns-in-Some
+returns-in-Some c = leaf_takes (λ n. number Kind.Ushort n) every c.args.self.depth c.args.self.left c.args.self.octets.now c.in-Some.value c.in-Some.used c.after.result.depth c.after.result.left c.after.result.octets.now c.in-Some.ensures c.args.self.some refl c.after.ensures
+
+pub returns-in-None : goal.returns-in-None
+returns-in-None c = leaf_misses (λ n. number Kind.Ushort n) every c.args.self.depth c.args.self.left c.args.self.octets.now c.in-None.ensures (λ b. omega arith) (omega arith)
