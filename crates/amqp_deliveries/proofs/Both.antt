@@ -1,17 +1,14 @@
 -- What one event makes of both tables, seen as their view.
-use Rattle.std.proofs.Common.{◌≡◌, ◌-◌, ℕ, zero, suc, true, List, [], ◌∷◌, ◌++◌, length, take, refl, sym, ap, ◌∙◌, arith, length-append}
+use Rattle.std.proofs.Common.{◌≡◌, ◌-◌, ℕ, zero, suc, List, [], ◌∷◌, ◌++◌, length, take, refl, sym, ap, ◌∙◌, arith, length-append}
 use Rattle.std.proofs.lemmas.List.{length-map}
-use Rattle.std.proofs.lemmas.List.Elements.{All-cons}
 use Rattle.amqp_performatives.specs.declared.bodies.Role.TheVariants.{Sender, Receiver}
 use Rattle.amqp_events.specs.Event.{Item, Event, Nothing}
-use Rattle.amqp_flow.specs.Serial.{is_before}
-use Rattle.amqp_events.specs.Laws.{IsPast}
 use Rattle.amqp_events.specs.Unsettled.{next_held}
 use Rattle.amqp_events.specs.Told.{SentItem, next_sent_held}
 use Rattle.amqp_events.proofs.Gone.{items-next, sent-left, held-left, nothing-left}
 use Rattle.amqp_events.proofs.TableWords.{begin-adds}
 use Rattle.amqp_deliveries.specs.Held.{items_of, untold}
-use Rattle.amqp_deliveries.specs.Change.{TablesView, AreOlder, tables_after}
+use Rattle.amqp_deliveries.specs.Change.{TablesView, tables_after}
 use Rattle.amqp_deliveries.specs.declared.change.Change.TheVariants as change
 use Rattle.amqp_deliveries.proofs.Spoken.{begin_adds}
 
@@ -71,9 +68,3 @@ received_back sent received before item h =
       sent = s i;
       received = (take-item (length received - 1) received ∙ ap (λ n. take (n - 1) (items_of received)) long ∙ ap (λ xs. take (length xs - 1) xs) r ∙ take-front before.received item) i;
     }
-
--- # Older
-
-pub older_past : (items : List SentItem) (id : ℕ) → AreOlder id (items_of items) → IsPast id (items_of items)
-older_past [] id h = λ k d l. absurd (omega arith)
-older_past (s ∷ items) id h = All-cons (λ i. is_before i.id id ≡ true) s.item (items_of items) h.0 (older_past items id h.1)

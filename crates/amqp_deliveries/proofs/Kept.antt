@@ -14,12 +14,12 @@ use Rattle.amqp_flow.specs.Serial.{is_before}
 use Rattle.amqp_events.specs.Told.{SentItem}
 use Rattle.amqp_deliveries.specs.declared.item.Side.TheVariants.{Local, Remote}
 use Rattle.amqp_deliveries.specs.declared.item.Side.{Side}
-use Rattle.amqp_deliveries.specs.declared.run.Run.{Run}
+use Rattle.amqp_deliveries.specs.declared.span.Span.{Span}
 use Rattle.amqp_deliveries.specs.declared.tags.TagIndex.{TagIndex}
 use Rattle.amqp_performatives.specs.declared.state.DeliveryState.{DeliveryState}
 use Rattle.amqp_deliveries.specs.Held.{IsHeld, HasItsTag, has_tag}
 use Rattle.amqp_deliveries.specs.Edits.{stated}
-use Rattle.amqp_deliveries.specs.Run.{IsWithin, without, change_part}
+use Rattle.amqp_deliveries.specs.Span.{IsWithin, without, change_part}
 use Rattle.amqp_deliveries.specs.Tags.{IsIndex}
 
 -- # As it is written
@@ -30,7 +30,7 @@ kept_as index xs ys e held h = let P : List SentItem → Type 0 = λ t. IsHeld t
 pub held_none : IsHeld []
 held_none = record { in_order = λ i j d h l. absurd (omega arith); apart = λ i j d h l. absurd (omega arith); fit = λ k d l. absurd (omega arith) }
 
--- # A run ends
+-- # A span ends
 
 tagged-turned : (x y : SentItem) → has_tag x.item.link x.item.tag y ≡ has_tag y.item.link y.item.tag x
 tagged-turned x y = λ i. nat_eq_equiv.symm y.item.link x.item.link i && nat_list_eq_equiv.symm x.item.tag y.item.tag i
@@ -94,12 +94,12 @@ all_left P xs i j h w all = λ k d l.
     (λ kb. rw (left-back xs i j k d h w kb) (all (k + (j - i)) d (omega arith)))
     (cases_lt k i)
 
-pub held_left : (run : Run) (items : List SentItem) → IsWithin run items → IsHeld items → IsHeld (without run items)
-held_left run items w held =
+pub held_left : (span : Span) (items : List SentItem) → IsWithin span items → IsHeld items → IsHeld (without span items)
+held_left span items w held =
     record {
-      in_order = pairs_left (λ x y. IsTrue (is_before x.item.id y.item.id)) items run.start run.end w.ordered w.within held.in_order;
-      apart = pairs_left (λ x y. has_tag y.item.link y.item.tag x ≡ false) items run.start run.end w.ordered w.within held.apart;
-      fit = all_left (λ x. x.item.id < 2 ^ 32) items run.start run.end w.ordered w.within held.fit;
+      in_order = pairs_left (λ x y. IsTrue (is_before x.item.id y.item.id)) items span.start span.end w.ordered w.within held.in_order;
+      apart = pairs_left (λ x y. has_tag y.item.link y.item.tag x ≡ false) items span.start span.end w.ordered w.within held.apart;
+      fit = all_left (λ x. x.item.id < 2 ^ 32) items span.start span.end w.ordered w.within held.fit;
     }
 
 -- # Those that pass a test are left
@@ -132,7 +132,7 @@ held_more items x held follows fresh small =
 
 -- # States are told
 
--- the next place of a run that changes
+-- the next place of a span that changes
 pub change_more : (start place : ℕ) (f : SentItem → SentItem) (items now : List SentItem) (x : SentItem) → start ≤ place → place < length items
     → now ≡ change_part (record { start = start; end = place }) f items → x ≡ get_or now place x
     → set now place (f x) ≡ change_part (record { start = start; end = place + 1 }) f items
@@ -150,25 +150,25 @@ change_more start place f items now x h l is read =
     ∙ set_at front y rest (f y) place long
     ∙ sym (ap (λ t. take start items ++ t ++ rest) more ∙ ap (λ t. t ++ rest) (sym (append_assoc (take start items) (map f (between start place items)) (f y ∷ []))) ∙ append_assoc front (f y ∷ []) rest)
 
--- no place of a run has changed yet
+-- no place of a span has changed yet
 pub change_none : (start : ℕ) (f : SentItem → SentItem) (items : List SentItem) → items ≡ change_part (record { start = start; end = start }) f items
 change_none start f items =
     let none : start - start ≡ 0 = omega arith in
     sym ((λ i. take start items ++ map f (take (none i) (drop start items)) ++ drop start items) ∙ ap (λ t. t ++ drop start items) (append-nil (take start items)) ∙ take-append-drop start items)
 
--- the one place of a run
-pub change_one : (run : Run) (f : SentItem → SentItem) (items : List SentItem) (x : SentItem) → run.end ≤ run.start + 1 → run.start < run.end → run.end ≤ length items
-    → x ≡ get_or items run.start x → set items run.start (f x) ≡ change_part run f items
-change_one run f items x few some within read =
-    let one : run.start + 1 ≡ run.end = omega arith in
-    change_more run.start run.start f items items x (omega arith) (omega arith) (change_none run.start f items) read
-    ∙ ap (λ n. change_part (record { start = run.start; end = n }) f items) one
+-- the one place of a span
+pub change_one : (span : Span) (f : SentItem → SentItem) (items : List SentItem) (x : SentItem) → span.end ≤ span.start + 1 → span.start < span.end → span.end ≤ length items
+    → x ≡ get_or items span.start x → set items span.start (f x) ≡ change_part span f items
+change_one span f items x few some within read =
+    let one : span.start + 1 ≡ span.end = omega arith in
+    change_more span.start span.start f items items x (omega arith) (omega arith) (change_none span.start f items) read
+    ∙ ap (λ n. change_part (record { start = span.start; end = n }) f items) one
 
 -- no place at all
-pub change_empty : (run : Run) (f : SentItem → SentItem) (items : List SentItem) → run.start ≤ run.end → run.end ≤ run.start → items ≡ change_part run f items
-change_empty run f items o e =
-    let same : run.start ≡ run.end = omega arith in
-    change_none run.start f items ∙ ap (λ n. change_part (record { start = run.start; end = n }) f items) same
+pub change_empty : (span : Span) (f : SentItem → SentItem) (items : List SentItem) → span.start ≤ span.end → span.end ≤ span.start → items ≡ change_part span f items
+change_empty span f items o e =
+    let same : span.start ≡ span.end = omega arith in
+    change_none span.start f items ∙ ap (λ n. change_part (record { start = span.start; end = n }) f items) same
 
 abbrev Key3 : Type 0
 Key3 = ℕ × ℕ × List ℕ
@@ -181,15 +181,15 @@ keys-told side tells state [] = refl
 keys-told Local tells state (x ∷ items) = ap (λ t. key3 x ∷ t) (keys-told Local tells state items)
 keys-told Remote tells state (x ∷ items) = ap (λ t. key3 x ∷ t) (keys-told Remote tells state items)
 
-pub keys_changed : (run : Run) (side : Side) (tells : Bool) (state : DeliveryState) (items : List SentItem) → IsWithin run items → map key3 (change_part run (stated side tells state) items) ≡ map key3 items
-keys_changed run side tells state items w =
-    let a : List SentItem = take run.start items in
-    let b : List SentItem = between run.start run.end items in
-    let c : List SentItem = drop run.end items in
+pub keys_changed : (span : Span) (side : Side) (tells : Bool) (state : DeliveryState) (items : List SentItem) → IsWithin span items → map key3 (change_part span (stated side tells state) items) ≡ map key3 items
+keys_changed span side tells state items w =
+    let a : List SentItem = take span.start items in
+    let b : List SentItem = between span.start span.end items in
+    let c : List SentItem = drop span.end items in
     map-append key3 (a ++ map (stated side tells state) b) c
     ∙ ap (λ t. t ++ map key3 c) (map-append key3 a (map (stated side tells state) b) ∙ ap (λ t. map key3 a ++ t) (keys-told side tells state b))
     ∙ append_assoc (map key3 a) (map key3 b) (map key3 c)
-    ∙ sym (ap (map key3) (split_between items run.start run.end w.ordered) ∙ map-append key3 a (b ++ c) ∙ ap (λ t. map key3 a ++ t) (map-append key3 b c))
+    ∙ sym (ap (map key3) (split_between items span.start span.end w.ordered) ∙ map-append key3 a (b ++ c) ∙ ap (λ t. map key3 a ++ t) (map-append key3 b c))
 
 any-mapped : {X Y : Type 0} (f : X → Y) (p : Y → Bool) (xs : List X) → list_any (λ x. p (f x)) xs ≡ list_any p (map f xs)
 any-mapped f p [] = refl
@@ -225,10 +225,10 @@ held_same items changed e held =
       fit = λ k d l. let P : ℕ → Type 0 = λ a. a < 2 ^ 32 in subst P (ap (λ q. q.0) (key-at items changed e k d l)) (held.fit k d (omega arith));
     }
 
--- what changes at a run's places keeps the ids, links and tags
-pub kept_changed : (tags : TagIndex) (run : Run) (side : Side) (tells : Bool) (state : DeliveryState) (was now : List SentItem) → IsWithin run was
-    → now ≡ change_part run (stated side tells state) was → IsHeld was → IsIndex tags was → IsHeld now × IsIndex tags now
-kept_changed tags run side tells state was now within e held index =
-    let change : List SentItem = change_part run (stated side tells state) was in
-    let keys = keys_changed run side tells state was within in
+-- what changes at a span's places keeps the ids, links and tags
+pub kept_changed : (tags : TagIndex) (span : Span) (side : Side) (tells : Bool) (state : DeliveryState) (was now : List SentItem) → IsWithin span was
+    → now ≡ change_part span (stated side tells state) was → IsHeld was → IsIndex tags was → IsHeld now × IsIndex tags now
+kept_changed tags span side tells state was now within e held index =
+    let change : List SentItem = change_part span (stated side tells state) was in
+    let keys = keys_changed span side tells state was within in
     kept_as tags change now e (held_same was change keys held) (index_same tags was change keys index)

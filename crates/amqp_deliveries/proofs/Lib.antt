@@ -1,6 +1,6 @@
 pub mod Serials
 pub mod Search
-pub mod Runs
+pub mod Spans
 pub mod Index
 pub mod Kept
 pub mod Items

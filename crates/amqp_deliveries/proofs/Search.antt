@@ -6,7 +6,7 @@ use Rattle.std.proofs.lemmas.Bool.{cases_lt}
 use Rattle.amqp_flow.specs.Serial.{distance, is_before}
 use Rattle.amqp_events.specs.Told.{SentItem}
 use Rattle.amqp_deliveries.specs.Held.{IsHeld}
-use Rattle.amqp_deliveries.specs.Run.{IsSpread, IsNarrowed, far}
+use Rattle.amqp_deliveries.specs.Span.{IsSpread, IsNarrowed, far}
 use Rattle.amqp_deliveries.proofs.Serials.{before-far, before-farther, far-self}
 
 -- # Ids in order are spread

@@ -257,7 +257,7 @@ pub hear_tells : (d : Disposition) (items : List SentItem)
     → tellings (Hears d) items ≡ cond (d.settled || has_outcome d.state) (filter_map (told_first d) (covered d.first d.last items)) []
 hear_tells d items = told-of d (d.settled || has_outcome d.state) items
 
--- the next place of a run
+-- the next place of a span
 pub told_more : (d : Disposition) (items : List SentItem) (start place : ℕ) (x : SentItem) (was now : List Telling) → start ≤ place → place < length items → x ≡ get_or items place x
     → was ≡ filter_map (told_first d) (between start place items) → now ≡ was ++ filter_map (told_first d) (x ∷ []) → now ≡ filter_map (told_first d) (between start (place + 1) items)
 told_more d items start place x was now h l read before after =

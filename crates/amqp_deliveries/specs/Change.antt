@@ -1,8 +1,7 @@
 -- What a step makes of the unsettled deliveries of both roles (OASIS AMQP 1.0, part 2, 2.6.12), and what it ends.
-use Rattle.std.specs.Prelude.{ℕ, ◌≡◌, Bool, true, None, List, [], ◌∷◌, ◌++◌, map}
+use Rattle.std.specs.Prelude.{ℕ, ◌≡◌, Bool, true, None, List, [], ◌++◌, map}
 use Rattle.amqp_performatives.specs.declared.bodies.Role.{Role}
 use Rattle.amqp_performatives.specs.declared.bodies.Role.TheVariants.{Sender, Receiver}
-use Rattle.amqp_flow.specs.Serial.{is_before}
 use Rattle.amqp_events.specs.Event as event
 use Rattle.amqp_events.specs.Event.{Event, Item}
 use Rattle.amqp_events.specs.Unsettled.{begins, ends, next_held}
@@ -26,11 +25,6 @@ held_items Receiver t = t.received
 -- on the link of this one, with its tag
 abbrev pub is_tagged_as : Item → Item → Bool
 is_tagged_as i j = is_tagged i.link i.tag j
-
--- their ids come before this one
-abbrev pub AreOlder : ℕ → List Item → Type 0
-AreOlder id [] = Unit {0}
-AreOlder id (i ∷ is) = (is_before i.id id ≡ true) × AreOlder id is
 
 -- what the change says of those that we sent, and of those that we received
 abbrev pub sent_event : Change → Event

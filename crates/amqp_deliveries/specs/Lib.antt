@@ -1,5 +1,5 @@
 pub mod Held
-pub mod Run
+pub mod Span
 pub mod Tags
 pub mod Dispose
 pub mod Edits

@@ -4,10 +4,10 @@ ghost use Rattle.std.specs.List.{list_any};
 ghost use Rattle.amqp_events.specs.Laws.{AreInOrder, IsPast};
 ghost use Rattle.amqp_events.specs.Tags.{AreApart, is_tagged};
 ghost use Rattle.amqp_deliveries.specs.Held.{IsHeld, items_of, untold, has_tag};
-ghost use Rattle.amqp_deliveries.specs.Run.{IsRun};
+ghost use Rattle.amqp_deliveries.specs.Span.{IsSpan};
 
 use crate::item::{Entry, HeldItem};
-use crate::run::{Run, run_of};
+use crate::span::{Span, span_of};
 use crate::tags::TagIndex;
 use amqp_flow::serial::Serial;
 use amqp_types::Tag;
@@ -28,10 +28,10 @@ mod loops;
 /// |---|---|
 /// | `len`, `at`, `follows` | one |
 /// | `has_tag`, `add` | one on average; n where the tags were chosen to collide as they are hashed |
-/// | `find`, `run` | O(log h), and never more than O(log n) |
+/// | `find`, `span` | O(log h), and never more than O(log n) |
 /// | `any_second`, `any_fixed`, `ids_at` | k |
-/// | `say`, `hear`, `go_on` | those of `run`, and k; where deliveries end, the shorter side of the run moves: none for a run at either end |
-/// | `tellings` | those of `run`, and k |
+/// | `say`, `hear`, `go_on` | those of `span`, and k; where deliveries end, the shorter side of the span moves: none for a span at either end |
+/// | `tellings` | those of `span`, and k |
 /// | `ids`, `ids_of`, `end_link`, `end_all` | n |
 #[derive(Drop)]
 pub struct Held {
@@ -99,9 +99,9 @@ impl Held {
     pub fn find(&self, id: u32) -> Option<&HeldItem>
         ensures { option_map (λ x. x.now) result ≡ find (λ i. i.id == id) (items_of self.now) }
     {
-        let run = self.run(id, id);
-        if run.start < run.end {
-            self.at(run.start)
+        let span = self.span(id, id);
+        if span.start < span.end {
+            self.at(span.start)
         } else {
             None
         }
@@ -139,10 +139,10 @@ impl Held {
     }
 
     /// The places of the deliveries that the ids `first` to `last` cover; none where those are 2^31 or more apart.
-    pub fn run(&self, first: u32, last: u32) -> Run
-        ensures run { IsRun first last self.now result }
+    pub fn span(&self, first: u32, last: u32) -> Span
+        ensures span { IsSpan first last self.now result }
         ensures held { IsHeld self.now }
     {
-        run_of(&self.items, first, last)
+        span_of(&self.items, first, last)
     }
 }

@@ -2,7 +2,7 @@
 ghost use Rattle.std.specs.Prelude.{◌≡◌};
 ghost use Rattle.amqp_deliveries.specs.Held.{untold};
 ghost use Rattle.amqp_deliveries.specs.Edits.{with_state, stated};
-ghost use Rattle.amqp_deliveries.specs.Dispose.{is_fixed};
+ghost use Rattle.amqp_events.specs.States.{is_fixed};
 
 use amqp_performatives::DeliveryState;
 use amqp_types::Tag;

@@ -5,7 +5,7 @@
 //! | `item` | an unsettled delivery |
 //! | `disposition` | what is said of deliveries, and what is told of one |
 //! | `held` | the unsettled deliveries of one role, in serial order |
-//! | `run` | neighbouring places among them: what a disposition covers |
+//! | `span` | neighbouring places among them: what a disposition covers |
 //! | `tags` | which tags are in use on which link |
 //! | `change` | what a step makes of unsettled deliveries, as data |
 //! | `tables` | the unsettled deliveries of both roles |
@@ -20,7 +20,7 @@ mod disposition;
 mod held;
 mod item;
 mod partial;
-mod run;
+mod span;
 mod tables;
 mod tags;
 #[cfg(test)]
@@ -31,5 +31,5 @@ pub use disposition::{Disposition, Telling};
 pub use held::Held;
 pub use item::HeldItem;
 pub use partial::{Partial, Parts};
-pub use run::Run;
+pub use span::Span;
 pub use tables::Tables;

@@ -4,9 +4,10 @@ ghost use Rattle.std.specs.List.{list_any};
 ghost use Rattle.amqp_performatives.specs.declared.state.DeliveryState.{DeliveryState};
 ghost use Rattle.amqp_events.specs.Event as event;
 ghost use Rattle.amqp_events.specs.Event.{Item};
+ghost use Rattle.amqp_events.specs.Laws.{IsPast};
 ghost use Rattle.amqp_events.specs.Tags.{is_tagged};
 ghost use Rattle.amqp_events.specs.Told as told;
-ghost use Rattle.amqp_deliveries.specs.Change.{TablesView, AreOlder, held_items, is_tagged_as, tables_after, ended_in};
+ghost use Rattle.amqp_deliveries.specs.Change.{TablesView, held_items, is_tagged_as, tables_after, ended_in};
 ghost use Rattle.amqp_deliveries.specs.Held.{items_of};
 ghost use Rattle.amqp_deliveries.specs.declared.change.Change.TheVariants as change;
 
@@ -148,7 +149,7 @@ impl Tables {
 
     /// An unsettled delivery begins.
     pub fn begin(&mut self, role: Role, item: HeldItem) -> Result<(), AllocError>
-        requires older { AreOlder item.id (held_items role self.old) }
+        requires older { IsPast item.id (held_items role self.old) }
         requires fresh { list_any (is_tagged_as item) (held_items role self.old) ≡ false }
         ensures ok { OnOk result (self.new ≡ tables_after (change.Begins role item) self.old) }
         ensures err { OnErr result (self.new ≡ self.old) }

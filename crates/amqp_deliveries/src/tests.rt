@@ -104,7 +104,7 @@ fn a_tag_is_in_use_on_its_link(rt: HostRuntime) -> Result<(), Fail> {
 fn a_range_of_a_thousand_ends(rt: HostRuntime) -> Result<(), Fail> {
     let mut held = five_hundred(rt.alloc())?;
     assert_eq!(rt; held.len(), 500);
-    assert_eq!(rt; held.run(4294967291, 5).len(), 5);
+    assert_eq!(rt; held.span(4294967291, 5).len(), 5);
     held.say(&said(4294960000, 4294967295, true))?;
     assert_eq!(rt; held.len(), 250);
     assert_eq!(rt; id_at(&held, 1), Some(2));

@@ -4,23 +4,23 @@ ghost use Rattle.amqp_events.specs.Event as event;
 ghost use Rattle.amqp_events.specs.Told.{next_sent_held};
 ghost use Rattle.amqp_deliveries.specs.Held.{unlinked};
 ghost use Rattle.amqp_deliveries.specs.Edits.{stated};
-ghost use Rattle.amqp_deliveries.specs.Run.{IsWithin, without, change_part};
+ghost use Rattle.amqp_deliveries.specs.Span.{IsWithin, without, change_part};
 
 use super::{Held, loops};
 use crate::disposition::Disposition;
 use crate::item::Side;
-use crate::run::Run;
+use crate::span::Span;
 use amqp_performatives::DeliveryState;
 use std::alloc::AllocError;
 
 impl Held {
     /// The deliveries at these places end.
-    pub(crate) fn end_run(&mut self, run: Run)
-        requires { IsWithin run self.old }
-        ensures { self.new ≡ without run self.old }
+    pub(crate) fn end_span(&mut self, span: Span)
+        requires { IsWithin span self.old }
+        ensures { self.new ≡ without span self.old }
     {
-        loops::forget(&mut self.tags, &self.items, run);
-        loops::cut(&mut self.items, run);
+        loops::forget(&mut self.tags, &self.items, span);
+        loops::cut(&mut self.items, span);
     }
 
     /// The last delivery ends.
@@ -28,7 +28,7 @@ impl Held {
         ensures { self.new ≡ take (length self.old - 1) self.old }
     {
         let len = self.items.len();
-        self.end_run(Run {
+        self.end_span(Span {
             start: len.saturating_sub(1),
             end: len,
         });
@@ -54,17 +54,17 @@ impl Held {
     /// Each keeps a copy, and all copies are made before the first is kept.
     pub(crate) fn set_at(
         &mut self,
-        run: Run,
+        span: Span,
         side: Side,
         tells: bool,
         state: &DeliveryState,
     ) -> Result<(), AllocError>
-        requires { IsWithin run self.old }
-        ensures ok { OnOk result (self.new ≡ change_part run (stated side tells state.now) self.old) }
+        requires { IsWithin span self.old }
+        ensures ok { OnOk result (self.new ≡ change_part span (stated side tells state.now) self.old) }
         ensures err { OnErr result (self.new ≡ self.old) }
     {
-        let copies = loops::copies(self.alloc, state, run.len())?;
-        loops::keep(&mut self.items, run, side, tells, copies);
+        let copies = loops::copies(self.alloc, state, span.len())?;
+        loops::keep(&mut self.items, span, side, tells, copies);
         Ok(())
     }
 
@@ -73,14 +73,14 @@ impl Held {
         ensures ok { OnOk result (self.new ≡ next_sent_held (event.Says said.now) self.old) }
         ensures err { OnErr result (self.new ≡ self.old) }
     {
-        let run = self.run(said.first, said.last);
+        let span = self.span(said.first, said.last);
         if said.settled {
-            self.end_run(run);
+            self.end_span(span);
             return Ok(());
         }
         match &said.state {
             None => Ok(()),
-            Some(state) => self.set_at(run, Side::Local, false, state),
+            Some(state) => self.set_at(span, Side::Local, false, state),
         }
     }
 
@@ -89,14 +89,14 @@ impl Held {
         ensures ok { OnOk result (self.new ≡ next_sent_held (event.Hears said.now) self.old) }
         ensures err { OnErr result (self.new ≡ self.old) }
     {
-        let run = self.run(said.first, said.last);
+        let span = self.span(said.first, said.last);
         if said.settled {
-            self.end_run(run);
+            self.end_span(span);
             return Ok(());
         }
         match &said.state {
             None => Ok(()),
-            Some(state) => self.set_at(run, Side::Remote, state.is_outcome(), state),
+            Some(state) => self.set_at(span, Side::Remote, state.is_outcome(), state),
         }
     }
 
@@ -104,13 +104,13 @@ impl Held {
     pub fn go_on(&mut self, id: u32, state: Option<DeliveryState>, over: bool)
         ensures { self.new ≡ next_sent_held (event.Continues id state over) self.old }
     {
-        let run = self.run(id, id);
+        let span = self.span(id, id);
         if over {
-            self.end_run(run);
+            self.end_span(span);
             return;
         }
         if let Some(state) = state {
-            loops::set_first(&mut self.items, run, state);
+            loops::set_first(&mut self.items, span, state);
         }
     }
 }

@@ -5,23 +5,23 @@ ghost use Rattle.amqp_events.specs.Told.{tellings};
 ghost use Rattle.amqp_events.specs.Table.{in_range};
 ghost use Rattle.amqp_deliveries.specs.Held.{items_of, linked};
 ghost use Rattle.amqp_deliveries.specs.Change.{Names};
-ghost use Rattle.amqp_deliveries.specs.Run.{IsWithin, part};
+ghost use Rattle.amqp_deliveries.specs.Span.{IsWithin, part};
 ghost use Rattle.amqp_deliveries.specs.Dispose.{any_second, any_fixed};
 
 use super::{Held, loops};
 use crate::disposition::{Disposition, Telling};
-use crate::run::Run;
+use crate::span::Span;
 use amqp_performatives::{DeliveryState, Role};
 use std::alloc::AllocError;
 
 impl Held {
     /// The ids of the deliveries at these places, each with the role.
-    fn named_at(&self, role: Role, run: Run) -> Result<Vec<(Role, u32)>, AllocError>
-        requires { IsWithin run self.now }
-        ensures { IfOk result (λ v. v.items ≡ map (λ s. (role, s.item.id)) (part run self.now)) }
+    fn named_at(&self, role: Role, span: Span) -> Result<Vec<(Role, u32)>, AllocError>
+        requires { IsWithin span self.now }
+        ensures { IfOk result (λ v. v.items ≡ map (λ s. (role, s.item.id)) (part span self.now)) }
     {
         self.items
-            .range(run.start..run.end)
+            .range(span.start..span.end)
             .map(|entry| (role, entry.id()))
             .collect(self.alloc)
     }
@@ -35,14 +35,14 @@ impl Held {
     ) -> Result<Vec<(Role, u32)>, AllocError>
         ensures { IfOk result (λ v. Names role (in_range first last) (items_of self.now) v.items) }
     {
-        self.named_at(role, self.run(first, last))
+        self.named_at(role, self.span(first, last))
     }
 
     /// What ends where this id ends.
     pub(crate) fn named_one(&self, role: Role, id: u32) -> Result<Vec<(Role, u32)>, AllocError>
         ensures { IfOk result (λ v. Names role (λ i. i.id == id) (items_of self.now) v.items) }
     {
-        self.named_at(role, self.run(id, id))
+        self.named_at(role, self.span(id, id))
     }
 
     /// The ids of the deliveries of a link, each with the role.
@@ -83,22 +83,22 @@ impl Held {
     }
 
     /// Whether the receiver of one at these places settles second.
-    pub fn any_second(&self, run: Run) -> bool
-        requires { IsWithin run self.now }
-        ensures { result ≡ any_second (part run self.now) }
+    pub fn any_second(&self, span: Span) -> bool
+        requires { IsWithin span self.now }
+        ensures { result ≡ any_second (part span self.now) }
     {
         self.items
-            .range(run.start..run.end)
+            .range(span.start..span.end)
             .any(|entry| entry.is_second())
     }
 
     /// Whether we told an outcome of one at these places that is not the state that is given.
-    pub fn any_fixed(&self, run: Run, state: &Option<DeliveryState>) -> bool
-        requires { IsWithin run self.now }
-        ensures { result ≡ any_fixed state.now (part run self.now) }
+    pub fn any_fixed(&self, span: Span, state: &Option<DeliveryState>) -> bool
+        requires { IsWithin span self.now }
+        ensures { result ≡ any_fixed state.now (part span self.now) }
     {
         self.items
-            .range(run.start..run.end)
+            .range(span.start..span.end)
             .any(|entry| entry.is_fixed(state))
     }
 
@@ -110,7 +110,7 @@ impl Held {
             loops::tellings(
                 self.alloc,
                 &self.items,
-                self.run(said.first, said.last),
+                self.span(said.first, said.last),
                 said,
             )
         } else {

@@ -1,44 +1,44 @@
-//! What happens to the deliveries of a run.
+//! What happens to the deliveries of a span.
 ghost use Rattle.std.specs.Prelude.{◌≡◌, ◌-◌, ◌≤◌, ◌+◌, ◌++◌, ◌∷◌, [], false, length, filter_map, IfOk, OnOk};
 ghost use Rattle.std.specs.List.{All};
 ghost use Rattle.amqp_performatives.specs.declared.state.DeliveryState.{DeliveryState};
 ghost use Rattle.amqp_events.specs.Event as event;
 ghost use Rattle.amqp_deliveries.specs.Held.{IsHeld};
 ghost use Rattle.amqp_deliveries.specs.Edits.{stated, told_first};
-ghost use Rattle.amqp_deliveries.specs.Run.{IsWithin, without, part, change_part};
+ghost use Rattle.amqp_deliveries.specs.Span.{IsWithin, without, part, change_part};
 ghost use Rattle.amqp_deliveries.specs.Tags.{IsIndex};
 ghost use Rattle.amqp_deliveries.specs.declared.item.Side.TheVariants.{Remote};
 
 use crate::disposition::{Disposition, Telling};
 use crate::item::{Entry, Side};
-use crate::run::Run;
+use crate::span::Span;
 use crate::tags::TagIndex;
 use amqp_performatives::DeliveryState;
 use std::alloc::{AllocError, Global};
 use std::collections::VecDeque;
 
 /// The tags of the deliveries at these places are not in use any more.
-pub(super) fn forget(tags: &mut TagIndex, items: &VecDeque<Entry>, run: Run)
-    requires within { IsWithin run items.now.items }
+pub(super) fn forget(tags: &mut TagIndex, items: &VecDeque<Entry>, span: Span)
+    requires within { IsWithin span items.now.items }
     requires held { IsHeld items.now.items }
     requires index { IsIndex tags.old items.now.items }
-    ensures { IsIndex tags.new (without run items.now.items) }
+    ensures { IsIndex tags.new (without span items.now.items) }
 {
-    for place in run.start..run.end {
+    for place in span.start..span.end {
         let item = &items[place];
         tags.remove(item);
     }
 }
 
 /// The deliveries at these places go. Of one alone the shorter side moves once, of more twice.
-pub(super) fn cut(items: &mut VecDeque<Entry>, run: Run)
-    requires { IsWithin run items.old.items }
-    ensures { items.new.items ≡ without run items.old.items }
+pub(super) fn cut(items: &mut VecDeque<Entry>, span: Span)
+    requires { IsWithin span items.old.items }
+    ensures { items.new.items ≡ without span items.old.items }
 {
-    if run.len() == 1 {
-        drop(items.remove(run.start));
+    if span.len() == 1 {
+        drop(items.remove(span.start));
     } else {
-        drop(items.drain(run.start..run.end));
+        drop(items.drain(span.start..span.end));
     }
 }
 
@@ -62,16 +62,16 @@ pub(super) fn copies(
 /// Each delivery at these places keeps one of the copies of a state.
 pub(super) fn keep(
     items: &mut VecDeque<Entry>,
-    run: Run,
+    span: Span,
     side: Side,
     tells: bool,
     mut copies: Vec<DeliveryState>,
 )
-    requires within { IsWithin run items.old.items }
-    requires count { length copies.items ≡ run.end - run.start }
-    ensures { (state : DeliveryState) → All (λ copy. copy ≡ state) copies.items → items.new.items ≡ change_part run (stated side tells state) items.old.items }
+    requires within { IsWithin span items.old.items }
+    requires count { length copies.items ≡ span.end - span.start }
+    ensures { (state : DeliveryState) → All (λ copy. copy ≡ state) copies.items → items.new.items ≡ change_part span (stated side tells state) items.old.items }
 {
-    let mut place = run.start;
+    let mut place = span.start;
     while let Some(copy) = copies.pop() {
         let item = &mut items[place];
         item.set_state(side, tells, copy);
@@ -80,13 +80,13 @@ pub(super) fn keep(
 }
 
 /// The peer gives this state to the one delivery at these places, if there is one.
-pub(super) fn set_first(items: &mut VecDeque<Entry>, run: Run, state: DeliveryState)
-    requires within { IsWithin run items.old.items }
-    requires few { run.end ≤ run.start + 1 }
-    ensures { items.new.items ≡ change_part run (stated Remote false state) items.old.items }
+pub(super) fn set_first(items: &mut VecDeque<Entry>, span: Span, state: DeliveryState)
+    requires within { IsWithin span items.old.items }
+    requires few { span.end ≤ span.start + 1 }
+    ensures { items.new.items ≡ change_part span (stated Remote false state) items.old.items }
 {
-    if run.start < run.end {
-        let item = &mut items[run.start];
+    if span.start < span.end {
+        let item = &mut items[span.start];
         item.set_state(Side::Remote, false, state);
     }
 }
@@ -95,14 +95,14 @@ pub(super) fn set_first(items: &mut VecDeque<Entry>, run: Run, state: DeliverySt
 pub(super) fn tellings(
     alloc: Global,
     items: &VecDeque<Entry>,
-    run: Run,
+    span: Span,
     said: &Disposition,
 ) -> Result<Vec<Telling>, AllocError>
-    requires { IsWithin run items.now.items }
-    ensures { IfOk result (λ v. v.items ≡ filter_map (told_first said.now) (part run items.now.items)) }
+    requires { IsWithin span items.now.items }
+    ensures { IfOk result (λ v. v.items ≡ filter_map (told_first said.now) (part span items.now.items)) }
 {
     let mut told = Vec::new(alloc);
-    for place in run.start..run.end {
+    for place in span.start..span.end {
         let entry = &items[place];
         add_telling(&mut told, entry, said)?;
     }

@@ -5,15 +5,15 @@ use Rattle.amqp_performatives.specs.Outcome.{is_outcome}
 use Rattle.amqp_events.specs.Told.{next_sent_held}
 use Rattle.amqp_deliveries.specs.declared.item.Side.TheVariants.{Remote}
 use Rattle.amqp_deliveries.specs.Edits.{stated}
-use Rattle.amqp_deliveries.specs.Run.{change_part}
+use Rattle.amqp_deliveries.specs.Span.{change_part}
 use Rattle.amqp_deliveries.proofs.Spoken.{hear_settles, hear_states, hear_nothing}
 use Rattle.amqp_deliveries.proofs.held.Held.hear.Goals as goal
 
 pub returns-then-said-clause-ok : goal.returns-then-said-clause-ok
 returns-then-said-clause-ok c =
     let d : Disposition = record { first = c.said.inside.first; last = c.said.inside.last; settled = c.said.inside.settled; state = c.said.inside.state } in
-    let P : Disposition → Type 0 = λ x. c.end_run.new.self ≡ next_sent_held (Hears x) c.args.self.now in
-    subst P c.said.view_is (c.end_run.ensures ∙ c.run-run.ensures.run.outside ∙ sym (hear_settles d c.args.self.now c.if-said.true))
+    let P : Disposition → Type 0 = λ x. c.end_span.new.self ≡ next_sent_held (Hears x) c.args.self.now in
+    subst P c.said.view_is (c.end_span.ensures ∙ c.span-span.ensures.span.outside ∙ sym (hear_settles d c.args.self.now c.if-said.true))
 
 pub returns-in-None-clause-ok : goal.returns-in-None-clause-ok
 returns-in-None-clause-ok c =
@@ -26,5 +26,5 @@ returns-in-Some-clause-ok c =
     let d : Disposition = record { first = c.said.inside.first; last = c.said.inside.last; settled = c.said.inside.settled; state = c.said.inside.state } in
     let P : Disposition → Type 0 = λ x. c.set_at.new.self ≡ next_sent_held (Hears x) c.args.self.now in
     on_ok_weaker c.set_at.result
-    (λ set. subst P c.said.view_is (set ∙ ap (λ b. change_part c.run-run.result (stated Remote b c.in-Some.state) c.args.self.now) c.is_outcome.ensures ∙ c.run-run.ensures.run.changed (stated Remote (is_outcome c.in-Some.state) c.in-Some.state) ∙ sym (hear_states d c.in-Some.state c.args.self.now c.if-said.false c.in-Some.is)))
+    (λ set. subst P c.said.view_is (set ∙ ap (λ b. change_part c.span-span.result (stated Remote b c.in-Some.state) c.args.self.now) c.is_outcome.ensures ∙ c.span-span.ensures.span.changed (stated Remote (is_outcome c.in-Some.state) c.in-Some.state) ∙ sym (hear_states d c.in-Some.state c.args.self.now c.if-said.false c.in-Some.is)))
     c.set_at.ensures.ok

@@ -10,8 +10,8 @@ use Rattle.amqp_deliveries.proofs.held.Held.say.Goals as goal
 pub returns-then-said-clause-ok : goal.returns-then-said-clause-ok
 returns-then-said-clause-ok c =
     let d : Disposition = record { first = c.said.inside.first; last = c.said.inside.last; settled = c.said.inside.settled; state = c.said.inside.state } in
-    let P : Disposition → Type 0 = λ x. c.end_run.new.self ≡ next_sent_held (Says x) c.args.self.now in
-    subst P c.said.view_is (c.end_run.ensures ∙ c.run-run.ensures.run.outside ∙ sym (say_settles d c.args.self.now c.if-said.true))
+    let P : Disposition → Type 0 = λ x. c.end_span.new.self ≡ next_sent_held (Says x) c.args.self.now in
+    subst P c.said.view_is (c.end_span.ensures ∙ c.span-span.ensures.span.outside ∙ sym (say_settles d c.args.self.now c.if-said.true))
 
 pub returns-in-None-clause-ok : goal.returns-in-None-clause-ok
 returns-in-None-clause-ok c =
@@ -24,5 +24,5 @@ returns-in-Some-clause-ok c =
     let d : Disposition = record { first = c.said.inside.first; last = c.said.inside.last; settled = c.said.inside.settled; state = c.said.inside.state } in
     let P : Disposition → Type 0 = λ x. c.set_at.new.self ≡ next_sent_held (Says x) c.args.self.now in
     on_ok_weaker c.set_at.result
-    (λ set. subst P c.said.view_is (set ∙ c.run-run.ensures.run.changed (stated Local false c.in-Some.state) ∙ sym (say_states d c.in-Some.state c.args.self.now c.if-said.false c.in-Some.is)))
+    (λ set. subst P c.said.view_is (set ∙ c.span-span.ensures.span.changed (stated Local false c.in-Some.state) ∙ sym (say_states d c.in-Some.state c.args.self.now c.if-said.false c.in-Some.is)))
     c.set_at.ensures.ok

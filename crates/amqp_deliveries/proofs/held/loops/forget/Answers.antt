@@ -9,6 +9,6 @@ loop-place-preserved c =
     let items : List SentItem = c.args.items.now.items in
     let x : SentItem = c.index-item.result.now in
     let P : List SentItem → Type 0 = IsIndex c.loop-place.tags in
-    c.remove.ensures (take c.args.run.start items) (drop (c.loop-place.place + 1) items)
-    (alone items c.args.run.start c.loop-place.place x c.requires.held c.loop-place.auto.place (omega arith) c.index-item.ensures)
-    (subst P (before_place items c.args.run.start c.loop-place.place x (omega arith) c.index-item.ensures) c.loop-place.invariant)
+    c.remove.ensures (take c.args.span.start items) (drop (c.loop-place.place + 1) items)
+    (alone items c.args.span.start c.loop-place.place x c.requires.held c.loop-place.auto.place (omega arith) c.index-item.ensures)
+    (subst P (before_place items c.args.span.start c.loop-place.place x (omega arith) c.index-item.ensures) c.loop-place.invariant)

@@ -29,6 +29,6 @@ loop-copy-preserved c =
           let left = All-pop P c.loop-copy.copies.items c.pop.new.self.items (Some c.in-Some.copy) c.in-Some.ensures.items told.0 in (
             left.0,
             ap (set now place) (c.set_state.ensures ∙ ap (λ s. stated c.args.side c.args.tells s x) left.1)
-                ∙ change_more c.args.run.start place (stated c.args.side c.args.tells state) was now x c.loop-copy.invariant.1 (omega arith) told.1 c.index_mut-item.ensures.value,
+                ∙ change_more c.args.span.start place (stated c.args.side c.args.tells state) was now x c.loop-copy.invariant.1 (omega arith) told.1 c.index_mut-item.ensures.value,
           ),
     )

@@ -4,4 +4,4 @@ use Rattle.amqp_deliveries.specs.Edits.{told_first}
 use Rattle.amqp_deliveries.proofs.held.loops.tellings.Given as goal
 
 abbrev pub invariant-loop-place : goal.invariant-loop-place
-invariant-loop-place l = l.told.items ≡ filter_map (told_first l.fn.said) (slice_range l.items.items l.fn.run.start l.place)
+invariant-loop-place l = l.told.items ≡ filter_map (told_first l.fn.said) (slice_range l.items.items l.fn.span.start l.place)

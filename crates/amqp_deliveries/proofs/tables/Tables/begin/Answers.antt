@@ -5,9 +5,10 @@ use Rattle.amqp_performatives.specs.declared.bodies.Role.TheVariants.{Sender, Re
 use Rattle.std.specs.List.{list_any}
 use Rattle.amqp_events.specs.Event as event
 use Rattle.amqp_events.specs.Event.{Item}
-use Rattle.amqp_deliveries.specs.Change.{TablesView, AreOlder, held_items, is_tagged_as, tables_after}
+use Rattle.amqp_events.specs.Laws.{IsPast}
+use Rattle.amqp_deliveries.specs.Change.{TablesView, held_items, is_tagged_as, tables_after}
 use Rattle.amqp_deliveries.specs.declared.change.Change.TheVariants as change
-use Rattle.amqp_deliveries.proofs.Both.{both, sent_alone, received_alone, older_past}
+use Rattle.amqp_deliveries.proofs.Both.{both, sent_alone, received_alone}
 use Rattle.amqp_deliveries.proofs.Spoken.{begin_adds}
 use Rattle.amqp_deliveries.proofs.Items.{any_item}
 use Rattle.amqp_deliveries.proofs.tables.Tables.begin.Goals as goal
@@ -16,12 +17,11 @@ abbrev fresh_in : Item → Role → TablesView → Type 0
 fresh_in item r t = list_any (is_tagged_as item) (held_items r t) ≡ false
 
 abbrev older_in : Item → Role → TablesView → Type 0
-older_in item r t = AreOlder item.id (held_items r t)
+older_in item r t = IsPast item.id (held_items r t)
 
 pub add-requires-clause-follows : goal.add-requires-clause-follows
 add-requires-clause-follows c =
-    let h = subst (older_in c.args.item Sender) (sym c.self.view_is) (subst (λ r. older_in c.args.item r c.args.self.now) c.in-Sender.is c.requires.older) in
-    older_past c.self.inside.sent c.args.item.id h
+    subst (older_in c.args.item Sender) (sym c.self.view_is) (subst (λ r. older_in c.args.item r c.args.self.now) c.in-Sender.is c.requires.older)
 
 pub add-requires-clause-fresh : goal.add-requires-clause-fresh
 add-requires-clause-fresh c =
@@ -30,8 +30,7 @@ add-requires-clause-fresh c =
 
 pub add-requires-in-Receiver-clause-follows : goal.add-requires-in-Receiver-clause-follows
 add-requires-in-Receiver-clause-follows c =
-    let h = subst (older_in c.args.item Receiver) (sym c.self.view_is) (subst (λ r. older_in c.args.item r c.args.self.now) c.in-Receiver.is c.requires.older) in
-    older_past c.self.inside.received c.args.item.id h
+    subst (older_in c.args.item Receiver) (sym c.self.view_is) (subst (λ r. older_in c.args.item r c.args.self.now) c.in-Receiver.is c.requires.older)
 
 pub add-requires-in-Receiver-clause-fresh : goal.add-requires-in-Receiver-clause-fresh
 add-requires-in-Receiver-clause-fresh c =

@@ -3,31 +3,31 @@ use Rattle.std.specs.Prelude.{ℕ, ◌≡◌, ◌<◌, ◌≤◌, ◌+◌, ◌-�
 use Rattle.std.specs.List.{slice_range, remove_range, replace_range, slice_index_or}
 use Rattle.amqp_flow.specs.Serial.{distance}
 use Rattle.amqp_events.specs.Told.{SentItem}
-use Rattle.amqp_deliveries.specs.declared.run.Run.{Run}
+use Rattle.amqp_deliveries.specs.declared.span.Span.{Span}
 use Rattle.amqp_deliveries.specs.Held.{covered, uncovered, change_covered}
 
 -- its places are places of the list
-pub record IsWithin (run : Run) (items : List SentItem) : Type 0 where
-  pub ordered : run.start ≤ run.end
-  pub within : run.end ≤ length items
+pub record IsWithin (span : Span) (items : List SentItem) : Type 0 where
+  pub ordered : span.start ≤ span.end
+  pub within : span.end ≤ length items
 
 -- the deliveries at its places, and the others
-abbrev pub part : Run → List SentItem → List SentItem
-part run items = slice_range items run.start run.end
+abbrev pub part : Span → List SentItem → List SentItem
+part span items = slice_range items span.start span.end
 
-abbrev pub without : Run → List SentItem → List SentItem
-without run items = remove_range items run.start run.end
+abbrev pub without : Span → List SentItem → List SentItem
+without span items = remove_range items span.start span.end
 
 -- all of them, with those at its places changed
-abbrev pub change_part : Run → (SentItem → SentItem) → List SentItem → List SentItem
-change_part run change items = replace_range items run.start run.end (map change (part run items))
+abbrev pub change_part : Span → (SentItem → SentItem) → List SentItem → List SentItem
+change_part span change items = replace_range items span.start span.end (map change (part span items))
 
 -- its places are those of the deliveries that a range of ids covers
-pub record IsRun (first last : ℕ) (items : List SentItem) (run : Run) : Type 0 where
-  pub places : IsWithin run items
-  pub inside : part run items ≡ covered first last items
-  pub outside : without run items ≡ uncovered first last items
-  pub changed : (change : SentItem → SentItem) → change_part run change items ≡ change_covered first last change items
+pub record IsSpan (first last : ℕ) (items : List SentItem) (span : Span) : Type 0 where
+  pub places : IsWithin span items
+  pub inside : part span items ≡ covered first last items
+  pub outside : without span items ≡ uncovered first last items
+  pub changed : (change : SentItem → SentItem) → change_part span change items ≡ change_covered first last change items
 
 -- how far the id at a place is past the id in front
 abbrev pub far : ℕ → List SentItem → ℕ → SentItem → ℕ

@@ -1,4 +1,4 @@
--- A run of places against the test that its deliveries pass.
+-- A span of places against the test that its deliveries pass.
 use Rattle.std.proofs.Common.{◌≡◌, ◌<◌, ◌≤◌, ◌+◌, ◌-◌, ◌^◌, ◌==◌, ℕ, zero, suc, Option, Some, None, Bool, true, false, not, cond, List, [], ◌∷◌, ◌++◌, map, length, get_or, take, drop, refl, arith, sym, ap, ◌∙◌, subst, append_assoc, length-drop, ⊎_elim}
 use Rattle.std.proofs.lemmas.Bool.{cases_lt}
 use Rattle.std.specs.List.{slice_get, find, filter, All, between}
@@ -9,9 +9,9 @@ use Rattle.std.proofs.lemmas.List.Edits.{split_between, length-between, get_or-b
 use Rattle.std.proofs.lemmas.List.Elements.{filter-append, filter_passes, All-head, All-tail}
 use Rattle.amqp_flow.specs.Serial.{distance, is_before, is_inside}
 use Rattle.amqp_events.specs.Told.{SentItem}
-use Rattle.amqp_deliveries.specs.declared.run.Run.{Run}
+use Rattle.amqp_deliveries.specs.declared.span.Span.{Span}
 use Rattle.amqp_deliveries.specs.Held.{IsHeld, items_of, is_covered, has_id}
-use Rattle.amqp_deliveries.specs.Run.{IsRun, IsSpread, IsNarrowed}
+use Rattle.amqp_deliveries.specs.Span.{IsSpan, IsSpread, IsNarrowed}
 use Rattle.amqp_deliveries.proofs.Serials.{inside-far, covered-past, not_covered-past_below, not_covered-past_above, covered-behind, not_covered-behind, not_covered-short}
 
 -- # Where all pass, or none
@@ -66,21 +66,21 @@ back-all P xs j h = λ k d l.
 not-is : {X : Type 0} (q : X → Bool) (b : Bool) (xs : List X) → All (λ x. q x ≡ b) xs → All (λ x. not (q x) ≡ not b) xs
 not-is q b xs h = λ k d l. ap not (h k d l)
 
--- exactly the deliveries at the run's places pass
-pub run_is : (first last : ℕ) (items : List SentItem) (run : Run) → run.start ≤ run.end → run.end ≤ length items
-    → ((k : ℕ) (d : SentItem) → k < run.start → k < length items → is_covered first last (get_or items k d) ≡ false)
-    → ((k : ℕ) (d : SentItem) → run.start ≤ k → k < run.end → is_covered first last (get_or items k d) ≡ true)
-    → ((k : ℕ) (d : SentItem) → run.end ≤ k → k < length items → is_covered first last (get_or items k d) ≡ false)
-    → IsRun first last items run
-run_is first last items run o w before inside after =
+-- exactly the deliveries at the span's places pass
+pub span_is : (first last : ℕ) (items : List SentItem) (span : Span) → span.start ≤ span.end → span.end ≤ length items
+    → ((k : ℕ) (d : SentItem) → k < span.start → k < length items → is_covered first last (get_or items k d) ≡ false)
+    → ((k : ℕ) (d : SentItem) → span.start ≤ k → k < span.end → is_covered first last (get_or items k d) ≡ true)
+    → ((k : ℕ) (d : SentItem) → span.end ≤ k → k < length items → is_covered first last (get_or items k d) ≡ false)
+    → IsSpan first last items span
+span_is first last items span o w before inside after =
     let q : SentItem → Bool = is_covered first last in
-    let a : List SentItem = take run.start items in
-    let b : List SentItem = between run.start run.end items in
-    let c : List SentItem = drop run.end items in
-    let is : items ≡ a ++ (b ++ c) = split_between items run.start run.end o in
-    let fa : All (λ x. q x ≡ false) a = front-all (λ x. q x ≡ false) items run.start before in
-    let tb : All (λ x. q x ≡ true) b = middle-all (λ x. q x ≡ true) items run.start run.end o w inside in
-    let fc : All (λ x. q x ≡ false) c = back-all (λ x. q x ≡ false) items run.end after in
+    let a : List SentItem = take span.start items in
+    let b : List SentItem = between span.start span.end items in
+    let c : List SentItem = drop span.end items in
+    let is : items ≡ a ++ (b ++ c) = split_between items span.start span.end o in
+    let fa : All (λ x. q x ≡ false) a = front-all (λ x. q x ≡ false) items span.start before in
+    let tb : All (λ x. q x ≡ true) b = middle-all (λ x. q x ≡ true) items span.start span.end o w inside in
+    let fc : All (λ x. q x ≡ false) c = back-all (λ x. q x ≡ false) items span.end after in
     let parts : (r : SentItem → Bool) → filter r items ≡ filter r a ++ (filter r b ++ filter r c) = λ r.
     ap (filter r) is ∙ filter-append r a (b ++ c) ∙ ap (λ t. filter r a ++ t) (filter-append r b c) in
     record {
@@ -95,28 +95,28 @@ run_is first last items run o w before inside after =
           ∙ sym (ap (map g) is ∙ map-append g a (b ++ c) ∙ ap (λ t. map g a ++ t) (map-append g b c) ∙ (λ i. change-none q f a fa i ++ (change-all q f b tb i ++ change-none q f c fc i)));
     }
 
--- # Runs by distances
+-- # Spans by distances
 
-pub run_none : (first last : ℕ) (items : List SentItem) → ((k : ℕ) (d : SentItem) → k < length items → is_covered first last (get_or items k d) ≡ false)
-    → IsRun first last items (record { start = 0; end = 0 })
-run_none first last items none =
-    run_is first last items (record { start = 0; end = 0 }) (omega arith) (omega arith) (λ k d h l. none k d l) (λ k d h l. absurd (omega arith)) (λ k d h l. none k d l)
+pub span_none : (first last : ℕ) (items : List SentItem) → ((k : ℕ) (d : SentItem) → k < length items → is_covered first last (get_or items k d) ≡ false)
+    → IsSpan first last items (record { start = 0; end = 0 })
+span_none first last items none =
+    span_is first last items (record { start = 0; end = 0 }) (omega arith) (omega arith) (λ k d h l. none k d l) (λ k d h l. absurd (omega arith)) (λ k d h l. none k d l)
 
-pub run_empty : (first last : ℕ) (items : List SentItem) → length items ≡ 0 → IsRun first last items (record { start = 0; end = 0 })
-run_empty first last items e = run_none first last items (λ k d l. absurd (omega arith))
+pub span_empty : (first last : ℕ) (items : List SentItem) → length items ≡ 0 → IsSpan first last items (record { start = 0; end = 0 })
+span_empty first last items e = span_none first last items (λ k d l. absurd (omega arith))
 
-pub run_far : (first last : ℕ) (items : List SentItem) → 2 ^ 31 ≤ distance first last → IsRun first last items (record { start = 0; end = 0 })
-run_far first last items h = run_none first last items (λ k d l. inside-far (get_or items k d).item.id first last h)
+pub span_far : (first last : ℕ) (items : List SentItem) → 2 ^ 31 ≤ distance first last → IsSpan first last items (record { start = 0; end = 0 })
+span_far first last items h = span_none first last items (λ k d l. inside-far (get_or items k d).item.id first last h)
 
-pub run_short : (first last front : ℕ) (items : List SentItem) → IsSpread front items → 2 ^ 31 ≤ distance front first → distance first last < distance first front
-    → IsRun first last items (record { start = 0; end = 0 })
-run_short first last front items s skipped short =
-    run_none first last items (λ k d l. not_covered-short front (get_or items k d).item.id first last (s.near k d l) skipped short)
+pub span_short : (first last front : ℕ) (items : List SentItem) → IsSpread front items → 2 ^ 31 ≤ distance front first → distance first last < distance first front
+    → IsSpan first last items (record { start = 0; end = 0 })
+span_short first last front items s skipped short =
+    span_none first last items (λ k d l. not_covered-short front (get_or items k d).item.id first last (s.near k d l) skipped short)
 
-pub run_behind : (first last front i : ℕ) (items : List SentItem) → IsSpread front items → distance first last < 2 ^ 31 → 2 ^ 31 ≤ distance front first → distance first front ≤ distance first last
-    → IsNarrowed front items (distance first last - distance first front + 1) i i → IsRun first last items (record { start = 0; end = i })
-run_behind first last front i items s reach skipped long n =
-    run_is first last items (record { start = 0; end = i }) (omega arith) n.within
+pub span_behind : (first last front i : ℕ) (items : List SentItem) → IsSpread front items → distance first last < 2 ^ 31 → 2 ^ 31 ≤ distance front first → distance first front ≤ distance first last
+    → IsNarrowed front items (distance first last - distance first front + 1) i i → IsSpan first last items (record { start = 0; end = i })
+span_behind first last front i items s reach skipped long n =
+    span_is first last items (record { start = 0; end = i }) (omega arith) n.within
     (λ k d h l. absurd (omega arith))
     (λ k d h l. covered-behind front (get_or items k d).item.id first last (s.near k d (omega (arith, n.within))) skipped reach long (n.before k d l))
     (λ k d h l. not_covered-behind front (get_or items k d).item.id first last (s.near k d l) skipped (n.after k d h l))
@@ -128,11 +128,11 @@ places-ordered front low high i j items d n m h =
     (λ l. l)
     (cases_lt j i)
 
-pub run_past : (first last front i j : ℕ) (items : List SentItem) (x : SentItem) → IsSpread front items → distance first last < 2 ^ 31 → distance front first < 2 ^ 31
+pub span_past : (first last front i j : ℕ) (items : List SentItem) (x : SentItem) → IsSpread front items → distance first last < 2 ^ 31 → distance front first < 2 ^ 31
     → IsNarrowed front items (distance front first) i i → IsNarrowed front items (distance front first + distance first last + 1) j j
-    → IsRun first last items (record { start = i; end = j })
-run_past first last front i j items x s reach skipped n m =
-    run_is first last items (record { start = i; end = j }) (places-ordered front (distance front first) (distance front first + distance first last + 1) i j items x n m (omega arith)) m.within
+    → IsSpan first last items (record { start = i; end = j })
+span_past first last front i j items x s reach skipped n m =
+    span_is first last items (record { start = i; end = j }) (places-ordered front (distance front first) (distance front first + distance first last + 1) i j items x n m (omega arith)) m.within
     (λ k d h l. not_covered-past_below front (get_or items k d).item.id first last reach skipped (n.before k d h))
     (λ k d h l. covered-past front (get_or items k d).item.id first last reach (n.after k d h (omega (arith, m.within))) (m.before k d l))
     (λ k d h l. not_covered-past_above front (get_or items k d).item.id first last (m.after k d h l))
@@ -185,22 +185,22 @@ get-between xs i j h =
     let e : j - i ≡ suc (j - i - 1) = omega arith in
     ap (λ n. slice_get (take n (drop i xs)) 0) e ∙ get-take (j - i - 1) (drop i xs) ∙ get-drop xs i
 
-found-first : (id : ℕ) (items : List SentItem) (run : Run) → id < 2 ^ 32 → All (λ s. s.item.id < 2 ^ 32) items → IsRun id id items run
-    → find (has_id id) items ≡ slice_get (between run.start run.end items) 0
-found-first id items run small fit r =
+found-first : (id : ℕ) (items : List SentItem) (span : Span) → id < 2 ^ 32 → All (λ s. s.item.id < 2 ^ 32) items → IsSpan id id items span
+    → find (has_id id) items ≡ slice_get (between span.start span.end items) 0
+found-first id items span small fit r =
     find-same (has_id id) (is_covered id id) items (λ k d l. same-id id (get_or items k d).item.id small (fit k d l)) ∙ find-head (is_covered id id) items ∙ sym (ap (λ t. slice_get t 0) r.inside)
 
-pub found_at : (id : ℕ) (items : List SentItem) (run : Run) → id < 2 ^ 32 → All (λ s. s.item.id < 2 ^ 32) items → IsRun id id items run → run.start < run.end
-    → slice_get (items_of items) run.start ≡ find (λ i. i.id == id) (items_of items)
-found_at id items run small fit r h =
-    get-item items run.start
-    ∙ sym (find-item (λ i. i.id == id) items ∙ ap (option_map (λ s. s.item)) (found-first id items run small fit r ∙ get-between items run.start run.end h))
+pub found_at : (id : ℕ) (items : List SentItem) (span : Span) → id < 2 ^ 32 → All (λ s. s.item.id < 2 ^ 32) items → IsSpan id id items span → span.start < span.end
+    → slice_get (items_of items) span.start ≡ find (λ i. i.id == id) (items_of items)
+found_at id items span small fit r h =
+    get-item items span.start
+    ∙ sym (find-item (λ i. i.id == id) items ∙ ap (option_map (λ s. s.item)) (found-first id items span small fit r ∙ get-between items span.start span.end h))
 
-pub not_found : (id : ℕ) (items : List SentItem) (run : Run) → id < 2 ^ 32 → All (λ s. s.item.id < 2 ^ 32) items → IsRun id id items run → run.end ≤ run.start
+pub not_found : (id : ℕ) (items : List SentItem) (span : Span) → id < 2 ^ 32 → All (λ s. s.item.id < 2 ^ 32) items → IsSpan id id items span → span.end ≤ span.start
     → None ≡ find (λ i. i.id == id) (items_of items)
-not_found id items run small fit r h =
-    let e : run.end - run.start ≡ 0 = omega arith in
-    sym (find-item (λ i. i.id == id) items ∙ ap (option_map (λ s. s.item)) (found-first id items run small fit r ∙ ap (λ n. slice_get (take n (drop run.start items)) 0) e))
+not_found id items span small fit r h =
+    let e : span.end - span.start ≡ 0 = omega arith in
+    sym (find-item (λ i. i.id == id) items ∙ ap (option_map (λ s. s.item)) (found-first id items span small fit r ∙ ap (λ n. slice_get (take n (drop span.start items)) 0) e))
 
 -- the places of one id are one at most
 not-both : (a b id : ℕ) → is_inside a id id ≡ true → is_inside b id id ≡ true → is_before a b ≡ true → ⊥
@@ -209,16 +209,16 @@ not-both a b id h k l = grind arith
 nobody : SentItem
 nobody = record { item = record { id = 0; link = 0; tag = []; second = false; local = None; remote = None }; told = false }
 
-pub one_place : (id : ℕ) (items : List SentItem) (run : Run) → IsHeld items → IsRun id id items run → run.end ≤ run.start + 1
-one_place id items run held r =
+pub one_place : (id : ℕ) (items : List SentItem) (span : Span) → IsHeld items → IsSpan id id items span → span.end ≤ span.start + 1
+one_place id items span held r =
     let P : SentItem → Type 0 = λ s. is_covered id id s ≡ true in
-    let all : All P (between run.start run.end items) = subst (All P) (sym r.inside) (filter_passes (is_covered id id) items) in
-    let n = length-between items run.start run.end r.places.within in
+    let all : All P (between span.start span.end items) = subst (All P) (sym r.inside) (filter_passes (is_covered id id) items) in
+    let n = length-between items span.start span.end r.places.within in
     ⊎_elim
     (λ two.
-    let first : P (get_or items (run.start + 0) nobody) = subst P (get_or-between items run.start run.end 0 nobody (omega arith)) (all 0 nobody (omega arith)) in
-    let second : P (get_or items (run.start + 1) nobody) = subst P (get_or-between items run.start run.end 1 nobody (omega arith)) (all 1 nobody (omega arith)) in
-    absurd (not-both (get_or items (run.start + 0) nobody).item.id (get_or items (run.start + 1) nobody).item.id id first second
-    (held.in_order (run.start + 0) (run.start + 1) nobody (omega arith) (omega (arith, r.places.within)))))
+    let first : P (get_or items (span.start + 0) nobody) = subst P (get_or-between items span.start span.end 0 nobody (omega arith)) (all 0 nobody (omega arith)) in
+    let second : P (get_or items (span.start + 1) nobody) = subst P (get_or-between items span.start span.end 1 nobody (omega arith)) (all 1 nobody (omega arith)) in
+    absurd (not-both (get_or items (span.start + 0) nobody).item.id (get_or items (span.start + 1) nobody).item.id id first second
+    (held.in_order (span.start + 0) (span.start + 1) nobody (omega arith) (omega (arith, r.places.within)))))
     (λ few. few)
-    (cases_lt (run.start + 1) run.end)
+    (cases_lt (span.start + 1) span.end)

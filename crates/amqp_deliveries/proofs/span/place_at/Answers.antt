@@ -1,7 +1,7 @@
 use Rattle.std.proofs.Common.{◌≡◌, ◌<◌, ◌-◌, ◌∙◌, List, length, get_or, deque_len, ap, sym, arith, rules}
 use Rattle.amqp_events.specs.Told.{SentItem}
 use Rattle.amqp_deliveries.proofs.Search.{narrowed-start, narrowed-up, narrowed-down}
-use Rattle.amqp_deliveries.proofs.run.place_at.Goals as goal
+use Rattle.amqp_deliveries.proofs.span.place_at.Goals as goal
 
 pub loop-low-init : goal.loop-low-init
 loop-low-init c =

@@ -1,7 +1,7 @@
 //! Neighbouring places, and how the places are found that a range of ids covers.
 ghost use Rattle.std.specs.Prelude.{◌≡◌, ◌≤◌, ◌-◌, ◌↔◌, IsTrue};
 ghost use Rattle.amqp_deliveries.specs.Held.{IsHeld};
-ghost use Rattle.amqp_deliveries.specs.Run.{IsRun, IsSpread, IsNarrowed};
+ghost use Rattle.amqp_deliveries.specs.Span.{IsSpan, IsSpread, IsNarrowed};
 
 use crate::item::Entry;
 use amqp_flow::serial::Serial;
@@ -9,12 +9,12 @@ use std::collections::VecDeque;
 
 /// The places from `start` on, before `end`.
 #[derive(Clone, Copy, Debug, PartialEq, Eq)]
-pub struct Run {
+pub struct Span {
     pub start: usize,
     pub end: usize,
 }
 
-impl Run {
+impl Span {
     /// How many places they are.
     pub fn len(&self) -> usize
         ensures { result ≡ self.now.end - self.now.start }
@@ -57,12 +57,12 @@ fn place_at(items: &VecDeque<Entry>, front: u32, reach: u32) -> usize
 }
 
 /// The places of the deliveries that the ids `first` to `last` cover. Distances are taken from the id in front, from which they rise.
-pub(crate) fn run_of(items: &VecDeque<Entry>, first: u32, last: u32) -> Run
+pub(crate) fn span_of(items: &VecDeque<Entry>, first: u32, last: u32) -> Span
     requires { IsHeld items.now.items }
-    ensures { IsRun first last items.now.items result }
+    ensures { IsSpan first last items.now.items result }
 {
     const HALF: u32 = 1 << 31;
-    let none = Run { start: 0, end: 0 };
+    let none = Span { start: 0, end: 0 };
     let Some(item) = items.front() else {
         return none;
     };
@@ -75,10 +75,10 @@ pub(crate) fn run_of(items: &VecDeque<Entry>, first: u32, last: u32) -> Run
     } else if skipped < HALF {
         let start = place_at(items, front, skipped);
         let end = place_at(items, front, skipped + reach + 1);
-        Run { start, end }
+        Span { start, end }
     } else if reach >= ahead {
         let end = place_at(items, front, reach - ahead + 1);
-        Run { start: 0, end }
+        Span { start: 0, end }
     } else {
         none
     }
