@@ -40,3 +40,4 @@ pub mod Whole
 pub mod Sound
 pub mod LeftOver
 pub mod WrittenLaw
+pub mod Same

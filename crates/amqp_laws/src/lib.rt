@@ -22,7 +22,9 @@
 //! |---|---|
 //! | `entry` | a step with its reply |
 //! | `laws` | the laws |
+//! | `equality` | `==` of entries is `≡` in contracts |
 #![tactic(auto)]
 
 pub mod entry;
+pub mod equality;
 pub mod laws;

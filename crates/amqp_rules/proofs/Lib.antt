@@ -7,3 +7,4 @@ pub mod Unfinished
 pub mod Counts
 pub mod InRange
 pub mod Writing
+pub mod Same

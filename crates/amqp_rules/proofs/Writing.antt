@@ -5,7 +5,7 @@ use Rattle.std.proofs.lemmas.List.{length-append}
 use Rattle.std.proofs.lemmas.List.Elements.{All-cons, All-nil}
 use Rattle.std.specs.Result.{result_err}
 use Rattle.std.specs.Option.{option_map}
-use Rattle.amqp_types.proofs.Frames.{bind_some, guard_some}
+use Rattle.amqp_types.proofs.Compounds.{bind_some, guard_some}
 use Rattle.amqp_performatives.specs.declared.bodies.Role.{Role}
 use Rattle.amqp_performatives.specs.declared.bodies.Role.TheVariants.{Sender, Receiver}
 use Rattle.amqp_performatives.specs.declared.performative.Performative.TheVariants as heard

@@ -2,6 +2,15 @@
 //! is an operation of the application, or a frame that is heard of the peer. The definitions are in `specs/`, one file for each kind of step:
 //! a table of refusals or violations in the order of their numbers, the answer, and the change of the view (`specs/View`).
 //!
+//! | module | what it has |
+//! |---|---|
+//! | `config` | what is settled before the first step |
+//! | `op`, `reply` | operations, and what a step gives |
+//! | `refusal`, `violation` | why an operation is refused, and a frame |
+//! | `status` | the windows and a link as they are shown |
+//! | `laws` | the frames of each reply have octets |
+//! | `equality` | `==` of operations and of replies is `≡` in contracts |
+#![tactic(auto)]
 //! # The session (part 2, 2.5.5)
 //!
 //! ```text
@@ -64,18 +73,10 @@
 //! | end | begin heard, mapped or end sent | end, where the session is mapped | |
 //!
 //! Deliveries that a step ends are named in its reply, by role and id.
-//!
-//! | module | what it has |
-//! |---|---|
-//! | `config` | what is settled before the first step |
-//! | `op`, `reply` | operations, and what a step gives |
-//! | `refusal`, `violation` | why an operation is refused, and a frame |
-//! | `status` | the windows and a link as they are shown |
-//! | `laws` | the frames of each reply have octets |
-#![tactic(auto)]
 
 pub mod config;
 mod copying;
+pub mod equality;
 mod frame_refusal;
 pub mod laws;
 pub mod op;

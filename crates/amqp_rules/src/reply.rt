@@ -3,12 +3,12 @@ ghost use Rattle.std.specs.Prelude.{◌≡◌, IfOk};
 
 use crate::copying::copy_state;
 use amqp_frames::{DeliveryState, Frame, Role};
-use amqp_types::{Items, Tag};
+use amqp_types::{Boxed, Items, Tag};
 use bytes::Bytes;
 use std::alloc::AllocError;
 
 /// A frame that is sent, with its octets.
-#[derive(Drop, Debug)]
+#[derive(Debug, PartialEq, Eq, Drop)]
 pub struct Sent {
     pub frame: Frame,
     pub bytes: Bytes,
@@ -36,7 +36,7 @@ pub struct Learned {
     pub settled: bool,
 }
 
-/// What a step tells the application.
+/// What a step tells the application. What is wide stands behind a pointer, since each entry of a journal has room for the widest.
 #[derive(Debug, PartialEq, Eq, Drop)]
 pub enum Given {
     Nothing,
@@ -52,12 +52,12 @@ pub enum Given {
     Delivery(u32),
     /// A delivery waits on this link, with this id.
     Ready(u32, u32),
-    Taken(Taken),
-    Learned(Learned),
+    Taken(Boxed<Taken>),
+    Learned(Boxed<Learned>),
 }
 
 /// What a step gives: the frames to send, the deliveries that it ended by role and id, and what it tells.
-#[derive(Drop, Debug)]
+#[derive(Debug, PartialEq, Eq, Drop)]
 pub struct Reply {
     pub sent: Items<Sent>,
     pub ended: Items<(Role, u32)>,
