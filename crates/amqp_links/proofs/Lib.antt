@@ -1,10 +1,13 @@
 pub mod Stored
 pub mod Written
 pub mod Answered
-pub mod Scans
 pub mod Firsts
 pub mod Offered
 pub mod Removed
 pub mod Asked
 pub mod Tellings
-pub mod Handles
+pub mod Named
+pub mod Sought
+pub mod Handled
+pub mod Spares
+pub mod Indexing

@@ -5,23 +5,14 @@ use Rattle.std.proofs.lemmas.List.{append_assoc, append-nil, length-append}
 use Rattle.std.proofs.lemmas.List.Elements.{filter-append}
 use Rattle.std.proofs.Math.Seq.{take-append_seam}
 use Rattle.std.specs.List.{filter}
-use Rattle.std.specs.BTreeMap.{BTreeMap}
-use Rattle.slab.specs.Slab.{Slab}
 use Rattle.amqp_events.specs.Told.{Telling}
 use Rattle.amqp_rules.proofs.Told.{eqb-sym}
 use Rattle.amqp_rules.specs.View.{LinkView, has_number, change_first}
 use Rattle.amqp_links.specs.Fate.{changed, links_told, with_told, with_one_told, without_last_told}
-use Rattle.amqp_links.specs.Links.{LinksView, links_of, AreListed, AreRising, AreNumbered, IsStored}
+use Rattle.amqp_links.specs.Links.{LinksView, AreNumbered}
 
 flip : {A : Type 0} {x y : A} → x ≡ y → y ≡ x
 flip h = cc
-
-numbered-in : (s : Slab LinkView) (es : List (ℕ × ℕ)) (from to : ℕ) → AreListed s es → AreRising from to es → AreNumbered from (links_of s es)
-numbered-in s [] from to a r = tt
-numbered-in s (e ∷ es) from to a r = (rw a.1 r.0, rw a.1 (numbered-in s es (e.0 + 1) to a.2 r.2))
-
-pub numbered : (s : Slab LinkView) (numbers peers : BTreeMap ℕ ℕ) (made : ℕ) → IsStored s numbers peers made → AreNumbered 0 (links_of s numbers.entries)
-numbered s numbers peers made i = numbered-in s numbers.entries 0 made i.listed i.rising
 
 -- one thing more, told on this link, and told on another
 told-here : (t : Telling) (ts : List Telling) (l : LinkView) → (t.link == l.number) ≡ true → with_one_told t (with_told ts l) ≡ with_told (ts ++ t ∷ []) l

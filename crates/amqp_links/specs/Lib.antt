@@ -2,6 +2,8 @@ pub mod Credits
 pub mod Marks
 pub mod Arrivals
 pub mod Links
-pub mod Scan
+pub mod Names
+pub mod Handles
+pub mod Index
 pub mod Fate
 pub mod Waits

@@ -79,3 +79,8 @@ pub record IsFirst (test : LinkView → Bool) (links : List LinkView) (l : LinkV
 abbrev pub AreNumbered : ℕ → List LinkView → Type 0
 AreNumbered from [] = Unit {0}
 AreNumbered from (l ∷ ls) = (from ≤ l.number) × AreNumbered (l.number + 1) ls
+
+-- they rise, from this number on and below that
+abbrev pub AreWithin : ℕ → ℕ → List LinkView → Type 0
+AreWithin from to [] = Unit {0}
+AreWithin from to (l ∷ ls) = (from ≤ l.number) × (l.number < to) × AreWithin (l.number + 1) to ls

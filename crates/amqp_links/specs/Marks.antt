@@ -1,7 +1,7 @@
 -- What most steps change of a link.
 use Rattle.std.specs.Prelude.{◌≡◌}
 use Rattle.amqp_links.specs.declared.marks.Marks.{Marks}
-use Rattle.amqp_links.specs.declared.links.Found.{Found}
+use Rattle.amqp_links.specs.declared.found.Found.{Found}
 use Rattle.amqp_rules.specs.View.{LinkView}
 use Rattle.amqp_links.specs.Credits.{role_of, credit_in}
 

@@ -7,7 +7,9 @@
 //! | `marks` | what most steps change of a link |
 //! | `arrival` | a transfer that is heard, and the deliveries that it begins, goes on with or completes |
 //! | `link`, `readers`, `waiting`, `learning` | a link, and what it is asked |
-//! | `links` | the links that are not gone, by their number, by the peer's handle and in the order in which they were made |
+//! | `links`, `lookups`, `meeting` | the links that are not gone: how they are found, and what a step makes of them |
+//! | `store` | where they stand, by their number and by the peer's handle, in the order in which they were made |
+//! | `names`, `handles` | the indexes by name and of our handles |
 //! | `telling` | what is told of deliveries waits on their links |
 //! | `fate` | what becomes of the links, as data |
 #![tactic(auto)]
@@ -16,11 +18,16 @@ pub mod arrival;
 pub mod credit;
 pub mod end;
 pub mod fate;
+pub mod found;
+mod handles;
 mod learning;
 pub mod link;
 pub mod links;
+mod lookups;
 pub mod marks;
-mod ours;
+mod meeting;
+mod names;
 mod readers;
+mod store;
 mod telling;
 mod waiting;

@@ -181,6 +181,12 @@ impl Link {
         self.number
     }
 
+    pub(crate) fn name(&self) -> &Text
+        ensures { result.now ≡ self.now.name }
+    {
+        &self.name
+    }
+
     /// Our detach was sent.
     pub fn has_left(&self) -> bool
         ensures { result ≡ self.now.left }

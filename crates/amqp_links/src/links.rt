@@ -1,51 +1,38 @@
 //! The links that are not gone.
-ghost use Rattle.std.specs.Prelude.{◌≡◌, ◌<◌, ◌^◌, [], OnOk, OnErr, None, MatchOption, is_some, find, option_map};
-ghost use Rattle.std.specs.Ordering.{nat_cmp};
-ghost use Rattle.std.specs.BTreeMap.{get};
-ghost use Rattle.amqp_links.specs.Fate.{IsFit, changed, links_after, with_heard, with_ours};
-ghost use Rattle.amqp_links.specs.Links.{IsFirst, IsKnown, look, stands_at};
-ghost use Rattle.amqp_links.specs.Marks.{found_link, with_marks};
-ghost use Rattle.amqp_rules.specs.Detach.{left_by_us};
-ghost use Rattle.amqp_rules.specs.Learn.{learnt_from};
-ghost use Rattle.amqp_rules.specs.Take.{taken_from};
-ghost use Rattle.amqp_rules.specs.View.{is_asked_as, is_theirs, has_number, has_peer_handle, remove_first};
+ghost use Rattle.std.specs.Prelude.{◌≡◌, [], IfOk, List, None, MatchOption, OnOk, OnErr, find, map, option_map};
+ghost use Rattle.amqp_events.specs.Told.{Telling};
+ghost use Rattle.amqp_links.specs.Fate.{links_told};
+ghost use Rattle.amqp_links.specs.Links.{IsFirst, LinksView};
+ghost use Rattle.amqp_links.specs.Marks.{found_link};
+ghost use Rattle.amqp_rules.specs.View.{has_number, has_peer_handle};
 
-use crate::arrival::Piece;
-use crate::end::End;
-use crate::fate::Fate;
-use crate::link::Link;
-use crate::marks::Marks;
-use amqp_performatives::Role;
-use amqp_types::Text;
-use slab::Slab;
+use crate::found::Found;
+use crate::handles::Handles;
+use crate::names::Names;
+use crate::store::Store;
+use amqp_deliveries::Telling as Told;
 use std::alloc::{AllocError, Global};
-use std::collections::BTreeMap;
 use std::marker::Model;
 
-/// The links that are not gone, in the order in which they were made: each in a slab, found by its number and by the peer's handle.
+/// The links that are not gone, in the order in which they were made. A link is found by its number, by the peer's handle, and by its role and name;
+/// and the lowest handle that is free is known.
 ///
 /// | call | cost, for n links |
 /// |---|---|
-/// | a look-up by number or by the peer's handle | O(log n) |
-/// | a change at a place | O(1) |
+/// | a look-up | O(log n) |
+/// | `meet`: a link more, or one less | O(log n) |
+/// | `meet`: a change at a place | O(1) |
+/// | `meet`: all are gone | O(n) |
 #[derive(Drop)]
 pub struct Links {
-    pub(crate) alloc: Global,
-    pub(crate) slab: Slab<Link>,
-    pub(crate) numbers: BTreeMap<u32, usize>,
-    peers: BTreeMap<u32, usize>,
-    made: u32,
-}
-
-/// A link and the key under which it stands.
-#[derive(Clone, Copy)]
-pub struct Found<'a> {
-    pub key: usize,
-    pub link: &'a Link,
+    pub(crate) store: Store,
+    pub(crate) names: Names,
+    pub(crate) handles: Handles,
 }
 
 impl Model for Links {
-    ghost use Rattle.amqp_links.specs.Links.{LinksView, links_of, IsStored};
+    ghost use Rattle.amqp_links.specs.Links.{LinksView};
+    ghost use Rattle.amqp_links.specs.Index.{AreIndexed};
     ghost use Rattle.std.specs.Coded.{codes};
     ghost use Rattle.amqp_types.specs.contracts.value.Value as value;
 
@@ -53,9 +40,9 @@ impl Model for Links {
 
     ghost coded = { Prim.hlevel (codes, value.the_row.coded) };
 
-    ghost view = { λ s. record { made = s.made; list = links_of s.slab s.numbers.entries } };
+    ghost view = { λ s. s.store };
 
-    ghost invariant = { λ s. IsStored s.slab s.numbers s.peers s.made };
+    ghost invariant = { λ s. AreIndexed s.names s.handles s.store };
 }
 
 impl Links {
@@ -64,11 +51,9 @@ impl Links {
         ensures { result ≡ record { made = 0; list = [] } }
     {
         Links {
-            alloc,
-            slab: Slab::new(alloc),
-            numbers: BTreeMap::new(alloc),
-            peers: BTreeMap::new(alloc),
-            made: 0,
+            store: Store::new(alloc),
+            names: Names::new(alloc),
+            handles: Handles::new(alloc),
         }
     }
 
@@ -76,307 +61,37 @@ impl Links {
     pub fn by_number(&self, number: u32) -> Option<Found<'_>>
         ensures { option_map found_link result ≡ find (has_number number) self.now.list }
     {
-        standing(&self.slab, self.numbers.get(&number).copied())
+        self.store.by_number(number)
     }
 
     /// The link that the peer calls by this handle, at its place.
     pub fn by_peer_handle(&self, handle: u32) -> Option<Found<'_>>
         ensures { MatchOption result (find (has_peer_handle handle) self.now.list ≡ None) (λ f. IsFirst (has_peer_handle handle) self.now.list (found_link f)) }
     {
-        standing(&self.slab, self.peers.get(&handle).copied())
-    }
-
-    /// The first link of this role and name that we asked for and the peer has not answered, at its place. O(n).
-    pub fn asked_as(&self, role: Role, name: &Text) -> Option<Found<'_>>
-        ensures { MatchOption result (find (is_asked_as role name.now) self.now.list ≡ None) (λ f. IsFirst (is_asked_as role name.now) self.now.list (found_link f)) }
-    {
-        for (_, key) in self.numbers.iter() {
-            let link = &self.slab[*key];
-            if link.is_asked_as(role, name) {
-                return Some(Found { key: *key, link });
-            }
-        }
-        None
-    }
-
-    /// Whether the peer has attached a link of this role and name. O(n).
-    pub fn has_theirs(&self, role: Role, name: &Text) -> bool
-        ensures { result ≡ is_some (find (is_theirs role name.now) self.now.list) }
-    {
-        for (_, key) in self.numbers.iter() {
-            let link = &self.slab[*key];
-            if link.is_theirs(role, name) {
-                return true;
-            }
-        }
-        false
+        self.store.by_peer_handle(handle)
     }
 
     /// The number of the link that is made next.
     pub fn made(&self) -> u32
         ensures { result ≡ self.now.made }
     {
-        self.made
+        self.store.made()
     }
 
-    /// The link with this number has these marks. The key is where it was found.
-    fn mark(&mut self, key: usize, number: u32, marks: &Marks)
-        ensures { self.new ≡ changed number (with_marks marks.now) self.old }
-    {
-        let Some(key) = key_of(&self.slab, &self.numbers, key, number) else {
-            return;
-        };
-        let link = &mut self.slab[key];
-        link.set_marks(marks);
-    }
-
-    /// Our detach of the link with this number was sent. The key is where it was found.
-    fn leave(&mut self, key: usize, number: u32)
-        ensures { self.new ≡ changed number left_by_us self.old }
-    {
-        let Some(key) = key_of(&self.slab, &self.numbers, key, number) else {
-            return;
-        };
-        let link = &mut self.slab[key];
-        link.leave();
-    }
-
-    /// What waits first on the link with this number is taken. The key is where it was found.
-    fn take(&mut self, key: usize, number: u32)
-        ensures { self.new ≡ changed number taken_from self.old }
-    {
-        let Some(key) = key_of(&self.slab, &self.numbers, key, number) else {
-            return;
-        };
-        let link = &mut self.slab[key];
-        link.take_ready();
-    }
-
-    /// What was told first of the deliveries of the link with this number is learnt. The key is where it was found.
-    fn learn(&mut self, key: usize, number: u32)
-        ensures { self.new ≡ changed number learnt_from self.old }
-    {
-        let Some(key) = key_of(&self.slab, &self.numbers, key, number) else {
-            return;
-        };
-        let link = &mut self.slab[key];
-        link.take_told();
-    }
-
-    /// Our attach of the link with this number was sent. The key is where it was found.
-    fn attach(&mut self, key: usize, number: u32, end: End, marks: &Marks)
-        ensures { self.new ≡ changed number (with_ours end marks.now) self.old }
-    {
-        let Some(key) = key_of(&self.slab, &self.numbers, key, number) else {
-            return;
-        };
-        let link = &mut self.slab[key];
-        link.set_ours(end, marks);
-    }
-
-    /// The peer's attach of the link with this number was heard.
-    fn answer(&mut self, key: usize, number: u32, end: End, marks: &Marks) -> Result<(), AllocError>
-        requires { IsFit (Fate.Theirs key number end marks.now) self.old }
-        ensures next { OnOk result (self.new ≡ links_after (Fate.Theirs key number end marks.now) self.old) }
+    /// What is told of deliveries waits on their links: each thing on the link that it names. It gives the numbers of these links, by which
+    /// it can be taken back. Where memory is refused, nothing has changed.
+    pub fn tell(&mut self, told: Vec<Told>) -> Result<Vec<u32>, AllocError>
+        ensures next { OnOk result (self.new ≡ links_told told.items self.old) }
+        ensures links { IfOk result (λ ns. ns.items ≡ map (λ t. t.link) told.items) }
         ensures err { OnErr result (self.new ≡ self.old) }
     {
-        let Some(key) = key_of(&self.slab, &self.numbers, key, number) else {
-            return Ok(());
-        };
-        let handle = end.handle();
-        match self.peers.insert(handle, key) {
-            Ok(_) => {}
-            Err(_) => return Err(AllocError),
-        }
-        let link = &mut self.slab[key];
-        link.set_theirs(end, marks);
-        Ok(())
+        self.store.tell(told)
     }
 
-    /// A link more, which the peer offers.
-    fn offer(&mut self, name: Text, end: End, marks: &Marks) -> Result<(), AllocError>
-        requires fit { IsFit (Fate.Offered name end marks.now) self.old }
-        requires made { self.old.made < 2 ^ 31 }
-        ensures next { OnOk result (self.new ≡ links_after (Fate.Offered name end marks.now) self.old) }
-        ensures err { OnErr result (self.new ≡ self.old) }
+    /// Takes back what was told last, a thing for each of these links.
+    pub fn untell(&mut self, links: Vec<u32>)
+        ensures { (ts : List Telling) (ls : LinksView) → links.items ≡ map (λ t. t.link) ts → self.old ≡ links_told ts ls → self.new ≡ ls }
     {
-        self.slab.reserve(1)?;
-        let key = self.slab.vacant_key();
-        let handle = end.handle();
-        match self.peers.insert(handle, key) {
-            Ok(_) => {}
-            Err(_) => return Err(AllocError),
-        }
-        match self.numbers.insert(self.made, key) {
-            Ok(_) => {}
-            Err(_) => {
-                self.peers.remove(&handle);
-                return Err(AllocError);
-            }
-        }
-        let link = Link::offered(self.alloc, self.made, name, end, marks);
-        self.slab.insert_reserved(link);
-        self.made += 1;
-        Ok(())
-    }
-
-    /// A link more, which we ask for.
-    fn ask(&mut self, name: Text, end: End, marks: &Marks) -> Result<(), AllocError>
-        requires made { self.old.made < 2 ^ 31 }
-        ensures next { OnOk result (self.new ≡ links_after (Fate.Asked name end marks.now) self.old) }
-        ensures err { OnErr result (self.new ≡ self.old) }
-    {
-        self.slab.reserve(1)?;
-        let key = self.slab.vacant_key();
-        match self.numbers.insert(self.made, key) {
-            Ok(_) => {}
-            Err(_) => return Err(AllocError),
-        }
-        let link = Link::asked(self.alloc, self.made, name, end, marks);
-        self.slab.insert_reserved(link);
-        self.made += 1;
-        Ok(())
-    }
-
-    /// The link with this number is gone.
-    fn remove(&mut self, key: usize, number: u32)
-        ensures { self.new ≡ record self.old { list = remove_first (has_number number) self.old.list } }
-    {
-        let Some(key) = key_of(&self.slab, &self.numbers, key, number) else {
-            return;
-        };
-        let link = self.slab.remove(key);
-        let handle = link.peer_handle();
-        drop(link);
-        self.numbers.remove(&number);
-        match handle {
-            Some(handle) => {
-                self.peers.remove(&handle);
-            }
-            None => {}
-        }
-    }
-
-    /// A transfer is heard on the link with this number, which has these marks. The key is where it was found.
-    fn hear(
-        &mut self,
-        key: usize,
-        number: u32,
-        marks: &Marks,
-        piece: Piece,
-    ) -> Result<(), AllocError>
-        ensures next { OnOk result (self.new ≡ changed number (with_heard marks.now piece) self.old) }
-        ensures err { OnErr result (self.new ≡ self.old) }
-    {
-        let Some(key) = key_of(&self.slab, &self.numbers, key, number) else {
-            drop(piece);
-            return Ok(());
-        };
-        let link = &mut self.slab[key];
-        link.hear_with(piece, marks)
-    }
-
-    /// All links are gone.
-    fn clear(&mut self)
-        ensures { self.new ≡ record self.old { list = [] } }
-    {
-        self.slab.clear();
-        self.numbers.clear();
-        self.peers.clear();
-    }
-}
-
-impl Links {
-    /// The links become what they are to be. Memory is asked for before anything changes.
-    pub fn meet(&mut self, fate: Fate) -> Result<(), AllocError>
-        requires fit { IsFit fate self.old }
-        requires made { self.old.made < 2 ^ 31 }
-        ensures next { OnOk result (self.new ≡ links_after fate self.old) }
-        ensures err { OnErr result (self.new ≡ self.old) }
-    {
-        match fate {
-            Fate::Stay => Ok(()),
-            Fate::Marked { key, number, marks } => {
-                self.mark(key, number, &marks);
-                Ok(())
-            }
-            Fate::Ours {
-                key,
-                number,
-                end,
-                marks,
-            } => {
-                self.attach(key, number, end, &marks);
-                Ok(())
-            }
-            Fate::Theirs {
-                key,
-                number,
-                end,
-                marks,
-            } => self.answer(key, number, end, &marks),
-            Fate::Asked { name, end, marks } => self.ask(name, end, &marks),
-            Fate::Offered { name, end, marks } => self.offer(name, end, &marks),
-            Fate::Left { key, number } => {
-                self.leave(key, number);
-                Ok(())
-            }
-            Fate::Taken { key, number } => {
-                self.take(key, number);
-                Ok(())
-            }
-            Fate::Learnt { key, number } => {
-                self.learn(key, number);
-                Ok(())
-            }
-            Fate::Heard {
-                key,
-                number,
-                marks,
-                piece,
-            } => self.hear(key, number, &marks, piece),
-            Fate::Gone { key, number } => {
-                self.remove(key, number);
-                Ok(())
-            }
-            Fate::AllGone => {
-                self.clear();
-                Ok(())
-            }
-        }
-    }
-}
-
-/// What stands under the key, if there is one.
-fn standing(slab: &Slab<Link>, key: Option<usize>) -> Option<Found<'_>>
-    ensures { option_map found_link result ≡ look slab.now key }
-{
-    let key = key?;
-    let link = slab.get(key)?;
-    Some(Found { key, link })
-}
-
-/// The key of the link with this number, which mostly is the one at which it was found.
-fn key_of(
-    slab: &Slab<Link>,
-    numbers: &BTreeMap<u32, usize>,
-    key: usize,
-    number: u32,
-) -> Option<usize>
-    requires { IsKnown slab.now numbers.now }
-    ensures { result ≡ get nat_cmp numbers.now number }
-{
-    if stands_at(slab, key, number) {
-        return Some(key);
-    }
-    numbers.get(&number).copied()
-}
-
-fn stands_at(slab: &Slab<Link>, key: usize, number: u32) -> bool
-    ensures { result ≡ stands_at slab.now key number }
-{
-    match slab.get(key) {
-        Some(link) => link.number == number,
-        None => false,
+        self.store.untell(links);
     }
 }

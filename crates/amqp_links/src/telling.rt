@@ -5,10 +5,11 @@ ghost use Rattle.std.specs.Prelude.{◌++◌};
 ghost use Rattle.std.specs.BTreeMap.{get};
 ghost use Rattle.std.specs.Ordering.{nat_cmp};
 ghost use Rattle.amqp_links.specs.Fate.{changed, links_told, with_one_told, without_last_told};
+ghost use Rattle.amqp_links.specs.Index.{IsIndexedAlike};
 ghost use Rattle.amqp_links.specs.Links.{AreNumbered, LinksView};
 
 use crate::link::Link;
-use crate::links::Links;
+use crate::store::Store;
 use amqp_deliveries::Telling as Told;
 use std::alloc::AllocError;
 use std::collections::BTreeMap;
@@ -41,7 +42,7 @@ fn key_at(numbers: &BTreeMap<u32, usize>, number: u32) -> Option<usize>
     numbers.get(&number).copied()
 }
 
-impl Links {
+impl Store {
     /// One thing more is told.
     fn tell_one(&mut self, telling: Told) -> Result<(), AllocError>
         ensures next { OnOk result (self.new ≡ changed telling.link (with_one_told telling) self.old) }
@@ -83,8 +84,9 @@ impl Links {
     }
 
     /// Takes back what was told last, a thing for each of these links.
-    pub fn untell(&mut self, mut links: Vec<u32>)
-        ensures { (ts : List Telling) (ls : LinksView) → links.items ≡ map (λ t. t.link) ts → self.old ≡ links_told ts ls → self.new ≡ ls }
+    pub(crate) fn untell(&mut self, mut links: Vec<u32>)
+        ensures alike { IsIndexedAlike self.old self.new }
+        ensures back { (ts : List Telling) (ls : LinksView) → links.items ≡ map (λ t. t.link) ts → self.old ≡ links_told ts ls → self.new ≡ ls }
     {
         while let Some(number) = links.pop() {
             self.untell_one(number);
@@ -93,7 +95,7 @@ impl Links {
 
     /// What is told of deliveries waits on their links: each thing on the link that it names. It gives the numbers of these links, by which
     /// it can be taken back. Where memory is refused, nothing has changed.
-    pub fn tell(&mut self, told: Vec<Told>) -> Result<Vec<u32>, AllocError>
+    pub(crate) fn tell(&mut self, told: Vec<Told>) -> Result<Vec<u32>, AllocError>
         ensures next { OnOk result (self.new ≡ links_told told.items self.old) }
         ensures links { IfOk result (λ ns. ns.items ≡ map (λ t. t.link) told.items) }
         ensures err { OnErr result (self.new ≡ self.old) }

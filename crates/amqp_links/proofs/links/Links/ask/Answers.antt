@@ -1,34 +1,22 @@
 use Rattle.std.proofs.Common.{refl}
-use Rattle.amqp_links.proofs.Offered.{list-added, stored-same, kept-vacant, kept-updates}
-use Rattle.amqp_links.proofs.Asked.{stored-asked}
+use Rattle.amqp_rules.specs.View.{new_link}
+use Rattle.amqp_links.specs.Credits.{role_of}
+use Rattle.amqp_links.specs.Fate.{with_ours}
+use Rattle.amqp_links.proofs.Indexing.{asked-indexed, back-indexed, reserved-indexed}
 use Rattle.amqp_links.proofs.links.Links.ask.Goals as goal
 
-pub invariant_of-self : goal.invariant_of-self
-invariant_of-self c =
-    stored-same c.self.inside.slab c.reserve.new.self c.self.inside.numbers c.self.inside.peers c.self.inside.numbers c.self.inside.peers c.self.inside.made c.self.invariant c.reserve.ensures.rest_kept refl (λ h. refl)
+pub invariant_of-self-in-Ok : goal.invariant_of-self-in-Ok
+invariant_of-self-in-Ok c =
+    let fit = rw (← c.self.view_is) at c.requires.fit in
+    rw c.in-Ok.ensures.next
+    (asked-indexed c.self.inside.names c.put.new.self c.reserve.new.self c.take.new.self c.self.inside.store
+    (with_ours c.args.end c.args.marks.now (new_link c.self.inside.store.made (role_of c.args.marks.now.credit) c.args.name)) c.args.end
+    (reserved-indexed c.self.inside.names c.self.inside.handles c.reserve.new.self c.self.inside.store c.self.invariant c.in_ok-reserve.ensures.handled c.in_ok-reserve.ensures.next)
+    c.rising.ensures refl fit (rw c.made-number.ensures at c.in_ok-put.ensures.ok) c.take.ensures.handled c.take.ensures.low)
 
 pub invariant_of-self-in-Err : goal.invariant_of-self-in-Err
 invariant_of-self-in-Err c =
-    stored-same c.self.inside.slab c.reserve.new.self c.self.inside.numbers c.self.inside.peers c.insert.new.self c.self.inside.peers c.self.inside.made c.self.invariant c.reserve.ensures.rest_kept
-    c.in-Err.ensures.err (λ h. refl)
-
-pub invariant_of-self-2 : goal.invariant_of-self-2
-invariant_of-self-2 c =
-    stored-asked c.self.inside.slab c.insert_reserved.new.self c.self.inside.numbers c.self.inside.peers c.insert.new.self c.self.inside.made c.vacant_key-key.result
-    c.asked-link.result c.self.invariant
-    (kept-vacant c.self.inside.slab c.reserve.new.self c.vacant_key-key.result c.reserve.ensures.rest_kept c.vacant_key-key.ensures.vacant)
-    (kept-updates c.self.inside.slab c.reserve.new.self c.insert_reserved.new.self c.insert_reserved.result c.vacant_key-key.result c.asked-link.result c.reserve.ensures.rest_kept
-    c.insert_reserved.ensures.key c.vacant_key-key.ensures.value c.insert_reserved.ensures.updates)
-    (rw c.asked-link.ensures refl) (rw c.asked-link.ensures refl) c.in-Ok.ensures.updates c.in-Ok.ensures.entries
-
-pub returns-clause-next : goal.returns-clause-next
-returns-clause-next c =
-    rw (
-      ← c.self.view_is,
-      list-added c.self.inside.slab c.insert_reserved.new.self c.self.inside.numbers c.self.inside.peers c.insert.new.self c.self.inside.made c.vacant_key-key.result c.asked-link.result c.self.invariant
-          (kept-vacant c.self.inside.slab c.reserve.new.self c.vacant_key-key.result c.reserve.ensures.rest_kept c.vacant_key-key.ensures.vacant)
-          (kept-updates c.self.inside.slab c.reserve.new.self c.insert_reserved.new.self c.insert_reserved.result c.vacant_key-key.result c.asked-link.result c.reserve.ensures.rest_kept
-          c.insert_reserved.ensures.key c.vacant_key-key.ensures.value c.insert_reserved.ensures.updates)
-          c.in-Ok.ensures.entries,
-      c.asked-link.ensures,
-    ) refl
+    rw c.in-Err.ensures.err
+    (back-indexed c.self.inside.names c.put.new.self c.remove.new.self c.reserve.new.self c.self.inside.store c.args.name
+    (reserved-indexed c.self.inside.names c.self.inside.handles c.reserve.new.self c.self.inside.store c.self.invariant c.in_ok-reserve.ensures.handled c.in_ok-reserve.ensures.next)
+    c.rising.ensures (rw c.made-number.ensures at c.in_ok-put.ensures.ok) (rw (c.made-number.ensures, c.in-Err.ensures.name) at c.remove.ensures))

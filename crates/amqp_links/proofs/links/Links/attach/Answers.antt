@@ -1,26 +1,18 @@
-use Rattle.std.proofs.Common.{refl}
+use Rattle.std.proofs.Common.{refl, sym}
 use Rattle.amqp_links.specs.Fate.{with_ours}
-use Rattle.amqp_links.proofs.Written.{there-some, write-stored, write-changes, unchanged}
+use Rattle.amqp_links.specs.Marks.{found_link}
+use Rattle.amqp_links.proofs.Indexing.{unchanged-without, attached-indexed, reserved-indexed}
 use Rattle.amqp_links.proofs.links.Links.attach.Goals as goal
 
-pub returns-in_default : goal.returns-in_default
-returns-in_default c =
-    rw (← c.self.view_is, unchanged c.self.inside.slab c.self.inside.numbers c.self.inside.peers c.self.inside.made c.args.number (with_ours c.args.end c.args.marks.now) c.self.invariant (rw (← c.key_of.ensures) c.in_default.is)) refl
+pub returns-in_default-clause-next : goal.returns-in_default-clause-next
+returns-in_default-clause-next c =
+    rw (← c.self.view_is, unchanged-without c.args.number (with_ours c.args.end c.args.marks.now) c.self.inside.store.list (sym (rw c.in_default.is at c.by_number.ensures))) refl
 
-pub index_mut-link-requires : goal.index_mut-link-requires
-index_mut-link-requires c =
-    there-some c.self.inside.slab c.self.inside.numbers c.self.inside.peers c.self.inside.made c.in-Some.key c.args.number c.self.invariant (rw (← c.key_of.ensures) c.in-Some.is)
-
-pub invariant_of-self : goal.invariant_of-self
-invariant_of-self c =
-    write-stored c.self.inside.slab c.self.inside.numbers c.self.inside.peers c.self.inside.made c.in-Some.key c.index_mut-link.result.now _ c.self.invariant c.index_mut-link.ensures.value (rw c.set_ours.ensures refl) (rw c.set_ours.ensures refl)
-
-pub returns : goal.returns
-returns c =
-    rw (
-      ← c.self.view_is,
-      c.set_ours.ensures,
-      write-changes c.self.inside.slab c.self.inside.numbers c.self.inside.peers c.self.inside.made c.in-Some.key c.args.number c.index_mut-link.result.now
-          (with_ours c.args.end c.args.marks.now c.index_mut-link.result.now) (with_ours c.args.end c.args.marks.now)
-          c.self.invariant (rw (← c.key_of.ensures) c.in-Some.is) c.index_mut-link.ensures.value refl refl refl,
-    ) refl
+pub invariant_of-self-2 : goal.invariant_of-self-2
+invariant_of-self-2 c =
+    let fit = rw (← c.self.view_is) at c.requires.fit in
+    let found = sym c.in-Some.ensures in
+    rw c.attach.ensures
+    (attached-indexed c.self.inside.names c.reserve.new.self c.take.new.self c.self.inside.store c.args.number (found_link c.in-Some.found) c.args.end c.args.marks.now
+    (reserved-indexed c.self.inside.names c.self.inside.handles c.reserve.new.self c.self.inside.store c.self.invariant c.in_ok-reserve.ensures.handled c.in_ok-reserve.ensures.next)
+    c.rising.ensures found (fit.1 (found_link c.in-Some.found) found) fit.0 c.take.ensures.handled c.take.ensures.low)

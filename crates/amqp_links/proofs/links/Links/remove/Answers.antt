@@ -1,46 +1,25 @@
-use Rattle.std.proofs.Common.{◌≡◌, Some, refl}
-use Rattle.std.specs.Ordering.{nat_cmp}
-use Rattle.std.specs.BTreeMap.{get}
-use Rattle.amqp_links.proofs.Written.{there-some, kept-whole}
-use Rattle.amqp_links.proofs.Removed.{stored-without, list-without, handle-out, no-handle-out}
+use Rattle.std.proofs.Common.{sym}
+use Rattle.amqp_links.proofs.Indexing.{gone-indexed, gone-room, left-indexed, whole-indexed, numbered-within}
 use Rattle.amqp_links.proofs.links.Links.remove.Goals as goal
-
-pub returns-in_default : goal.returns-in_default
-returns-in_default c =
-    rw (← c.self.view_is, kept-whole c.self.inside.slab c.self.inside.numbers c.self.inside.peers c.self.inside.made c.args.number c.self.invariant (rw (← c.key_of.ensures) c.in_default.is)) refl
-
-pub remove-link-requires : goal.remove-link-requires
-remove-link-requires c =
-    there-some c.self.inside.slab c.self.inside.numbers c.self.inside.peers c.self.inside.made c.in-Some.key c.args.number c.self.invariant (rw (← c.key_of.ensures) c.in-Some.is)
 
 pub invariant_of-self : goal.invariant_of-self
 invariant_of-self c =
-    let k : get nat_cmp c.self.inside.numbers c.args.number ≡ Some c.in-Some.key = rw (← c.key_of.ensures) c.in-Some.is in
-    stored-without c.self.inside.slab c.remove-link.new.self c.self.inside.numbers c.self.inside.peers c.remove.new.self c.remove-in-Some-handle.new.self c.self.inside.made c.in-Some.key c.args.number
-    c.remove-link.result c.self.invariant k c.remove-link.ensures.value c.remove-link.ensures.updates c.remove.ensures.updates c.remove.ensures.entries
-    (handle-out c.self.inside.peers c.remove-in-Some-handle.new.self c.remove-link.result c.in-Some-handle.handle (rw (← c.peer_handle-handle.ensures) c.in-Some-handle.is) c.remove-in-Some-handle.ensures.updates)
+    rw c.in_default.ensures.list (whole-indexed c.self.inside.names c.self.inside.handles c.self.inside.store c.args.number c.self.invariant (sym c.in_default.ensures.link))
 
-pub invariant_of-self-in-None : goal.invariant_of-self-in-None
-invariant_of-self-in-None c =
-    let k : get nat_cmp c.self.inside.numbers c.args.number ≡ Some c.in-Some.key = rw (← c.key_of.ensures) c.in-Some.is in
-    stored-without c.self.inside.slab c.remove-link.new.self c.self.inside.numbers c.self.inside.peers c.remove.new.self c.self.inside.peers c.self.inside.made c.in-Some.key c.args.number
-    c.remove-link.result c.self.invariant k c.remove-link.ensures.value c.remove-link.ensures.updates c.remove.ensures.updates c.remove.ensures.entries
-    (no-handle-out c.self.inside.peers c.remove-link.result (rw (← c.peer_handle-handle.ensures) c.in-None.is))
+pub give-requires : goal.give-requires
+give-requires c =
+    gone-room c.self.inside.names c.self.inside.handles c.self.inside.store c.args.number c.in-Some.link c.self.invariant (sym c.in-Some.ensures.link) (rw (← c.is_ours.ensures) c.if-is_ours.true)
 
-pub returns-in-Some-handle : goal.returns-in-Some-handle
-returns-in-Some-handle c =
-    let k : get nat_cmp c.self.inside.numbers c.args.number ≡ Some c.in-Some.key = rw (← c.key_of.ensures) c.in-Some.is in
-    rw (
-      ← c.self.view_is,
-      list-without c.self.inside.slab c.remove-link.new.self c.self.inside.numbers c.self.inside.peers c.remove.new.self c.self.inside.made c.in-Some.key c.args.number
-          c.remove-link.result c.self.invariant k c.remove-link.ensures.value c.remove-link.ensures.updates c.remove.ensures.entries,
-    ) refl
+pub invariant_of-self-then-is_ours : goal.invariant_of-self-then-is_ours
+invariant_of-self-then-is_ours c =
+    rw c.in-Some.ensures.list
+    (gone-indexed c.self.inside.names c.remove-2.new.self c.self.inside.handles c.give.new.self c.self.inside.store c.args.number c.our_handle.result c.in-Some.link c.self.invariant
+    (numbered-within c.self.inside.store.list 0 c.self.inside.store.made c.rising.ensures) (sym c.in-Some.ensures.link) (rw (← c.is_ours.ensures) c.if-is_ours.true)
+    c.our_handle.ensures (rw c.name.ensures at c.remove-2.ensures) c.give.ensures.handled c.give.ensures.next)
 
-pub returns-in-None : goal.returns-in-None
-returns-in-None c =
-    let k : get nat_cmp c.self.inside.numbers c.args.number ≡ Some c.in-Some.key = rw (← c.key_of.ensures) c.in-Some.is in
-    rw (
-      ← c.self.view_is,
-      list-without c.self.inside.slab c.remove-link.new.self c.self.inside.numbers c.self.inside.peers c.remove.new.self c.self.inside.made c.in-Some.key c.args.number
-          c.remove-link.result c.self.invariant k c.remove-link.ensures.value c.remove-link.ensures.updates c.remove.ensures.entries,
-    ) refl
+pub invariant_of-self-else-is_ours : goal.invariant_of-self-else-is_ours
+invariant_of-self-else-is_ours c =
+    rw c.in-Some.ensures.list
+    (left-indexed c.self.inside.names c.remove-2.new.self c.self.inside.handles c.self.inside.store c.args.number c.in-Some.link c.self.invariant
+    (numbered-within c.self.inside.store.list 0 c.self.inside.store.made c.rising.ensures) (sym c.in-Some.ensures.link) (rw (← c.is_ours.ensures) c.if-is_ours.false)
+    (rw c.name.ensures at c.remove-2.ensures))

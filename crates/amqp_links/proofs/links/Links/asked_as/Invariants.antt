@@ -1,6 +1,0 @@
-use Rattle.amqp_links.specs.Scan.{IsAmong}
-use Rattle.amqp_rules.specs.View.{is_asked_as}
-use Rattle.amqp_links.proofs.links.Links.asked_as.Given as goal
-
-abbrev pub invariant-loop-key : goal.invariant-loop-key
-invariant-loop-key l = IsAmong l.self-inside.slab (is_asked_as l.role l.name) l.self.list l.key-iterator

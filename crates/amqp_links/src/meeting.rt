@@ -1,0 +1,154 @@
+//! The links become what a step makes of them.
+ghost use Rattle.std.specs.Prelude.{◌≡◌, ◌<◌, ◌^◌, [], OnOk, OnErr};
+ghost use Rattle.amqp_links.specs.Fate.{IsFit, links_after};
+ghost use Rattle.amqp_links.specs.Links.{LinksView};
+ghost use Rattle.amqp_rules.specs.View.{has_number, remove_first};
+
+use crate::end::End;
+use crate::fate::Fate;
+use crate::links::Links;
+use crate::marks::Marks;
+use amqp_types::Text;
+use std::alloc::AllocError;
+
+impl Links {
+    /// Our attach of the link with this number was sent.
+    fn attach(&mut self, number: u32, end: End, marks: &Marks) -> Result<(), AllocError>
+        requires fit { IsFit (Fate.Ours 0 number end marks.now) self.old }
+        requires made { self.old.made < 2 ^ 31 }
+        ensures next { OnOk result (self.new ≡ links_after (Fate.Ours 0 number end marks.now) self.old) }
+        ensures err { OnErr result (self.new ≡ self.old) }
+    {
+        self.store.rising();
+        let Some(found) = self.store.by_number(number) else {
+            return Ok(());
+        };
+        let key = found.key;
+        self.handles.reserve()?;
+        self.handles.take();
+        self.store.attach(key, number, end, marks);
+        Ok(())
+    }
+
+    /// A link more, which the peer offers.
+    fn offer(&mut self, name: Text, end: End, marks: &Marks) -> Result<(), AllocError>
+        requires fit { IsFit (Fate.Offered name end marks.now) self.old }
+        requires made { self.old.made < 2 ^ 31 }
+        ensures next { OnOk result (self.new ≡ links_after (Fate.Offered name end marks.now) self.old) }
+        ensures err { OnErr result (self.new ≡ self.old) }
+    {
+        self.store.rising();
+        let number = self.store.made();
+        self.names.put(&name, number)?;
+        match self.store.offer(name, end, marks) {
+            Ok(()) => Ok(()),
+            Err(name) => {
+                self.names.remove(&name, number);
+                Err(AllocError)
+            }
+        }
+    }
+
+    /// A link more, which we ask for.
+    fn ask(&mut self, name: Text, end: End, marks: &Marks) -> Result<(), AllocError>
+        requires fit { IsFit (Fate.Asked name end marks.now) self.old }
+        requires made { self.old.made < 2 ^ 31 }
+        ensures next { OnOk result (self.new ≡ links_after (Fate.Asked name end marks.now) self.old) }
+        ensures err { OnErr result (self.new ≡ self.old) }
+    {
+        self.store.rising();
+        let number = self.store.made();
+        self.handles.reserve()?;
+        self.names.put(&name, number)?;
+        match self.store.ask(name, end, marks) {
+            Ok(()) => {
+                self.handles.take();
+                Ok(())
+            }
+            Err(name) => {
+                self.names.remove(&name, number);
+                Err(AllocError)
+            }
+        }
+    }
+
+    /// The link with this number is gone.
+    fn remove(&mut self, key: usize, number: u32)
+        ensures { self.new ≡ record self.old { list = remove_first (has_number number) self.old.list } }
+    {
+        self.store.rising();
+        let Some(link) = self.store.remove(key, number) else {
+            return;
+        };
+        self.names.remove(link.name(), number);
+        if link.is_ours() {
+            self.handles.give(link.our_handle());
+        }
+        drop(link);
+    }
+
+    /// All links are gone.
+    fn clear(&mut self)
+        ensures { self.new ≡ record self.old { list = [] } }
+    {
+        self.store.clear();
+        self.names.clear();
+        self.handles.clear();
+    }
+
+    /// The links become what they are to be. Memory is asked for before anything changes.
+    pub fn meet(&mut self, fate: Fate) -> Result<(), AllocError>
+        requires fit { IsFit fate self.old }
+        requires made { self.old.made < 2 ^ 31 }
+        ensures next { OnOk result (self.new ≡ links_after fate self.old) }
+        ensures err { OnErr result (self.new ≡ self.old) }
+    {
+        match fate {
+            Fate::Stay => Ok(()),
+            Fate::Marked { key, number, marks } => {
+                self.store.mark(key, number, &marks);
+                Ok(())
+            }
+            Fate::Ours {
+                key: _,
+                number,
+                end,
+                marks,
+            } => self.attach(number, end, &marks),
+            Fate::Theirs {
+                key,
+                number,
+                end,
+                marks,
+            } => self.store.answer(key, number, end, &marks),
+            Fate::Asked { name, end, marks } => self.ask(name, end, &marks),
+            Fate::Offered { name, end, marks } => self.offer(name, end, &marks),
+            Fate::Left { key, number } => {
+                self.store.leave(key, number);
+                Ok(())
+            }
+            Fate::Taken { key, number } => {
+                self.store.take(key, number);
+                Ok(())
+            }
+            Fate::Learnt { key, number } => {
+                self.store.learn(key, number);
+                Ok(())
+            }
+            Fate::Heard {
+                key,
+                number,
+                marks,
+                piece,
+            } => self.store.hear(key, number, &marks, piece),
+            Fate::Gone { key, number } => {
+                self.remove(key, number);
+                Ok(())
+            }
+            Fate::AllGone => {
+                self.clear();
+                Ok(())
+            }
+        }
+    }
+}
