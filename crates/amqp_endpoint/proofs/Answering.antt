@@ -70,6 +70,5 @@ answering-plan steps s st b a p none answered k is =
         short = subst (λ (x : Option SendingView). IsShort (steps + 1) x) (sym sends) (shorter steps (size_so_far l.sending) short);
         counted = counted-still steps s s st change.Stay tt k refl refl refl refl;
         alone = tt;
-        written = tt;
       };
     }

@@ -61,7 +61,6 @@ plan-attached steps s st a w k t = rw (t.number, t.handle) (by w.met t.meets)
             short = subst (λ (x : Option SendingView). IsShort (steps + 1) x) (sym none) (omega arith);
             counted = counted-still steps s s st Stay tt k refl refl refl refl;
             alone = tt;
-            written = t.written;
           };
         }
     by (Some p) (on, first, number, marks) =
@@ -79,6 +78,5 @@ plan-attached steps s st a w k t = rw (t.number, t.handle) (by w.met t.meets)
             short = subst (λ (x : Option SendingView). IsShort (steps + 1) x) (sym same) (shorter steps (size_so_far on.sending) (short-found steps (is_offered_as a.role a.name) st.links.list on k.short first.found));
             counted = counted-still steps s s st Stay tt k refl refl refl refl;
             alone = tt;
-            written = t.written;
           };
         }

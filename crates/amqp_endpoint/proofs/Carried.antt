@@ -64,45 +64,18 @@ counted_sent steps s st change begins k =
 
 -- # Plans
 
--- an operation of a link that is taken is planned, and sends a frame with the payload
-pub plan_carried : (v : View) (link key : ℕ) (rows : LinkView → List (Bool × Refusal)) (change : LinkView → LinkView) (o : OnLink) (session : Session)
-    (body : LinkView → Option Performative) (said : Option Performative) (payload : List ℕ) (given : Given) (r : Result Plan Refusal)
-    → IsTaken v link rows change o → session.max_frame ≡ v.max_frame
-    → ((l : LinkView) → o.handle ≡ handle_of l.ours → said ≡ body l)
-    → IsCounted v Stay session
-    → IsShort (v.steps + 1) o.marks.sending
-    → MatchResult r
-    (λ p. (frame_refused session.max_frame said payload ≡ None) × (p ≡ sending_plan session (Marked key link o.marks) Stay said payload given))
-    (λ e. (frame_refused session.max_frame said payload ≡ Some e) ⊎ ((frame_refused session.max_frame said payload ≡ None) × (e ≡ NoMemory)))
-    → Plans NoMemory v (on_link v link (λ l. sends v.max_frame (rows l) (body l) payload given))
-    (view_of (v.steps + 1) session (record (stores_in v) { links = record (links_in v) { list = change_first (has_number link) change v.links } })) r
-plan_carried v link key rows change o session body said payload given (Err e) t m b c short r =
-    let s : said ≡ body t.on = b t.on t.handle in
-    ⊎_elim
-    (λ f. let q : frame_refused v.max_frame (body t.on) payload ≡ Some e = rw (← m, ← s) f in inl (rw (t.mapped, t.found, t.free, q) refl))
-    (λ f. let q : frame_refused v.max_frame (body t.on) payload ≡ None = rw (← m, ← s) f.0 in inr (rw (t.mapped, t.found, t.free, q) refl, f.1))
-    r
-plan_carried v link key rows change o session body said payload given (Ok p) t m b c short r =
-    let s : said ≡ body t.on = b t.on t.handle in
-    let q : frame_refused v.max_frame (body t.on) payload ≡ None = rw (← m, ← s) r.0 in
-    let w : frame_refused v.max_frame said payload ≡ None = rw (← m) r.0 in
-    rw r.1
-    record {
-      due = rw (t.mapped, t.found, t.free, q, s) refl;
-      leaves = rw (change-alike (has_number link) change (with_marks o.marks) v.links t.on t.found (rw t.marks refl)) refl;
-      sound = record { fit = tt; short = short; counted = c; alone = tt; written = w };
-    }
-
 -- a delivery is given up
 pub plan_aborted : (steps : ℕ) (s : Session) (st : StoresView) (link : ℕ) (a : Aborted) (said : Option Performative) (r : Result Plan Refusal) → IsKept steps s st
     → IsAborted (view_of steps s st) link a → said ≡ later_body a.on.handle None (Some true)
     → MatchResult r
     (λ p. (frame_refused s.max_frame said [] ≡ None) × (p ≡ sending_plan (record s { windows = windows_sent s.windows }) (Marked a.on.key link a.on.marks) (Continues Sender a.id None true) said [] Nothing))
-    (λ e. frame_refused s.max_frame said [] ≡ Some e)
+    (λ e. (frame_refused s.max_frame said [] ≡ Some e) ⊎ ((frame_refused s.max_frame said [] ≡ None) × (e ≡ NoMemory)))
     → Plans NoMemory (view_of steps s st) (abort_answer (view_of steps s st) link) (next_abort (view_of steps s st) link) r
 plan_aborted steps s st link a said (Err e) k t b r =
-    let q : frame_refused s.max_frame (later_body (handle_of t.taken.on.ours) None (Some true)) [] ≡ Some e = rw (← t.taken.handle, ← b) r in
-    inl (rw (t.taken.mapped, t.taken.found, t.taken.free, q) refl)
+    ⊎_elim
+    (λ f. let q : frame_refused s.max_frame (later_body (handle_of t.taken.on.ours) None (Some true)) [] ≡ Some e = rw (← t.taken.handle, ← b) f in inl (rw (t.taken.mapped, t.taken.found, t.taken.free, q) refl))
+    (λ f. let q : frame_refused s.max_frame (later_body (handle_of t.taken.on.ours) None (Some true)) [] ≡ None = rw (← t.taken.handle, ← b) f.0 in inr (rw (t.taken.mapped, t.taken.found, t.taken.free, q) refl, f.1))
+    r
 plan_aborted steps s st link a said (Ok p) k t b r =
     let q : frame_refused s.max_frame (later_body (handle_of t.taken.on.ours) None (Some true)) [] ≡ None = rw (← t.taken.handle, ← b) r.0 in
     let h : said ≡ later_body (handle_of t.taken.on.ours) None (Some true) = b ∙ ap (λ n. later_body n None (Some true)) t.taken.handle in
@@ -116,6 +89,5 @@ plan_aborted steps s st link a said (Ok p) k t b r =
         short = subst (λ (x : Option SendingView). IsShort (steps + 1) x) (sym gone) (let e : 0 ≤ (steps + 1) * 2 ^ 64 = omega arith in e);
         counted = counted_sent steps s st (Continues Sender a.id None true) tt k;
         alone = tt;
-        written = r.0;
       };
     }

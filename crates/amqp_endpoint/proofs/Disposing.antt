@@ -4,20 +4,19 @@ use Rattle.std.specs.Prelude.{IsOk, IsTrue, ◌↔◌}
 use Rattle.std.specs.List.{list_any, between}
 use Rattle.std.proofs.lemmas.Bool.{cases_lt}
 use Rattle.std.proofs.lemmas.List.Edits.{length-between}
-use Rattle.amqp_performatives.specs.declared.state.DeliveryState.{DeliveryState}
 use Rattle.amqp_performatives.specs.declared.bodies.Role.{Role}
 use Rattle.amqp_performatives.specs.declared.bodies.Role.TheVariants.{Sender, Receiver}
 use Rattle.amqp_events.specs.Event.{Item, Disposition}
-use Rattle.amqp_events.specs.States as states
+use Rattle.amqp_events.specs.States.{is_fixed}
 use Rattle.amqp_events.specs.Table.{in_range}
 use Rattle.amqp_events.specs.Told.{SentItem}
 use Rattle.amqp_events.specs.Unsettled.{covers}
 use Rattle.amqp_deliveries.specs.declared.change.Change.TheVariants.{Says}
-use Rattle.amqp_deliveries.specs.declared.run.Run.{Run}
+use Rattle.amqp_deliveries.specs.declared.span.Span.{Span}
 use Rattle.amqp_deliveries.specs.Change.{held_items}
 use Rattle.amqp_deliveries.specs.Dispose as tables
 use Rattle.amqp_deliveries.specs.Held.{items_of}
-use Rattle.amqp_deliveries.specs.Run.{IsRun, part}
+use Rattle.amqp_deliveries.specs.Span.{IsSpan, part}
 use Rattle.amqp_deliveries.proofs.Items.{any_item, filter_item}
 use Rattle.amqp_links.specs.declared.fate.Fate.TheVariants as fate
 use Rattle.amqp_rules.specs.declared.refusal.Refusal.{Refusal}
@@ -32,32 +31,32 @@ use Rattle.amqp_endpoint.specs.Stores.{StoresView}
 use Rattle.amqp_endpoint.specs.Plan.{IsPlan, IsKept, tables_in, view_of, sending_plan}
 use Rattle.amqp_endpoint.proofs.Plans.{counted-still}
 
--- # Those that a disposition speaks of stand at the places of a run
+-- # Those that a disposition speaks of stand at the places of a span
 
-spoken : (d : Disposition) (items : List SentItem) (run : Run) → IsRun d.first d.last items run → items_of (part run items) ≡ filter (covers d) (items_of items)
-spoken d items run r = ap items_of r.inside ∙ sym (filter_item (in_range d.first d.last) items)
+spoken : (d : Disposition) (items : List SentItem) (span : Span) → IsSpan d.first d.last items span → items_of (part span items) ≡ filter (covers d) (items_of items)
+spoken d items span r = ap items_of r.inside ∙ sym (filter_item (in_range d.first d.last) items)
 
 some-there : (xs : List SentItem) → 0 < length xs → is_empty (items_of xs) ≡ false
 some-there [] h = absurd (omega arith)
 some-there (x ∷ xs) h = refl
 
-no-place : (items : List SentItem) (run : Run) → run.end ≤ run.start → is_empty (items_of (part run items)) ≡ true
-no-place items run h =
-    let none : run.end - run.start ≡ 0 = omega arith in
-    ap (λ n. is_empty (items_of (take n (drop run.start items)))) none
+no-place : (items : List SentItem) (span : Span) → span.end ≤ span.start → is_empty (items_of (part span items)) ≡ true
+no-place items span h =
+    let none : span.end - span.start ≡ 0 = omega arith in
+    ap (λ n. is_empty (items_of (take n (drop span.start items)))) none
 
 not-true : (b : Bool) → (b ≡ true → ⊥) → b ≡ false
 not-true true h = absurd (h refl)
 not-true false h = refl
 
-pub none_spoken : (d : Disposition) (items : List SentItem) (run : Run) (b : Bool) → IsRun d.first d.last items run → (IsTrue b ↔ (run.end ≤ run.start)) → b ≡ is_empty (filter (covers d) (items_of items))
-none_spoken d items run b r e =
-    let long = length-between items run.start run.end r.places.within in
+pub none_spoken : (d : Disposition) (items : List SentItem) (span : Span) (b : Bool) → IsSpan d.first d.last items span → (IsTrue b ↔ (span.end ≤ span.start)) → b ≡ is_empty (filter (covers d) (items_of items))
+none_spoken d items span b r e =
+    let long = length-between items span.start span.end r.places.within in
     ⊎_elim
-    (λ l. let some : 0 < length (part run items) = omega arith in not-true b (λ t. let k : run.end ≤ run.start = e.0 t in absurd (omega (arith, k, l))) ∙ sym (some-there (part run items) some))
-    (λ l. e.1 l ∙ sym (no-place items run l))
-    (cases_lt run.start run.end)
-    ∙ ap is_empty (spoken d items run r)
+    (λ l. let some : 0 < length (part span items) = omega arith in not-true b (λ t. let k : span.end ≤ span.start = e.0 t in absurd (omega (arith, k, l))) ∙ sym (some-there (part span items) some))
+    (λ l. e.1 l ∙ sym (no-place items span l))
+    (cases_lt span.start span.end)
+    ∙ ap is_empty (spoken d items span r)
 
 none-waits : (xs : List Item) → false ≡ list_any (waits_for_sender Sender) xs
 none-waits [] = refl
@@ -66,22 +65,13 @@ none-waits (x ∷ xs) = none-waits xs
 pub sender_waits : (d : Disposition) (items : List SentItem) → false ≡ list_any (waits_for_sender Sender) (filter (covers d) (items_of items))
 sender_waits d items = none-waits (filter (covers d) (items_of items))
 
-pub receiver_waits : (d : Disposition) (items : List SentItem) (run : Run) (b : Bool) → IsRun d.first d.last items run → b ≡ tables.any_second (part run items)
+pub receiver_waits : (d : Disposition) (items : List SentItem) (span : Span) (b : Bool) → IsSpan d.first d.last items span → b ≡ tables.any_second (part span items)
     → b ≡ list_any (waits_for_sender Receiver) (filter (covers d) (items_of items))
-receiver_waits d items run b r e = e ∙ sym (any_item (waits_for_sender Receiver) (part run items)) ∙ ap (list_any (waits_for_sender Receiver)) (spoken d items run r)
+receiver_waits d items span b r e = e ∙ sym (any_item (waits_for_sender Receiver) (part span items)) ∙ ap (list_any (waits_for_sender Receiver)) (spoken d items span r)
 
-same-fixed : (state local : Option DeliveryState) (i : Item) → tables.is_fixed state (record i { local = local }) ≡ states.is_fixed state (record i { local = local })
-same-fixed None local i = refl
-same-fixed (Some state) None i = refl
-same-fixed (Some state) (Some given) i = refl
-
-fixed-same : (state : Option DeliveryState) (xs : List SentItem) → tables.any_fixed state xs ≡ list_any (states.is_fixed state) (items_of xs)
-fixed-same state [] = refl
-fixed-same state (x ∷ xs) = λ i. same-fixed state x.item.local x.item i || fixed-same state xs i
-
-pub any_fixed_of : (d : Disposition) (items : List SentItem) (run : Run) (b : Bool) → IsRun d.first d.last items run → b ≡ tables.any_fixed d.state (part run items)
-    → b ≡ list_any (states.is_fixed d.state) (filter (covers d) (items_of items))
-any_fixed_of d items run b r e = e ∙ fixed-same d.state (part run items) ∙ ap (list_any (states.is_fixed d.state)) (spoken d items run r)
+pub any_fixed_of : (d : Disposition) (items : List SentItem) (span : Span) (b : Bool) → IsSpan d.first d.last items span → b ≡ tables.any_fixed d.state (part span items)
+    → b ≡ list_any (is_fixed d.state) (filter (covers d) (items_of items))
+any_fixed_of d items span b r e = e ∙ sym (any_item (is_fixed d.state) (part span items)) ∙ ap (list_any (is_fixed d.state)) (spoken d items span r)
 
 -- # The refusals
 
@@ -117,12 +107,12 @@ plan_said steps s st Sender d sent kept k free written e f =
     record {
       due = rw (free, written) refl;
       leaves = refl;
-      sound = record { fit = tt; short = tt; counted = counted-still steps s s st (Says Sender d) tt k refl refl refl refl; alone = refl; written = written };
+      sound = record { fit = tt; short = tt; counted = counted-still steps s s st (Says Sender d) tt k refl refl refl refl; alone = refl };
     }
 plan_said steps s st Receiver d sent kept k free written e f =
     rw (e, f)
     record {
       due = rw (free, written) refl;
       leaves = refl;
-      sound = record { fit = tt; short = tt; counted = counted-still steps s s st (Says Receiver d) tt k refl refl refl refl; alone = refl; written = written };
+      sound = record { fit = tt; short = tt; counted = counted-still steps s s st (Says Receiver d) tt k refl refl refl refl; alone = refl };
     }

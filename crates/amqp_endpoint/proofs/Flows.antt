@@ -21,8 +21,8 @@ use Rattle.amqp_rules.specs.View.{View, LinkView, is_attached, takes_frames, has
 use Rattle.amqp_endpoint.specs.declared.plan.Session.{Session}
 use Rattle.amqp_endpoint.specs.declared.plan.Plan.{Plan}
 use Rattle.amqp_endpoint.specs.Stores.{StoresView}
-use Rattle.amqp_endpoint.specs.Flowing.{session_ahead, session_after, windows_told_by, sends_echo, echo_frame, echo_plan}
-use Rattle.amqp_endpoint.specs.Plan.{AreShort, IsCounted, IsKept, IsPlan, IsShort, IsWritable, Plans, flags_of, plan_reply, view_of}
+use Rattle.amqp_endpoint.specs.Flowing.{session_ahead, session_after, windows_told_by, sends_echo, echo_plan}
+use Rattle.amqp_endpoint.specs.Plan.{AreShort, IsCounted, IsKept, IsPlan, IsShort, Plans, flags_of, plan_reply, view_of}
 use Rattle.amqp_endpoint.proofs.Plans.{change-alike, short-found, shorter}
 use Rattle.amqp_endpoint.proofs.Rows.{expects-same}
 
@@ -67,15 +67,15 @@ planned-echo : (k : ℕ) (s : Session) (st : StoresView) (b : FlowBody) (f : Fat
     → next_flow (view_of k s st) b ≡ view_of (k + 1) (session_after b s) (record { links = links_after f st.links; tables = st.tables })
     → IsFit f st.links → AreShort (k + 1) f
     → MatchResult r
-    (λ p. (p ≡ echo_plan (session_after b s) f (sends_echo s.begin_sent b) (echo_body (session_after b s).windows o)) × IsWritable s.max_frame (echo_frame (sends_echo s.begin_sent b) (echo_body (session_after b s).windows o)))
+    (λ p. p ≡ echo_plan (session_after b s) f (sends_echo s.begin_sent b) (echo_body (session_after b s).windows o))
     (λ e. e ≡ no_memory)
     → Plans no_memory (view_of k s st) (flow_answer (view_of k s st) b) (next_flow (view_of k s st) b) r
 planned-echo k s st b f o (Ok p) i due leaves fit short h =
-    rw h.0
+    rw h
     record {
       due = rw due (ap (λ x. Ok x) (echo-reply (view_of k s st) (session_after b s) f (sends_echo s.begin_sent b) (echo_body (session_after b s).windows o)));
       leaves = leaves;
-      sound = record { fit = fit; short = short; counted = counted-after k s st b i; alone = tt; written = h.1 };
+      sound = record { fit = fit; short = short; counted = counted-after k s st b i; alone = tt };
     }
 planned-echo k s st b f o (Err e) i due leaves fit short h = inr (rw due refl, h)
 
@@ -94,7 +94,7 @@ links-none b o links h = rw h refl
 pub session-flow-plan : (k : ℕ) (s : Session) (st : StoresView) (b : FlowBody) (r : Result Plan Violation) → IsKept k s st
     → takes_frames (flags_of s) ≡ true → b.handle ≡ None → session_ahead s.begin_sent b s.windows ≡ false
     → MatchResult r
-    (λ p. (p ≡ echo_plan (session_after b s) Stay (sends_echo s.begin_sent b) (echo_body (session_after b s).windows None)) × IsWritable s.max_frame (echo_frame (sends_echo s.begin_sent b) (echo_body (session_after b s).windows None)))
+    (λ p. p ≡ echo_plan (session_after b s) Stay (sends_echo s.begin_sent b) (echo_body (session_after b s).windows None))
     (λ e. e ≡ no_memory)
     → Plans no_memory (view_of k s st) (flow_answer (view_of k s st) b) (next_flow (view_of k s st) b) r
 session-flow-plan k s st b r i takes names ahead h =
@@ -148,7 +148,7 @@ passed-behind b l e = rw (left-not_attached l e) refl
 pub passed-flow-plan : (k h : ℕ) (s : Session) (st : StoresView) (b : FlowBody) (l : LinkView) (r : Result Plan Violation) → IsKept k s st
     → takes_frames (flags_of s) ≡ true → b.handle ≡ Some h → IsFirst (has_peer_handle h) st.links.list l → l.left ≡ true → session_ahead s.begin_sent b s.windows ≡ false
     → MatchResult r
-    (λ p. (p ≡ echo_plan (session_after b s) Stay (sends_echo s.begin_sent b) (echo_body (session_after b s).windows None)) × IsWritable s.max_frame (echo_frame (sends_echo s.begin_sent b) (echo_body (session_after b s).windows None)))
+    (λ p. p ≡ echo_plan (session_after b s) Stay (sends_echo s.begin_sent b) (echo_body (session_after b s).windows None))
     (λ e. e ≡ no_memory)
     → Plans no_memory (view_of k s st) (flow_answer (view_of k s st) b) (next_flow (view_of k s st) b) r
 passed-flow-plan k h s st b l r i takes names called left ahead m =
@@ -171,8 +171,7 @@ pub link-flow-plan : (k h key : ℕ) (s : Session) (st : StoresView) (b : FlowBo
     → takes_frames (flags_of s) ≡ true → b.handle ≡ Some h → IsFirst (has_peer_handle h) st.links.list l → session_ahead s.begin_sent b s.windows ≡ false
     → is_ahead_of_link b (Some l) ≡ false → with_marks marks l ≡ flow_link b l → marks.sending ≡ l.sending
     → MatchResult r
-    (λ p. (p ≡ echo_plan (session_after b s) (Marked key l.number marks) (sends_echo s.begin_sent b) (echo_body (session_after b s).windows (Some (flow_link b l))))
-    × IsWritable s.max_frame (echo_frame (sends_echo s.begin_sent b) (echo_body (session_after b s).windows (Some (flow_link b l)))))
+    (λ p. p ≡ echo_plan (session_after b s) (Marked key l.number marks) (sends_echo s.begin_sent b) (echo_body (session_after b s).windows (Some (flow_link b l))))
     (λ e. e ≡ no_memory)
     → Plans no_memory (view_of k s st) (flow_answer (view_of k s st) b) (next_flow (view_of k s st) b) r
 link-flow-plan k h key s st b l marks r i takes names called ahead behind m sending q =

@@ -43,13 +43,13 @@ of-role steps s st b Receiver k takes back =
     record {
       due = rw (takes, back) refl;
       leaves = refl;
-      sound = record { fit = tt; short = tt; counted = counted-still steps s s st (Hears Sender (disposition_of b)) tt k refl refl refl refl; alone = refl; written = tt };
+      sound = record { fit = tt; short = tt; counted = counted-still steps s s st (Hears Sender (disposition_of b)) tt k refl refl refl refl; alone = refl };
     }
 of-role steps s st b Sender k takes back =
     record {
       due = rw (takes, back) refl;
       leaves = λ i. record (next_disposition (view_of steps s st) (record b { role = Sender })) { links = sym (links_untold st.tables.sent st.links.list) i };
-      sound = record { fit = tt; short = tt; counted = counted-still steps s s st (Hears Receiver (disposition_of b)) tt k refl refl refl refl; alone = refl; written = tt };
+      sound = record { fit = tt; short = tt; counted = counted-still steps s s st (Hears Receiver (disposition_of b)) tt k refl refl refl refl; alone = refl };
     }
 
 pub plan_heard : (steps : ℕ) (s : Session) (st : StoresView) (b : DispositionBody) (role : Role) (d : Disposition) (p : Plan) → IsKept steps s st → takes_frames (flags_of s) ≡ true

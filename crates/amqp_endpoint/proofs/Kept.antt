@@ -2,12 +2,14 @@
 use Rattle.std.proofs.Common.{◌≡◌, ◌<◌, ◌≤◌, ℕ, ◌+◌, ◌*◌, ◌^◌, ◌&&◌, not, nat_lt, Bool, true, false, cond, Option, Some, None, List, [], ◌∷◌, ◌++◌, map, arith, refl, ap, ⊎_elim}
 use Rattle.std.proofs.lemmas.Bool.{cases_Bool}
 use Rattle.std.proofs.lemmas.List.{map-append, append-nil}
+use Rattle.std.proofs.lemmas.List.Elements.{All-nil, All-cons}
 use Rattle.std.specs.List.{filter, list_any}
 use Rattle.amqp_flow.specs.Serial.{wire, distance, is_before}
 use Rattle.amqp_performatives.specs.declared.bodies.Role.{Role}
 use Rattle.amqp_performatives.specs.declared.bodies.Role.TheVariants.{Sender, Receiver}
 use Rattle.amqp_events.specs.Event as event
 use Rattle.amqp_events.specs.Event.{Event, Item}
+use Rattle.amqp_events.specs.Laws.{IsPast}
 use Rattle.amqp_events.specs.Unsettled.{ends, begins, added, said_to, next_held}
 use Rattle.amqp_events.specs.Told.{SentItem, added_sent, next_sent, next_sent_held}
 use Rattle.amqp_links.specs.declared.fate.Fate.{Fate}
@@ -20,7 +22,7 @@ use Rattle.amqp_endpoint.specs.declared.plan.Session.{Session}
 use Rattle.amqp_endpoint.specs.declared.plan.Plan.{Plan}
 use Rattle.amqp_deliveries.specs.declared.change.Change.{Change}
 use Rattle.amqp_deliveries.specs.declared.change.Change.TheVariants.{Stay, Begins, Continues, Says, Hears, Leaves, Over}
-use Rattle.amqp_deliveries.specs.Change.{TablesView, AreOlder, held_items, is_tagged_as, tables_after}
+use Rattle.amqp_deliveries.specs.Change.{TablesView, held_items, is_tagged_as, tables_after}
 use Rattle.amqp_endpoint.specs.Stores.{StoresView, IsApt, IsMet, told_after, stores_after}
 use Rattle.amqp_endpoint.specs.Plan.{AreBehind, AreBehindExpected, AreShort, AreShortOn, IsShort, IsAlone, IsAtMostNext, IsBegun, IsCounted, IsDue, IsExpectedNext, IsKept, IsSound, next_id, view_of}
 
@@ -29,9 +31,10 @@ use Rattle.amqp_endpoint.specs.Plan.{AreBehind, AreBehindExpected, AreShort, Are
 before-is : (d : ℕ) → 1 ≤ d → d < 2 ^ 31 → (nat_lt 0 d && nat_lt d (2 ^ 31)) ≡ true
 before-is d h k = grind (arith, h, k)
 
-pub older : (k n : ℕ) (items : List Item) → k < 2 ^ 30 → AreBehind k n items → AreOlder n items
-older k n [] s b = tt
-older k n (i ∷ items) s b = (before-is (distance i.id n) b.0 (let h = b.1 in omega (arith, h, s)), older k n items s b.2)
+pub older : (k n : ℕ) (items : List Item) → k < 2 ^ 30 → AreBehind k n items → IsPast n items
+older k n [] s b = All-nil (λ i. is_before i.id n ≡ true)
+older k n (i ∷ items) s b =
+    All-cons (λ i. is_before i.id n ≡ true) i items (before-is (distance i.id n) b.0 (let h = b.1 in omega (arith, h, s))) (older k n items s b.2)
 
 one-more : (a b : ℕ) → distance a b < 2 ^ 31 → distance a (wire (b + 1)) ≡ distance a b + 1
 one-more a b h = omega (arith, h)
@@ -280,8 +283,8 @@ apt-after k s st f Stay t small i g a = tt
 apt-after k s st f (Begins Sender x) t small i g a = (rw g.0 (older k (next_id s) (held_items Sender st.tables) small i.ours), g.2)
 apt-after k s st f (Begins Receiver x) t small i g a = (from s.expected g.0 i.theirs, g.2)
   where
-    from : (e : Option ℕ) → IsDue x.id e → AreBehindExpected k e st.tables.received → AreOlder x.id st.tables.received
-    from None d b = rw b tt
+    from : (e : Option ℕ) → IsDue x.id e → AreBehindExpected k e st.tables.received → IsPast x.id st.tables.received
+    from None d b = rw b (All-nil (λ i. is_before i.id x.id ≡ true))
     from (Some n) d b = rw d (older k n st.tables.received small b)
 apt-after k s st f (Continues role id state over) t small i g a = tt
 apt-after k s st f (Says role d) t small i g a = a

@@ -34,7 +34,7 @@ plan-left steps s st link error copy w k t same =
     record {
       due = rw (t.mapped, t.found, t.attached, t.written) refl;
       leaves = refl;
-      sound = record { fit = tt; short = tt; counted = counted-still steps s s st (Leaves link) tt k refl refl refl refl; alone = tt; written = t.written };
+      sound = record { fit = tt; short = tt; counted = counted-still steps s s st (Leaves link) tt k refl refl refl refl; alone = tt };
     }
 
 abbrev gone_body : DetachBody → Parting → Option Performative
@@ -49,22 +49,21 @@ plan-gone steps s st b p k t a =
     record {
       due = rw (t.takes, t.first.found, q) refl;
       leaves = rw (t.first.found, t.first.removed) refl;
-      sound = record { fit = tt; short = tt; counted = counted-still steps s s st (Leaves t.on.number) tt k refl refl refl refl; alone = tt; written = tt };
+      sound = record { fit = tt; short = tt; counted = counted-still steps s s st (Leaves t.on.number) tt k refl refl refl refl; alone = tt };
     }
 
 -- and one that is
 pub plan-gone-told : (steps : ℕ) (s : Session) (st : StoresView) (b : DetachBody) (p : Parting) (r : Result Plan Violation) → IsKept steps s st → IsParting (view_of steps s st) b p → p.attached ≡ true
     → MatchResult r
-    (λ plan. (frame_refused s.max_frame (gone_body b p) [] ≡ None) × (plan ≡ sending_plan s (fate.Gone p.key p.number) (Leaves p.number) (gone_body b p) [] (given.Gone p.number)))
+    (λ plan. plan ≡ sending_plan s (fate.Gone p.key p.number) (Leaves p.number) (gone_body b p) [] (given.Gone p.number))
     (λ e. e ≡ no_memory)
     → Plans no_memory (view_of steps s st) (detach_heard_answer (view_of steps s st) b) (next_detach_heard (view_of steps s st) b) r
 plan-gone-told steps s st b p (Ok plan) k t a r =
     let q : is_attached t.on ≡ true = sym t.attached ∙ a in
-    let w : frame_refused s.max_frame (detach_body (handle_of t.on.ours) b.closed None) [] ≡ None = rw t.handle at r.0 in
-    rw (r.1, t.number, t.handle)
+    rw (r, t.number, t.handle)
     record {
       due = rw (t.takes, t.first.found, q) refl;
       leaves = rw (t.first.found, t.first.removed) refl;
-      sound = record { fit = tt; short = tt; counted = counted-still steps s s st (Leaves t.on.number) tt k refl refl refl refl; alone = tt; written = w };
+      sound = record { fit = tt; short = tt; counted = counted-still steps s s st (Leaves t.on.number) tt k refl refl refl refl; alone = tt };
     }
 plan-gone-told steps s st b p (Err e) k t a r = inr (rw (t.takes, t.first.found) refl, r)

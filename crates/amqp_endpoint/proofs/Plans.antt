@@ -70,30 +70,3 @@ pub taken-short : (steps : ℕ) (s : Session) (st : StoresView) (link : ℕ) (ro
 taken-short steps s st link rows change o k t keeps =
     let e : o.marks.sending ≡ t.on.sending = ap (λ l. l.sending) t.marks ∙ keeps t.on in
     subst (λ (x : Option SendingView). IsShort (steps + 1) x) (sym e) (shorter steps (size_so_far t.on.sending) (short-found steps (has_number link) st.links.list t.on k.short t.found))
-
--- an operation of a link that is taken is planned, and sends a frame
-pub plan-on : (v : View) (link key : ℕ) (rows : LinkView → List (Bool × Refusal)) (change : LinkView → LinkView) (o : OnLink) (session : Session)
-    (body : LinkView → Option Performative) (said : Option Performative) (given : Given) (r : Result Plan Refusal)
-    → IsTaken v link rows change o → session.max_frame ≡ v.max_frame
-    → ((l : LinkView) → o.handle ≡ handle_of l.ours → with_marks o.marks l ≡ change l → first_refusal (rows l) ≡ None → said ≡ body l)
-    → IsCounted v Stay session
-    → IsShort (v.steps + 1) o.marks.sending
-    → MatchResult r
-    (λ p. (frame_refused session.max_frame said [] ≡ None) × (p ≡ sending_plan session (Marked key link o.marks) Stay said [] given))
-    (λ e. frame_refused session.max_frame said [] ≡ Some e)
-    → Plans NoMemory v (on_link v link (λ l. sends v.max_frame (rows l) (body l) [] given))
-    (view_of (v.steps + 1) session (record (stores_in v) { links = record (links_in v) { list = change_first (has_number link) change v.links } })) r
-plan-on v link key rows change o session body said given (Err e) t m b c short r =
-    let s : said ≡ body t.on = b t.on t.handle t.marks t.free in
-    let q : frame_refused v.max_frame (body t.on) [] ≡ Some e = rw (← m, ← s) r in
-    inl (rw (t.mapped, t.found, t.free, q) refl)
-plan-on v link key rows change o session body said given (Ok p) t m b c short r =
-    let s : said ≡ body t.on = b t.on t.handle t.marks t.free in
-    let q : frame_refused v.max_frame (body t.on) [] ≡ None = rw (← m, ← s) r.0 in
-    let w : frame_refused v.max_frame said [] ≡ None = rw (← m) r.0 in
-    rw r.1
-    record {
-      due = rw (t.mapped, t.found, t.free, q, s) refl;
-      leaves = rw (change-alike (has_number link) change (with_marks o.marks) v.links t.on t.found (rw t.marks refl)) refl;
-      sound = record { fit = tt; short = short; counted = c; alone = tt; written = w };
-    }

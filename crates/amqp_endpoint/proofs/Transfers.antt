@@ -199,7 +199,7 @@ passed-plan k s st b payload l i takes first left free =
       stays-first (has_number l.number) st.links.list,
       quiet-passed b.delivery_id st.tables.received,
     ) refl)
-    (record { fit = tt; short = tt; counted = moved-on k s st _ Stay i (expected-passed b.delivery_id s.expected) tt; alone = tt; written = tt })
+    (record { fit = tt; short = tt; counted = moved-on k s st _ Stay i (expected-passed b.delivery_id s.expected) tt; alone = tt })
 
 pub free-at : (v w : View) (b : TransferBody) (payload : List ℕ) (l : LinkView) → v ≡ w → first_refusal (transfer_violations w b payload l) ≡ None → first_refusal (transfer_violations v b payload l) ≡ None
 free-at v w b payload l e h = rw e h
@@ -310,7 +310,7 @@ first-plan k key s st b payload l m true i takes first left none free is marks s
       change-alike (has_number l.number) (heard_on b payload) (with_heard m (transferred (rcv_mode l) b payload)) st.links.list l first.numbered (first-heard b payload l m left none marks),
       quiet-settled item st.tables.received,
     ) refl)
-    (record { fit = tt; short = rw sending (shorter k _ (short-found k (has_peer_handle b.handle) st.links.list l i.short first.found)); counted = moved-on k s st _ Stay i d.1 tt; alone = tt; written = tt })
+    (record { fit = tt; short = rw sending (shorter k _ (short-found k (has_peer_handle b.handle) st.links.list l i.short first.found)); counted = moved-on k s st _ Stay i d.1 tt; alone = tt })
 first-plan k key s st b payload l m false i takes first left none free is marks sending =
     let f = first-free (view_of k s st) b payload l free left none in
     let d = due-id s.expected b.delivery_id b refl (or-left (is_none b.delivery_id) (is_none b.delivery_tag) f.named) f.due in
@@ -320,7 +320,7 @@ first-plan k key s st b payload l m false i takes first left none free is marks 
     (none-ended (event.Begins item true) (view_of k s st) (st.tables.received ++ item ∷ []) (one-more item st.tables.received) (in-self st.tables.received (item ∷ [])))
     (first-given b l left none)
     (rw (first.alone (heard_on b payload), change-alike (has_number l.number) (heard_on b payload) (with_heard m (transferred (rcv_mode l) b payload)) st.links.list l first.numbered (first-heard b payload l m left none marks)) refl)
-    (record { fit = tt; short = rw sending (shorter k _ (short-found k (has_peer_handle b.handle) st.links.list l i.short first.found)); counted = moved-on k s st _ (Begins Receiver item) i d.1 (d.0, refl, f.fresh); alone = tt; written = tt })
+    (record { fit = tt; short = rw sending (shorter k _ (short-found k (has_peer_handle b.handle) st.links.list l i.short first.found)); counted = moved-on k s st _ (Begins Receiver item) i d.1 (d.0, refl, f.fresh); alone = tt })
 
 -- # A further transfer of the unfinished delivery
 
@@ -362,4 +362,4 @@ later-plan k key id s st b payload l d m over i takes first left some same free 
     refl
     (rw same (later-given b l d left some))
     (rw (first.alone (heard_on b payload), change-alike (has_number l.number) (heard_on b payload) (with_heard m (transferred (rcv_mode l) b payload)) st.links.list l first.numbered (later-heard b payload l d m left some (marks-same l m marks))) refl)
-    (record { fit = tt; short = rw marks.sending (shorter k _ (short-found k (has_peer_handle b.handle) st.links.list l i.short first.found)); counted = moved-on k s st s.expected (Continues Receiver id b.state over) i (expects-same s.expected) tt; alone = tt; written = tt })
+    (record { fit = tt; short = rw marks.sending (shorter k _ (short-found k (has_peer_handle b.handle) st.links.list l i.short first.found)); counted = moved-on k s st s.expected (Continues Receiver id b.state over) i (expects-same s.expected) tt; alone = tt })

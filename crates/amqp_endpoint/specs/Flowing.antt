@@ -7,10 +7,10 @@ use Rattle.amqp_links.specs.declared.credit.Credit.{Credit}
 use Rattle.amqp_endpoint.specs.declared.plan.Session.{Session}
 use Rattle.amqp_links.specs.declared.fate.Fate.{Fate}
 use Rattle.amqp_endpoint.specs.declared.plan.Plan.{Plan}
-use Rattle.amqp_frames.specs.declared.frame.Frame.{Frame}
 use Rattle.amqp_deliveries.specs.declared.change.Change.TheVariants.{Stay}
 use Rattle.amqp_rules.specs.declared.reply.Given.TheVariants as given
-use Rattle.amqp_rules.specs.Sending.{frame_of}
+use Rattle.amqp_rules.specs.declared.reply.Sent.{Sent}
+use Rattle.amqp_rules.specs.Sending.{sent_of}
 use Rattle.amqp_rules.specs.Flow.{session_part, asks_echo, count_ahead, credit_heard}
 use Rattle.amqp_links.specs.Credits.{role_of, credit_in}
 
@@ -38,9 +38,9 @@ abbrev pub IsCreditAfter : Bool → FlowBody → Credit → Credit → Type 0
 IsCreditAfter ours b c n = (role_of n ≡ role_of c) × (credit_in n ≡ credit_heard (role_of c) ours b (credit_in c))
 
 -- a flow is sent in return, or none
-abbrev pub echo_frame : Bool → FlowBody → Option Frame
-echo_frame true body = Some (frame_of (Some (Flow body)) [])
-echo_frame false body = None
+abbrev pub echo_sent : Bool → FlowBody → Option Sent
+echo_sent true body = Some (sent_of (Some (Flow body)) [])
+echo_sent false body = None
 
 abbrev pub echo_plan : Session → Fate → Bool → FlowBody → Plan
-echo_plan session fate echo body = record { session = session; fate = fate; change = Stay; frame = echo_frame echo body; given = given.Nothing }
+echo_plan session fate echo body = record { session = session; fate = fate; change = Stay; sent = echo_sent echo body; given = given.Nothing }

@@ -1,8 +1,7 @@
 -- A step as it is planned: its reply, and what it leaves.
-use Rattle.std.specs.Prelude.{ℕ, ◌≡◌, ◌≤◌, ◌+◌, ◌*◌, ◌^◌, ◌⊎◌, Bool, Option, Some, None, Result, Ok, Err, IsOk, MatchResult, List, [], ◌∷◌}
+use Rattle.std.specs.Prelude.{ℕ, ◌≡◌, ◌≤◌, ◌+◌, ◌*◌, ◌^◌, ◌⊎◌, Bool, Option, Some, None, Result, Ok, Err, IsOk, MatchResult, List, [], ◌∷◌, option_to_list}
 use Rattle.amqp_flow.specs.Serial.{wire, distance}
 use Rattle.amqp_events.specs.Event.{Item}
-use Rattle.amqp_frames.specs.declared.frame.Frame.{Frame}
 use Rattle.amqp_performatives.specs.declared.performative.Performative.{Performative}
 use Rattle.amqp_performatives.specs.declared.bodies.Role.TheVariants.{Sender, Receiver}
 use Rattle.amqp_links.specs.declared.marks.Marks.{Marks}
@@ -13,7 +12,7 @@ use Rattle.amqp_rules.specs.declared.reply.Sent.{Sent}
 use Rattle.amqp_rules.specs.declared.reply.Given.{Given}
 use Rattle.amqp_rules.specs.View.{View, SessionView, LinkView, SendingView, next_delivery}
 use Rattle.amqp_rules.specs.Carry.{size_so_far}
-use Rattle.amqp_rules.specs.Sending.{frame_of, frame_refused, octets_of}
+use Rattle.amqp_rules.specs.Sending.{sent_of}
 use Rattle.amqp_endpoint.specs.declared.plan.Session.{Session}
 use Rattle.amqp_endpoint.specs.declared.plan.Plan.{Plan}
 use Rattle.amqp_deliveries.specs.declared.change.Change.{Change}
@@ -56,16 +55,12 @@ view_of steps s st =
 
 -- # What a plan answers
 
-abbrev pub sent_frames : Option Frame → List Sent
-sent_frames None = []
-sent_frames (Some f) = record { frame = f; bytes = octets_of f } ∷ []
-
-abbrev pub octets_sent : Option Frame → Option (List ℕ)
+abbrev pub octets_sent : Option Sent → Option (List ℕ)
 octets_sent None = None
-octets_sent (Some f) = Some (octets_of f)
+octets_sent (Some s) = Some s.bytes
 
 abbrev pub plan_reply : Plan → View → Reply
-plan_reply p v = record { sent = sent_frames p.frame; ended = ended_in p.change (tables_in v); given = p.given }
+plan_reply p v = record { sent = option_to_list p.sent; ended = ended_in p.change (tables_in v); given = p.given }
 
 -- # What it leaves
 
@@ -124,17 +119,11 @@ IsAlone f (Says role d) = f ≡ fate.Stay
 IsAlone f (Hears role d) = f ≡ fate.Stay
 IsAlone f _ = Unit {0}
 
--- the frame is one on channel 0 that can be written
-abbrev pub IsWritable : ℕ → Option Frame → Type 0
-IsWritable max None = Unit {0}
-IsWritable max (Some f) = frame_refused max f.body f.payload ≡ None
-
 pub record IsSound (v : View) (p : Plan) : Type 0 where
   pub fit : IsFit p.fate (links_in v)
   pub short : AreShort (v.steps + 1) p.fate
   pub counted : IsCounted v p.change p.session
   pub alone : IsAlone p.fate p.change
-  pub written : IsWritable v.max_frame p.frame
 
 -- the plan of a step that has this answer and leaves this view
 pub record IsPlan {E : Type 0} (v : View) (answer : Result Reply E) (after : View) (p : Plan) : Type 0 where
@@ -154,11 +143,11 @@ Plans no_memory v answer after (Err e) = IsRefused no_memory answer e
 -- # Plans, by what they send
 
 abbrev pub quiet_plan : Session → Fate → Change → Given → Plan
-quiet_plan session fate change given = record { session = session; fate = fate; change = change; frame = None; given = given }
+quiet_plan session fate change given = record { session = session; fate = fate; change = change; sent = None; given = given }
 
 abbrev pub sending_plan : Session → Fate → Change → Option Performative → List ℕ → Given → Plan
 sending_plan session fate change body payload given =
-    record { session = session; fate = fate; change = change; frame = Some (frame_of body payload); given = given }
+    record { session = session; fate = fate; change = change; sent = Some (sent_of body payload); given = given }
 
 -- # What always holds of an endpoint
 

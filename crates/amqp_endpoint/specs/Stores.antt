@@ -3,6 +3,7 @@ use Rattle.std.specs.Prelude.{ℕ, ◌≡◌, Bool, true, false, List, map}
 use Rattle.std.specs.List.{list_any}
 use Rattle.amqp_performatives.specs.declared.bodies.Role.TheVariants.{Sender, Receiver}
 use Rattle.amqp_events.specs.Event as event
+use Rattle.amqp_events.specs.Laws.{IsPast}
 use Rattle.amqp_events.specs.Told.{SentItem}
 use Rattle.amqp_links.specs.declared.fate.Fate.{Fate}
 use Rattle.amqp_links.specs.declared.fate.Fate.TheVariants as fate
@@ -11,7 +12,7 @@ use Rattle.amqp_links.specs.Fate.{IsFit, links_after}
 use Rattle.amqp_rules.specs.PeerDisposition.{told_more}
 use Rattle.amqp_deliveries.specs.declared.change.Change.{Change}
 use Rattle.amqp_deliveries.specs.declared.change.Change.TheVariants.{Stay, Begins, Continues, Says, Hears, Leaves, Over}
-use Rattle.amqp_deliveries.specs.Change.{TablesView, AreOlder, held_items, is_tagged_as, tables_after}
+use Rattle.amqp_deliveries.specs.Change.{TablesView, held_items, is_tagged_as, tables_after}
 
 pub record StoresView : Type 0 where
   pub links : LinksView
@@ -33,7 +34,7 @@ stores_after fate change s = record { links = told_after change s.tables.sent (l
 
 -- a delivery that begins has an id past all that are held, and its tag is not in use on its link; a disposition speaks of no link
 abbrev pub IsApt : Fate → Change → TablesView → Type 0
-IsApt f (Begins role i) t = AreOlder i.id (held_items role t) × (list_any (is_tagged_as i) (held_items role t) ≡ false)
+IsApt f (Begins role i) t = IsPast i.id (held_items role t) × (list_any (is_tagged_as i) (held_items role t) ≡ false)
 IsApt f (Says role d) t = f ≡ fate.Stay
 IsApt f (Hears role d) t = f ≡ fate.Stay
 IsApt f Stay t = Unit {0}

@@ -4,7 +4,7 @@ ghost use Rattle.amqp_endpoint.specs.Plan.{IsSound, octets_sent, plan_reply, pla
 
 use crate::plan::{Plan, Session};
 use crate::reply::Reply;
-use crate::sending::send_all;
+use crate::sending::list_sent;
 use crate::stores::Stores;
 use bytes::Bytes;
 use std::alloc::{AllocError, Global};
@@ -69,7 +69,7 @@ impl Endpoint {
         requires steps { self.old.steps < 2 ^ 30 }
         requires sound { IsSound self.old plan }
         ensures reply { IfOk result (λ both. both.0 ≡ plan_reply plan self.old) }
-        ensures octets { IfOk result (λ both. both.1 ≡ octets_sent plan.frame) }
+        ensures octets { IfOk result (λ both. both.1 ≡ octets_sent plan.sent) }
         ensures next { OnOk result (self.new ≡ planned self.old plan) }
         ensures err { OnErr result (self.new ≡ self.old) }
     {
@@ -77,20 +77,20 @@ impl Endpoint {
             session,
             fate,
             change,
-            frame,
+            sent,
             given,
         } = plan;
         let ended = match self.stores.tables.ended(&change) {
             Ok(ended) => ended,
             Err(e) => {
-                drop(frame);
+                drop(sent);
                 drop(given);
                 drop(change);
                 drop(fate);
                 return Err(e);
             }
         };
-        let (sent, octets) = match send_all(self.alloc, frame, self.session.max_frame) {
+        let (sent, octets) = match list_sent(self.alloc, sent) {
             Ok(both) => both,
             Err(e) => {
                 drop(given);

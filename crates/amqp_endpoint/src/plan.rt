@@ -3,19 +3,19 @@ ghost use Rattle.std.specs.Prelude.{◌≡◌, ◌+◌, ◌⊎◌, [], Some, Non
 ghost use Rattle.amqp_flow.specs.Serial.{wire};
 ghost use Rattle.amqp_endpoint.specs.Plan.{flags_of, quiet_plan, sending_plan};
 ghost use Rattle.amqp_rules.specs.Refusing.{no_memory};
-ghost use Rattle.amqp_rules.specs.Sending.{frame_of, frame_refused};
+ghost use Rattle.amqp_rules.specs.Sending.{frame_refused};
 ghost use Rattle.amqp_rules.specs.View.{awaits_begin, is_ending, is_mapped, may_begin, takes_frames};
 
 use crate::refusal::Refusal;
-use crate::reply::Given;
-use crate::sending::sending_refusal;
+use crate::reply::{Given, Sent};
+use crate::sending::write;
 use crate::violation::{Violation, ViolationKind};
 use amqp_deliveries::Change;
 use amqp_flow::windows::Windows;
-use amqp_frames::{Frame, Performative};
+use amqp_frames::Performative;
 use amqp_links::fate::Fate;
 use bytes::Bytes;
-use std::alloc::AllocError;
+use std::alloc::{AllocError, Global};
 
 /// What a session is besides its links and its deliveries.
 #[derive(Clone, Copy, Debug)]
@@ -43,95 +43,53 @@ pub struct Plan {
     /// What becomes of the links, and of the unsettled deliveries.
     pub(crate) fate: Fate,
     pub(crate) change: Change,
-    /// The frame that is sent.
-    pub(crate) frame: Option<Frame>,
+    /// The frame that is sent, with its octets.
+    pub(crate) sent: Option<Sent>,
     /// What the application is told.
     pub(crate) given: Given,
 }
 
-pub(crate) fn frame_of(body: Option<Performative>, payload: Bytes) -> Option<Frame>
-    ensures { result ≡ Some (frame_of body payload) }
-{
-    Some(Frame {
-        channel: 0,
-        body,
-        payload,
-    })
-}
-
-/// The plan that sends this frame, where a peer takes it that takes frames of `max_frame` octets.
+/// The plan that sends this frame, which has no payload, where a peer takes it that takes frames of `max_frame` octets.
 pub(crate) fn plan_sending(
+    alloc: Global,
     session: Session,
     fate: Fate,
     change: Change,
     body: Option<Performative>,
     given: Given,
 ) -> Result<Plan, Refusal>
-    ensures { MatchResult result (λ p. (frame_refused session.max_frame body [] ≡ None) × (p ≡ sending_plan session fate change body [] given)) (λ e. frame_refused session.max_frame body [] ≡ Some e) }
+    ensures { MatchResult result (λ p. (frame_refused session.max_frame body [] ≡ None) × (p ≡ sending_plan session fate change body [] given)) (λ e. (frame_refused session.max_frame body [] ≡ Some e) ⊎ ((frame_refused session.max_frame body [] ≡ None) × (e ≡ Refusal.NoMemory))) }
 {
-    match sending_refusal(&body, &[], session.max_frame) {
-        Some(refusal) => {
-            drop(body);
+    match write(alloc, body, Bytes::new(), session.max_frame) {
+        Ok(sent) => Ok(Plan {
+            session,
+            fate,
+            change,
+            sent: Some(sent),
+            given,
+        }),
+        Err(refusal) => {
             drop(change);
             drop(fate);
             drop(given);
             Err(refusal)
         }
-        None => Ok(Plan {
-            session,
-            fate,
-            change,
-            frame: frame_of(body, Bytes::new()),
-            given,
-        }),
     }
 }
 
-/// The same of a frame that carries this payload. A handle of the payload is taken once the frame's size is known.
-pub(crate) fn plan_carrying(
-    session: Session,
-    fate: Fate,
-    change: Change,
-    body: Option<Performative>,
-    payload: &Bytes,
-    given: Given,
-) -> Result<Plan, Refusal>
-    ensures { MatchResult result (λ p. (frame_refused session.max_frame body payload.now ≡ None) × (p ≡ sending_plan session fate change body payload.now given)) (λ e. (frame_refused session.max_frame body payload.now ≡ Some e) ⊎ ((frame_refused session.max_frame body payload.now ≡ None) × (e ≡ Refusal.NoMemory))) }
-{
-    let refusal = match sending_refusal(&body, payload, session.max_frame) {
-        Some(refusal) => refusal,
-        None => match payload.clone() {
-            Ok(payload) => {
-                return Ok(Plan {
-                    session,
-                    fate,
-                    change,
-                    frame: frame_of(body, payload),
-                    given,
-                });
-            }
-            Err(_) => Refusal::NoMemory,
-        },
-    };
-    drop(body);
-    drop(change);
-    drop(fate);
-    drop(given);
-    Err(refusal)
-}
-
-/// The plan that answers a heard frame by this one. That the peer takes it is tested for the sake of what the octets are: where it did not,
-/// the frame that was heard would be refused as for want of memory.
+/// The plan that answers a heard frame by this one. Where the peer does not take it, which is tested for the sake of what the octets are, the
+/// frame that was heard is refused as for want of memory.
 pub(crate) fn plan_answering(
+    alloc: Global,
     session: Session,
     fate: Fate,
     change: Change,
     body: Option<Performative>,
     given: Given,
 ) -> Result<Plan, Violation>
-    ensures { MatchResult result (λ p. (frame_refused session.max_frame body [] ≡ None) × (p ≡ sending_plan session fate change body [] given)) (λ e. e ≡ no_memory) }
+    ensures { MatchResult result (λ p. p ≡ sending_plan session fate change body [] given) (λ e. e ≡ no_memory) }
 {
-    match plan_sending(session, fate, change, body, given) {
+    match plan_sending(alloc, session, fate, change, body, given) {
         Ok(plan) => Ok(plan),
         Err(_) => Err(Violation::unlinked(ViolationKind::NoMemory)),
     }
@@ -145,7 +103,7 @@ pub(crate) fn plan_quiet(session: Session, fate: Fate, change: Change, given: Gi
         session,
         fate,
         change,
-        frame: None,
+        sent: None,
         given,
     }
 }

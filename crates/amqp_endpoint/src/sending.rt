@@ -1,31 +1,21 @@
 //! Frames as they are sent: all on channel 0, each with its octets.
-ghost use Rattle.std.specs.Prelude.{◌≡◌, Some, [], ◌∷◌, IfOk, option_map};
-ghost use Rattle.amqp_endpoint.specs.Plan.{octets_sent, sent_frames};
-ghost use Rattle.amqp_rules.specs.Sending.{told, octets_of, frame_refused};
+ghost use Rattle.std.specs.Prelude.{◌≡◌, ◌⊎◌, Some, None, IfOk, MatchResult, [], option_map, option_to_list};
+ghost use Rattle.amqp_endpoint.specs.Plan.{octets_sent};
+ghost use Rattle.amqp_rules.specs.Sending.{told, frame_refused, sent_of};
 
 use crate::refusal::Refusal;
 use crate::reply::Sent;
-use amqp_frames::{Frame, FrameRefusal, Performative, frame_refusal, write_frame};
+use amqp_frames::{Frame, FrameRefusal, Performative, append_frame, frame_refusal};
 use amqp_types::Items;
 use bytes::Bytes;
 use std::alloc::{AllocError, Global};
-
-pub(crate) fn told(fault: FrameRefusal) -> Refusal
-    ensures { result ≡ told fault }
-{
-    match fault {
-        FrameRefusal::NotWritable => Refusal::NotWritable,
-        FrameRefusal::FrameTooBig => Refusal::FrameTooBig,
-        FrameRefusal::NoMemory => Refusal::NoMemory,
-    }
-}
 
 fn told_refusal(fault: Option<FrameRefusal>) -> Option<Refusal>
     ensures { result ≡ option_map told fault }
 {
     match fault {
         None => None,
-        Some(fault) => Some(told(fault)),
+        Some(fault) => Some(Refusal::from(fault)),
     }
 }
 
@@ -40,44 +30,65 @@ pub(crate) fn sending_refusal(
     told_refusal(frame_refusal(0, body, payload, max))
 }
 
-/// The octets of a frame that has some.
-fn octets_of(alloc: Global, frame: &Frame, max: u32) -> Result<Bytes, AllocError>
-    ensures { IfOk result (λ octets. octets ≡ octets_of frame.now) }
+/// The frame with its octets, for a peer that takes frames of `max` octets. Memory is asked for once no other refusal is due.
+pub(crate) fn write(
+    alloc: Global,
+    body: Option<Performative>,
+    payload: Bytes,
+    max: u32,
+) -> Result<Sent, Refusal>
+    ensures { MatchResult result (λ s. (frame_refused max body payload ≡ None) × (s ≡ sent_of body payload)) (λ e. (frame_refused max body payload ≡ Some e) ⊎ ((frame_refused max body payload ≡ None) × (e ≡ Refusal.NoMemory))) }
 {
-    match write_frame(alloc, frame, max) {
-        Ok(octets) => Ok(octets),
-        Err(_) => Err(AllocError),
+    let frame = Frame {
+        channel: 0,
+        body,
+        payload,
+    };
+    let mut octets = Vec::new(alloc);
+    match append_frame(&frame, max, &mut octets) {
+        Ok(()) => match Bytes::from_vec(octets) {
+            Ok(bytes) => Ok(Sent { frame, bytes }),
+            Err(_) => {
+                drop(frame);
+                Err(Refusal::NoMemory)
+            }
+        },
+        Err(fault) => {
+            drop(frame);
+            Err(Refusal::from(fault))
+        }
     }
 }
 
-fn alone(alloc: Global, sent: Sent) -> Result<Items<Sent>, AllocError>
-    ensures { IfOk result (λ items. items ≡ sent ∷ []) }
+/// The same of a frame that carries this payload, of which it takes a handle. Where there is none, what the frame is refused for comes first.
+pub(crate) fn write_sharing(
+    alloc: Global,
+    body: Option<Performative>,
+    payload: &Bytes,
+    max: u32,
+) -> Result<Sent, Refusal>
+    ensures { MatchResult result (λ s. (frame_refused max body payload.now ≡ None) × (s ≡ sent_of body payload.now)) (λ e. (frame_refused max body payload.now ≡ Some e) ⊎ ((frame_refused max body payload.now ≡ None) × (e ≡ Refusal.NoMemory))) }
 {
-    let mut items = Vec::new(alloc);
-    items.push(sent)?;
-    Ok(Items { items })
-}
-
-/// The frame as it is sent, and a handle of its octets.
-fn send(alloc: Global, frame: Frame, max: u32) -> Result<(Items<Sent>, Option<Bytes>), AllocError>
-    ensures { IfOk result (λ both. (both.0 ≡ sent_frames (Some frame)) × (both.1 ≡ octets_sent (Some frame))) }
-{
-    let bytes = octets_of(alloc, &frame, max)?;
-    let handle = bytes.clone()?;
-    let sent = alone(alloc, Sent { frame, bytes })?;
-    Ok((sent, Some(handle)))
+    if let Ok(handle) = payload.clone() {
+        return write(alloc, body, handle, max);
+    }
+    let refusal = sending_refusal(&body, payload, max);
+    drop(body);
+    Err(refusal.unwrap_or(Refusal::NoMemory))
 }
 
 /// The frame that is sent, if there is one, and a handle of its octets.
-pub(crate) fn send_all(
+pub(crate) fn list_sent(
     alloc: Global,
-    frame: Option<Frame>,
-    max: u32,
+    sent: Option<Sent>,
 ) -> Result<(Items<Sent>, Option<Bytes>), AllocError>
-    ensures { IfOk result (λ both. (both.0 ≡ sent_frames frame) × (both.1 ≡ octets_sent frame)) }
+    ensures { IfOk result (λ both. (both.0 ≡ option_to_list sent) × (both.1 ≡ octets_sent sent)) }
 {
-    match frame {
-        None => Ok((Items::new(alloc), None)),
-        Some(frame) => send(alloc, frame, max),
-    }
+    let Some(sent) = sent else {
+        return Ok((Items::new(alloc), None));
+    };
+    let mut items = Vec::with_capacity(alloc, 1)?;
+    let handle = sent.bytes.clone()?;
+    items.push_reserved(sent);
+    Ok((Items { items }, Some(handle)))
 }

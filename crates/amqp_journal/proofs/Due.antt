@@ -10,6 +10,7 @@ use Rattle.amqp_rules.specs.declared.reply.Reply.{Reply}
 use Rattle.amqp_rules.specs.declared.reply.Given.{Given}
 use Rattle.amqp_rules.specs.declared.violation.Violation.{Violation}
 use Rattle.amqp_rules.specs.declared.violation.ViolationKind.TheVariants.{JournalFull as Full}
+use Rattle.amqp_rules.specs.Opened.{no_reply}
 use Rattle.amqp_rules.specs.Refusing.{unlinked, no_memory}
 use Rattle.amqp_rules.specs.View.{View}
 use Rattle.amqp_rules.specs.Answer.{own_answer, heard_answer, next_own, next_heard}
@@ -20,7 +21,7 @@ use Rattle.amqp_laws.specs.declared.entry.Step.{Step}
 use Rattle.amqp_laws.specs.declared.entry.Step.TheVariants.{Own, Heard}
 use Rattle.amqp_laws.specs.Past.{past}
 use Rattle.amqp_laws.specs.At.{at}
-use Rattle.amqp_journal.specs.Log.{Log, own_due, heard_due, logging, Appends, IsRefusal}
+use Rattle.amqp_journal.specs.Log.{Log, opened_due, own_due, heard_due, logging, Appends, IsRefusal}
 use Rattle.amqp_journal.specs.Kept.{IsKept}
 
 not-full : (n limit : ℕ) → n < limit → nat_le limit n ≡ false
@@ -47,6 +48,14 @@ pub heard-full : (l : Log) (f : Frame) → l.config.journal_limit ≤ length l.j
 unfolding heard_due
 heard-full l f full = rw (is-full (length l.journal) l.config.journal_limit full) refl
 
+pub opened-full : (l : Log) → l.config.journal_limit ≤ length l.journal → opened_due l ≡ Err JournalFull
+unfolding opened_due
+opened-full l full = rw (is-full (length l.journal) l.config.journal_limit full) refl
+
+opened-open : (l : Log) → length l.journal < l.config.journal_limit → opened_due l ≡ Ok no_reply
+unfolding opened_due
+opened-open l room = rw (not-full (length l.journal) l.config.journal_limit room) refl
+
 -- ---- what is answered
 
 -- this refusal is due, or one for want of memory
@@ -59,6 +68,9 @@ wanting {E} memory due reply same = inr (subst (λ (x : Result Reply E). IsOk x)
 
 appends : {E : Type 0} (old new : Log) (step : Step) (due : Result Reply E) (reply : Reply) (given : Given) → due ≡ Ok reply → new ≡ logging old step reply → given ≡ reply.given → Appends old step due given new
 appends {E} old new step due reply given same log g = subst (λ (x : Result Reply E). Appends old step x given new) (sym same) (log, g)
+
+pub opened-wanting : (l : Log) → length l.journal < l.config.journal_limit → IsRefusal NoMemory (opened_due l) NoMemory
+opened-wanting l room = wanting NoMemory (opened_due l) no_reply (opened-open l room)
 
 -- ---- of operations
 

@@ -1,4 +1,3 @@
 pub mod UnitLaws
 pub mod Keeping
 pub mod Due
-pub mod Same

@@ -9,6 +9,7 @@ use Rattle.amqp_rules.specs.declared.violation.Violation.{Violation}
 use Rattle.amqp_rules.specs.declared.violation.ViolationKind.TheVariants.{JournalFull as Full}
 use Rattle.amqp_frames.specs.declared.frame.Frame.{Frame}
 use Rattle.amqp_rules.specs.declared.config.Config.{Config}
+use Rattle.amqp_rules.specs.Opened.{no_reply}
 use Rattle.amqp_rules.specs.Refusing.{unlinked}
 use Rattle.amqp_rules.specs.Answer.{own_answer, heard_answer}
 use Rattle.amqp_laws.specs.declared.entry.Entry.{Entry}
@@ -23,6 +24,10 @@ pub record Log : Type 0 where
   pub put : List (ℕ × List ℕ)
   -- how many units were popped
   pub popped : ℕ
+
+-- what is due where the peer's longest frame is told: a full journal refuses it
+unfoldable pub opened_due : Log → Result Reply Refusal
+opened_due l = cond (nat_le l.config.journal_limit (length l.journal)) (Err JournalFull) (Ok no_reply)
 
 -- what is due to an operation: a full journal refuses it, else the view decides
 unfoldable pub own_due : Log → Op → Result Reply Refusal

@@ -11,9 +11,9 @@ ghost use Rattle.amqp_laws.specs.At.{at};
 ghost use Rattle.amqp_laws.specs.Lawful.{IsLawful, NeverWithoutCredit};
 ghost use Rattle.amqp_laws.specs.DeliveryLaws.{AreLeft, NeverTwice, SendsSerials};
 ghost use Rattle.amqp_laws.specs.declared.entry.Step.TheVariants as step;
-ghost use Rattle.amqp_journal.specs.Log.{Log, Appends, IsRefusal, own_due, heard_due, new_log, logging, putting, popping};
+ghost use Rattle.amqp_journal.specs.Log.{Log, Appends, IsRefusal, opened_due, own_due, heard_due, new_log, logging, putting, popping};
 ghost use Rattle.amqp_journal.specs.Planning.{PlansStep};
-ghost use Rattle.amqp_journal.specs.Units.{units, waiting, Stands, given_link, given_id};
+ghost use Rattle.amqp_journal.specs.Units.{units, waiting, Stands, PutWithin, given_link, given_id};
 
 use crate::receipt::Receipt;
 use crate::unit::Unit;
@@ -27,7 +27,7 @@ use amqp_rules::op::Op;
 use amqp_rules::refusal::Refusal;
 use amqp_rules::reply::{Given, Reply};
 use amqp_rules::violation::{Violation, ViolationKind};
-use amqp_types::Items;
+use amqp_types::{Boxed, Items};
 use bytes::Bytes;
 use std::alloc::{AllocError, Global};
 use std::collections::VecDeque;
@@ -110,8 +110,7 @@ impl Logged {
     /// The step Opened: the peer takes frames of so many octets (part 2, 2.7.1). It is refused where the journal is full, and for want of memory.
     pub fn opened(&mut self, max: u32) -> Result<(), Refusal>
         ensures step { OnOk result (self.new ≡ logging self.old (step.Opened max) no_reply) }
-        ensures full { IfErr result (λ e. (e ≡ Refusal.NoMemory) ⊎ ((e ≡ Refusal.JournalFull) × (self.old.config.journal_limit ≤ length self.old.journal))) }
-        ensures room { length self.old.journal < self.old.config.journal_limit → IfErr result (λ e. e ≡ Refusal.NoMemory) }
+        ensures refusal { IfErr result (IsRefusal Refusal.NoMemory (opened_due self.old)) }
         ensures err { OnErr result (self.new ≡ self.old) }
     {
         if self.journal.len() >= self.config.journal_limit as usize {
@@ -174,7 +173,7 @@ impl Logged {
             Ok(plan) => plan,
             Err(violation) => return Err(violation),
         };
-        match frame.clone() {
+        match boxed(*self.journal.allocator(), frame) {
             Ok(copy) => match self.append(Step::Heard(copy), plan) {
                 Ok(given) => Ok(given),
                 Err(_) => Err(Violation::unlinked(ViolationKind::NoMemory)),
@@ -256,12 +255,22 @@ impl Logged {
         self.endpoint.max_frame()
     }
 
-    /// How many units were put out, popped ones included.
+    /// How many units were put out, popped ones included. No more were popped, and each was put at an entry that stands.
     pub fn put_out(&self) -> u64
-        ensures { result ≡ length (units self.now) }
+        ensures count { result ≡ length (units self.now) }
+        ensures within { PutWithin (length self.now.journal) self.now.put }
+        ensures some { self.now.popped ≤ length (units self.now) }
     {
         self.popped + self.waiting.len() as u64
     }
+}
+
+/// A copy of the frame, behind its pointer.
+fn boxed(alloc: Global, frame: &Frame) -> Result<Boxed<Frame>, AllocError>
+    ensures { IfOk result (λ copy. copy ≡ frame.now) }
+{
+    let copy = frame.clone()?;
+    Boxed::new(alloc, copy)
 }
 
 /// Room for one entry and one unit more, and what the step will give.
@@ -337,8 +346,8 @@ fn link_of(given: &Given) -> Option<u32>
         | Given::Attached(link)
         | Given::Gone(link)
         | Given::Ready(link, _) => Some(*link),
-        Given::Taken(taken) => Some(taken.link),
-        Given::Learned(learned) => Some(learned.link),
+        Given::Taken(taken) => Some(taken.get().link),
+        Given::Learned(learned) => Some(learned.get().link),
         Given::Delivery(_) | Given::Nothing => None,
     }
 }
@@ -348,8 +357,8 @@ fn id_of(given: &Given) -> Option<u32>
 {
     match given {
         Given::Delivery(id) | Given::Ready(_, id) => Some(*id),
-        Given::Taken(taken) => Some(taken.id),
-        Given::Learned(learned) => Some(learned.id),
+        Given::Taken(taken) => Some(taken.get().id),
+        Given::Learned(learned) => Some(learned.get().id),
         Given::Link(_) | Given::Offered(_) | Given::Attached(_) | Given::Gone(_) | Given::Nothing =>
             None,
     }

@@ -72,6 +72,7 @@ impl Endpoint {
             marks: on.marks,
         };
         plan_sending(
+            self.alloc,
             sent(self.session),
             fate,
             Change::Continues(Role::Sender, aborted.id, None, true),

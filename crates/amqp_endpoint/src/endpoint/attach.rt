@@ -10,10 +10,10 @@ ghost use Rattle.amqp_endpoint.specs.Attaching.{IsMeeting, Meets, attached_fate,
 ghost use Rattle.amqp_endpoint.specs.Plan.{Plans};
 
 use crate::endpoint::Endpoint;
-use crate::plan::{Plan, frame_of};
+use crate::plan::Plan;
 use crate::refusal::Refusal;
 use crate::reply::Given;
-use crate::sending::told;
+use crate::sending::write;
 use amqp_deliveries::Change;
 use amqp_frames::{AttachBody, AttachParts, Performative, Role, measure_attach};
 use amqp_links::credit::Credit;
@@ -98,7 +98,7 @@ fn attach_refusal(wanted: &Wanted<'_>, handle: u32, max: u32) -> Option<Refusal>
     };
     match measure_attach(&parts, max) {
         Ok(_) => None,
-        Err(fault) => Some(told(fault)),
+        Err(fault) => Some(Refusal::from(fault)),
     }
 }
 
@@ -242,7 +242,7 @@ impl Endpoint {
         })
     }
 
-    /// Attaches a link. O(n) for n links.
+    /// Attaches a link. O(log n) for n links.
     pub(crate) fn plan_attach(&self, wanted: &Wanted<'_>) -> Result<Plan, Refusal>
         ensures { Plans Refusal.NoMemory self.now (attach_answer self.now (wanted_of wanted.now)) (next_attach self.now (wanted_of wanted.now)) result }
     {
@@ -255,11 +255,16 @@ impl Endpoint {
             drop(fate);
             return Err(Refusal::NoMemory);
         };
+        let body = Some(Performative::Attach(body));
+        let Ok(sent) = write(self.alloc, body, Bytes::new(), self.session.max_frame) else {
+            drop(fate);
+            return Err(Refusal::NoMemory);
+        };
         Ok(Plan {
             session: self.session,
             fate,
             change: Change::Stay,
-            frame: frame_of(Some(Performative::Attach(body)), Bytes::new()),
+            sent: Some(sent),
             given: Given::Link(meeting.number),
         })
     }

@@ -14,6 +14,13 @@ impl Endpoint {
     pub(crate) fn plan_beat(&self) -> Result<Plan, Refusal>
         ensures { Plans Refusal.NoMemory self.now (beat_answer self.now) (next_beat self.now) result }
     {
-        plan_sending(self.session, Fate::Stay, Change::Stay, None, Given::Nothing)
+        plan_sending(
+            self.alloc,
+            self.session,
+            Fate::Stay,
+            Change::Stay,
+            None,
+            Given::Nothing,
+        )
     }
 }

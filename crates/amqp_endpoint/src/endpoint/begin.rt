@@ -5,6 +5,7 @@ ghost use Rattle.amqp_endpoint.specs.Making.{Makes};
 ghost use Rattle.amqp_endpoint.specs.Plan.{Plans};
 
 use crate::endpoint::Endpoint;
+use crate::endpoint::telling::OUTGOING_WINDOW;
 use crate::plan::{Plan, plan_sending};
 use crate::refusal::Refusal;
 use crate::reply::Given;
@@ -32,7 +33,7 @@ impl Endpoint {
             remote_channel: answered_channel(self.session.begin_heard),
             next_outgoing_id: self.session.windows.next_outgoing(),
             incoming_window: self.session.windows.window(),
-            outgoing_window: 2147483647,
+            outgoing_window: OUTGOING_WINDOW,
             handle_max: None,
             offered_capabilities: None,
             desired_capabilities: None,
@@ -70,7 +71,14 @@ impl Endpoint {
                 let mut session = self.session;
                 session.begin_sent = true;
                 session.windows.renew();
-                plan_sending(session, Fate::Stay, Change::Stay, body, Given::Nothing)
+                plan_sending(
+                    self.alloc,
+                    session,
+                    Fate::Stay,
+                    Change::Stay,
+                    body,
+                    Given::Nothing,
+                )
             }
         }
     }

@@ -2,22 +2,21 @@
 ghost use Rattle.std.specs.Prelude.{◌≡◌, ◌<◌, ◌+◌, ◌^◌, length, Err, IfOk, MatchResult};
 ghost use Rattle.amqp_flow.specs.Windows.{windows_sent};
 ghost use Rattle.amqp_rules.specs.Carry.{carry_answer, carry_on, carry_refusals, later_body, next_carry};
-ghost use Rattle.amqp_rules.specs.Start.{sending_after};
-ghost use Rattle.amqp_rules.specs.View.{is_too_long};
 ghost use Rattle.amqp_endpoint.specs.Plan.{IsShort, Plans};
 ghost use Rattle.amqp_endpoint.specs.Taking.{IsTaken};
 
 use crate::endpoint::Endpoint;
 use crate::endpoint::onlink::OnLink;
+use crate::endpoint::start::{is_too_long, sending_after};
 use crate::endpoint::telling::flag;
-use crate::plan::{Plan, Session, plan_carrying};
+use crate::plan::{Plan, Session};
 use crate::refusal::Refusal;
 use crate::reply::Given;
+use crate::sending::write_sharing;
 use amqp_deliveries::Change;
 use amqp_frames::{Performative, Role, TransferBody};
 use amqp_links::credit::same_role;
 use amqp_links::fate::Fate;
-use amqp_links::marks::Sending;
 use bytes::Bytes;
 
 /// A later transfer on the link with this handle.
@@ -41,23 +40,6 @@ pub(crate) fn later_body(
         aborted,
         batchable: None,
     }))
-}
-
-/// A message of this length is longer than an end takes; 0 is no limit.
-pub(crate) fn is_too_long(max: u64, size: u128) -> bool
-    ensures { result ≡ is_too_long max size }
-{
-    0 < max && (max as u128) < size
-}
-
-/// Unfinished while more is to come.
-fn sending_after(more: bool, id: u32, size: u128) -> Option<Sending>
-    ensures { result ≡ sending_after more id size }
-{
-    match more {
-        true => Some(Sending { id, size }),
-        false => None,
-    }
 }
 
 /// The session once one transfer more was sent.
@@ -116,18 +98,21 @@ impl Endpoint {
         ensures { Plans Refusal.NoMemory self.now (carry_answer self.now link payload.now more) (next_carry self.now link payload.now more) result }
     {
         let on = self.check_carry(link, payload, more)?;
-        let fate = Fate::Marked {
-            key: on.key,
-            number: link,
-            marks: on.marks,
+        let body = later_body(on.handle, flag(more), None);
+        let written = match write_sharing(self.alloc, body, payload, self.session.max_frame) {
+            Ok(written) => written,
+            Err(refusal) => return Err(refusal),
         };
-        plan_carrying(
-            sent(self.session),
-            fate,
-            Change::Stay,
-            later_body(on.handle, flag(more), None),
-            payload,
-            Given::Nothing,
-        )
+        Ok(Plan {
+            session: sent(self.session),
+            fate: Fate::Marked {
+                key: on.key,
+                number: link,
+                marks: on.marks,
+            },
+            change: Change::Stay,
+            sent: Some(written),
+            given: Given::Nothing,
+        })
     }
 }

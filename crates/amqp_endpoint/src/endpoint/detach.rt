@@ -6,10 +6,10 @@ ghost use Rattle.amqp_endpoint.specs.Leaving.{IsLeft};
 ghost use Rattle.amqp_endpoint.specs.Plan.{Plans};
 
 use crate::endpoint::Endpoint;
-use crate::plan::{Plan, frame_of};
+use crate::plan::Plan;
 use crate::refusal::Refusal;
 use crate::reply::Given;
-use crate::sending::told;
+use crate::sending::write;
 use amqp_deliveries::Change;
 use amqp_frames::{AmqpError, DetachBody, Performative, measure_detach};
 use amqp_links::fate::Fate;
@@ -30,7 +30,7 @@ fn detach_refusal(handle: u32, error: &Option<Boxed<AmqpError>>, max: u32) -> Op
 {
     match measure_detach(handle, Some(true), error, max) {
         Ok(_) => None,
-        Err(fault) => Some(told(fault)),
+        Err(fault) => Some(Refusal::from(fault)),
     }
 }
 
@@ -85,6 +85,10 @@ impl Endpoint {
             closed: Some(true),
             error,
         };
+        let body = Some(Performative::Detach(body));
+        let Ok(sent) = write(self.alloc, body, Bytes::new(), self.session.max_frame) else {
+            return Err(Refusal::NoMemory);
+        };
         Ok(Plan {
             session: self.session,
             fate: Fate::Left {
@@ -92,7 +96,7 @@ impl Endpoint {
                 number: link,
             },
             change: Change::Leaves(link),
-            frame: frame_of(Some(Performative::Detach(body)), Bytes::new()),
+            sent: Some(sent),
             given: Given::Nothing,
         })
     }

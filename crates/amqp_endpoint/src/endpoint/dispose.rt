@@ -6,7 +6,7 @@ ghost use Rattle.std.specs.List.{list_any};
 ghost use Rattle.amqp_events.specs.States.{is_fixed};
 ghost use Rattle.amqp_events.specs.Unsettled.{covers};
 ghost use Rattle.amqp_deliveries.specs.Held.{items_of};
-ghost use Rattle.amqp_deliveries.specs.Run.{IsRun};
+ghost use Rattle.amqp_deliveries.specs.Span.{IsSpan};
 ghost use Rattle.amqp_endpoint.specs.Disposing.{held_refusals};
 ghost use Rattle.amqp_endpoint.specs.Saying.{said_in};
 ghost use Rattle.amqp_rules.specs.Refusing.{first_refusal};
@@ -15,11 +15,11 @@ ghost use Rattle.amqp_endpoint.specs.Plan.{Plans};
 
 use crate::endpoint::Endpoint;
 use crate::endpoint::telling::flag;
-use crate::plan::{Plan, frame_of};
+use crate::plan::Plan;
 use crate::refusal::Refusal;
 use crate::reply::Given;
-use crate::sending::told;
-use amqp_deliveries::{Change, Disposition, Held, Run};
+use crate::sending::write;
+use amqp_deliveries::{Change, Disposition, Held, Span};
 use amqp_flow::serial::Serial;
 use amqp_frames::{DeliveryState, DispositionBody, Performative, Role, measure_disposition};
 use amqp_links::fate::Fate;
@@ -87,7 +87,7 @@ fn dispose_refusal(role: Role, said: Said<'_>, max: u32) -> Option<Refusal>
         max,
     ) {
         Ok(_) => None,
-        Err(fault) => Some(told(fault)),
+        Err(fault) => Some(Refusal::from(fault)),
     }
 }
 
@@ -100,44 +100,44 @@ pub(crate) fn is_backwards(first: u32, last: u32) -> bool
 }
 
 /// It speaks of none of a table's deliveries.
-fn covers_none(held: &Held, run: Run, said: Said<'_>) -> bool
-    requires { IsRun said.first said.last held.now run }
+fn covers_none(held: &Held, span: Span, said: Said<'_>) -> bool
+    requires { IsSpan said.first said.last held.now span }
     ensures { result ≡ is_empty (filter (covers (said_in said.entry)) (items_of held.now)) }
 {
-    run.is_empty()
+    span.is_empty()
 }
 
 /// The receiver of one of them settles it after its sender.
-fn any_waits(held: &Held, run: Run, role: Role, said: Said<'_>) -> bool
-    requires { IsRun said.first said.last held.now run }
+fn any_waits(held: &Held, span: Span, role: Role, said: Said<'_>) -> bool
+    requires { IsSpan said.first said.last held.now span }
     ensures { result ≡ list_any (waits_for_sender role) (filter (covers (said_in said.entry)) (items_of held.now)) }
 {
     match role {
         Role::Sender => false,
-        Role::Receiver => held.any_second(run),
+        Role::Receiver => held.any_second(span),
     }
 }
 
 /// We gave one of them another outcome.
-fn any_fixed(held: &Held, run: Run, said: Said<'_>) -> bool
-    requires { IsRun said.first said.last held.now run }
+fn any_fixed(held: &Held, span: Span, said: Said<'_>) -> bool
+    requires { IsSpan said.first said.last held.now span }
     ensures { result ≡ list_any (is_fixed (said_in said.entry).state) (filter (covers (said_in said.entry)) (items_of held.now)) }
 {
-    held.any_fixed(run, said.state)
+    held.any_fixed(span, said.state)
 }
 
 /// What the deliveries of a table refuse to a disposition of ours.
 fn held_refusal(held: &Held, role: Role, said: Said<'_>) -> Option<Refusal>
     ensures { result ≡ first_refusal (held_refusals role (said_in said.entry) (items_of held.now)) }
 {
-    let run = held.run(said.first, said.last);
-    if covers_none(held, run, said) {
+    let span = held.span(said.first, said.last);
+    if covers_none(held, span, said) {
         return Some(Refusal::NothingHeld);
     }
-    if said.settled && any_waits(held, run, role, said) {
+    if said.settled && any_waits(held, span, role, said) {
         return Some(Refusal::MustNotSettle);
     }
-    if any_fixed(held, run, said) {
+    if any_fixed(held, span, said) {
         return Some(Refusal::OutcomeFixed);
     }
     None
@@ -175,11 +175,16 @@ impl Endpoint {
             drop(sent);
             return Err(Refusal::NoMemory);
         };
+        let body = dispose_body(role, sent);
+        let Ok(sent) = write(self.alloc, body, Bytes::new(), self.session.max_frame) else {
+            drop(kept);
+            return Err(Refusal::NoMemory);
+        };
         Ok(Plan {
             session: self.session,
             fate: Fate::Stay,
             change: Change::Says(role, kept),
-            frame: frame_of(dispose_body(role, sent), Bytes::new()),
+            sent: Some(sent),
             given: Given::Nothing,
         })
     }

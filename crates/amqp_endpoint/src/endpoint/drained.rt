@@ -10,6 +10,7 @@ ghost use Rattle.amqp_endpoint.specs.Taking.{IsTaken};
 
 use crate::endpoint::Endpoint;
 use crate::endpoint::onlink::OnLink;
+use crate::endpoint::telling::OUTGOING_WINDOW;
 use crate::plan::{Plan, plan_sending};
 use crate::refusal::Refusal;
 use crate::reply::Given;
@@ -41,7 +42,7 @@ fn drained_flow(windows: &Windows, handle: u32, marks: &Marks) -> FlowBody
         next_incoming_id: windows.next_incoming(),
         incoming_window: windows.window(),
         next_outgoing_id: windows.next_outgoing(),
-        outgoing_window: 2147483647,
+        outgoing_window: OUTGOING_WINDOW,
         handle: Some(handle),
         delivery_count: Some(count),
         link_credit: Some(credit),
@@ -96,6 +97,7 @@ impl Endpoint {
             marks: on.marks,
         };
         plan_sending(
+            self.alloc,
             session,
             fate,
             Change::Stay,

@@ -49,7 +49,14 @@ impl Endpoint {
             Ok(body) => {
                 let mut session = self.session;
                 session.end_sent = true;
-                plan_sending(session, Fate::AllGone, Change::Over, body, Given::Nothing)
+                plan_sending(
+                    self.alloc,
+                    session,
+                    Fate::AllGone,
+                    Change::Over,
+                    body,
+                    Given::Nothing,
+                )
             }
         }
     }

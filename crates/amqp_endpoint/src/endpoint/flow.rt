@@ -3,8 +3,8 @@ ghost use Rattle.std.specs.Prelude.{◌≡◌, true, false, cond, is_some, None,
 ghost use Rattle.amqp_flow.specs.Windows.{windows_renewed};
 ghost use Rattle.amqp_links.specs.Links.{IsFirst};
 ghost use Rattle.amqp_links.specs.Marks.{with_marks};
-ghost use Rattle.amqp_endpoint.specs.Flowing.{credit_ahead, echo_frame, echo_plan, session_after, sends_echo, session_ahead, windows_told_by, IsCreditAfter};
-ghost use Rattle.amqp_endpoint.specs.Plan.{IsWritable, Plans};
+ghost use Rattle.amqp_endpoint.specs.Flowing.{credit_ahead, echo_plan, session_after, sends_echo, session_ahead, windows_told_by, IsCreditAfter};
+ghost use Rattle.amqp_endpoint.specs.Plan.{Plans};
 ghost use Rattle.amqp_rules.specs.Flow.{
   session_part,
   link_part,
@@ -33,6 +33,7 @@ use amqp_links::credit::Credit;
 use amqp_links::fate::Fate;
 use amqp_links::link::Link;
 use amqp_links::marks::Marks;
+use std::alloc::Global;
 
 fn session_part(b: &FlowBody) -> SessionFlow
     ensures { result ≡ session_part b.now }
@@ -149,12 +150,18 @@ fn heard_marks(b: &FlowBody, l: &Link) -> Option<Marks>
 }
 
 /// The plan that sends this flow in return, or none.
-fn plan_echo(session: Session, fate: Fate, echo: bool, body: FlowBody) -> Result<Plan, Violation>
-    ensures { MatchResult result (λ p. (p ≡ echo_plan session fate echo body) × IsWritable session.max_frame (echo_frame echo body)) (λ e. e ≡ no_memory) }
+fn plan_echo(
+    alloc: Global,
+    session: Session,
+    fate: Fate,
+    echo: bool,
+    body: FlowBody,
+) -> Result<Plan, Violation>
+    ensures { MatchResult result (λ p. p ≡ echo_plan session fate echo body) (λ e. e ≡ no_memory) }
 {
     if echo {
         let body = Some(Performative::Flow(body));
-        plan_answering(session, fate, Change::Stay, body, Given::Nothing)
+        plan_answering(alloc, session, fate, Change::Stay, body, Given::Nothing)
     } else {
         drop(body);
         Ok(plan_quiet(session, fate, Change::Stay, Given::Nothing))
@@ -185,7 +192,7 @@ impl Endpoint {
         };
         let echo = sends_echo(&session, b);
         let body = session_flow(&session.windows);
-        plan_echo(session, Fate::Stay, echo, body)
+        plan_echo(self.alloc, session, Fate::Stay, echo, body)
     }
 
     /// A flow of a link that we have left: the link stays as it is.
@@ -201,7 +208,7 @@ impl Endpoint {
         };
         let echo = sends_echo(&session, b);
         let body = session_flow(&session.windows);
-        plan_echo(session, Fate::Stay, echo, body)
+        plan_echo(self.alloc, session, Fate::Stay, echo, body)
     }
 
     /// A flow of a link that we have not left.
@@ -231,7 +238,7 @@ impl Endpoint {
             number: l.number(),
             marks,
         };
-        plan_echo(session, fate, echo, body)
+        plan_echo(self.alloc, session, fate, echo, body)
     }
 
     /// A flow that is heard. O(log n) for n links.

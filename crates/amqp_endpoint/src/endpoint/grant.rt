@@ -11,7 +11,7 @@ ghost use Rattle.amqp_endpoint.specs.Taking.{IsTaken};
 
 use crate::endpoint::Endpoint;
 use crate::endpoint::onlink::OnLink;
-use crate::endpoint::telling::flag;
+use crate::endpoint::telling::{OUTGOING_WINDOW, flag};
 use crate::plan::{Plan, plan_sending};
 use crate::refusal::Refusal;
 use crate::reply::Given;
@@ -52,7 +52,7 @@ fn grant_flow(windows: &Windows, handle: u32, marks: &Marks, drain: bool, echo: 
         next_incoming_id: windows.next_incoming(),
         incoming_window: windows.window(),
         next_outgoing_id: windows.next_outgoing(),
-        outgoing_window: 2147483647,
+        outgoing_window: OUTGOING_WINDOW,
         handle: Some(handle),
         delivery_count: Some(count),
         link_credit: Some(credit),
@@ -115,6 +115,7 @@ impl Endpoint {
             marks: on.marks,
         };
         plan_sending(
+            self.alloc,
             session,
             fate,
             Change::Stay,

@@ -12,6 +12,7 @@ use amqp_deliveries::{Change, Telling};
 use amqp_frames::Role;
 use amqp_links::credit::same_role;
 use amqp_links::fate::Fate;
+use amqp_types::Boxed;
 use std::alloc::AllocError;
 
 /// What is given of a thing that was told.
@@ -44,6 +45,9 @@ impl Endpoint {
             return Err(Refusal::Nothing);
         };
         let Ok(learned) = learned_of(told) else {
+            return Err(Refusal::NoMemory);
+        };
+        let Ok(learned) = Boxed::new(self.alloc, learned) else {
             return Err(Refusal::NoMemory);
         };
         let fate = Fate::Learnt {

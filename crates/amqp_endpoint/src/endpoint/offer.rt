@@ -57,6 +57,7 @@ impl Endpoint {
             marks: on.marks,
         };
         plan_sending(
+            self.alloc,
             session,
             fate,
             Change::Stay,

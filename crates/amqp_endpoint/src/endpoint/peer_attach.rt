@@ -113,7 +113,7 @@ impl Endpoint {
         self.stores.links.made()
     }
 
-    /// The peer's attach: it answers ours, or offers a link. O(n) for n links.
+    /// The peer's attach: it answers ours, or offers a link. O(log n) for n links.
     pub(crate) fn plan_peer_attach(&self, b: &AttachBody) -> Result<Plan, Violation>
         ensures { Plans no_memory self.now (attach_heard_answer self.now b.now) (next_attach_heard self.now b.now) result }
     {

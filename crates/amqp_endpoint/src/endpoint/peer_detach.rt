@@ -66,6 +66,7 @@ impl Endpoint {
             error: None,
         };
         plan_answering(
+            self.alloc,
             self.session,
             fate,
             Change::Leaves(number),

@@ -23,6 +23,7 @@ impl Endpoint {
         session.end_heard = true;
         match self.session.is_mapped() {
             true => plan_answering(
+                self.alloc,
                 session,
                 Fate::AllGone,
                 Change::Over,

@@ -33,6 +33,7 @@ impl Endpoint {
         let told = refresh_flow(&session.windows, echo);
         session.windows.renew();
         plan_sending(
+            self.alloc,
             session,
             Fate::Stay,
             Change::Stay,

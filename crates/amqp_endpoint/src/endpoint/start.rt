@@ -1,5 +1,5 @@
 //! Start: a delivery begins, with its first transfer.
-ghost use Rattle.std.specs.Prelude.{◌≡◌, ◌<◌, ◌+◌, ◌^◌, Err, ℕ, MatchResult, true, length, find};
+ghost use Rattle.std.specs.Prelude.{◌≡◌, ◌<◌, ◌+◌, ◌^◌, Err, ℕ, IfOk, MatchResult, true, length, find};
 ghost use Rattle.amqp_flow.specs.Credit.{delivery_begun};
 ghost use Rattle.amqp_flow.specs.Windows.{windows_sent};
 ghost use Rattle.amqp_endpoint.specs.Plan.{Plans};
@@ -16,9 +16,10 @@ ghost use Rattle.amqp_rules.specs.View.{has_number, is_too_long, next_delivery, 
 use crate::endpoint::Endpoint;
 use crate::endpoint::onlink::OnLink;
 use crate::endpoint::telling::flag;
-use crate::plan::{Plan, Session, plan_carrying};
+use crate::plan::{Plan, Session};
 use crate::refusal::Refusal;
 use crate::reply::Given;
+use crate::sending::write_sharing;
 use amqp_deliveries::{Change, HeldItem, Tables};
 use amqp_flow::sender::SenderCredit;
 use amqp_frames::{Performative, Role, TransferBody};
@@ -174,7 +175,7 @@ impl Endpoint {
         None
     }
 
-    /// The first refusal that is due, or the link as it will be.
+    /// The first refusal that is due, or the link as it will be, and whether its receiver settles second (part 2, 2.8.3).
     fn check_start(
         &self,
         link: u32,
@@ -182,8 +183,9 @@ impl Endpoint {
         settled: bool,
         payload: &Bytes,
         more: bool,
-    ) -> Result<OnLink, Refusal>
-        ensures { MatchResult result (IsTaken self.now link (λ l. start_refusals self.now l tag.now settled payload.now) (begin_delivery (next_delivery self.now) (length payload.now) more)) (λ e. (format : ℕ) → start_answer self.now link tag.now format settled payload.now more ≡ Err e) }
+    ) -> Result<(OnLink, bool), Refusal>
+        ensures taken { MatchResult result (λ both. IsTaken self.now link (λ l. start_refusals self.now l tag.now settled payload.now) (begin_delivery (next_delivery self.now) (length payload.now) more) both.0) (λ e. (format : ℕ) → start_answer self.now link tag.now format settled payload.now more ≡ Err e) }
+        ensures second { IfOk result (λ both. both.1 ≡ second_on (find (has_number link) self.now.links)) }
     {
         if !self.session.is_mapped() {
             return Err(Refusal::NotMapped);
@@ -196,11 +198,12 @@ impl Endpoint {
             return Err(refusal);
         }
         let id = self.session.next_delivery();
-        Ok(OnLink {
+        let on = OnLink {
             key: found.key,
             handle: l.our_handle(),
             marks: marks_begun(l, id, size_of(payload), more),
-        })
+        };
+        Ok((on, l.rcv_mode() == 1))
     }
 }
 
@@ -213,16 +216,6 @@ pub(crate) fn size_of(payload: &Bytes) -> u128
 }
 
 impl Endpoint {
-    /// The receiver settles second on the link (part 2, 2.8.3).
-    fn is_second(&self, link: u32) -> bool
-        ensures { result ≡ second_on (find (has_number link) self.now.links) }
-    {
-        match self.stores.links.by_number(link) {
-            Some(found) => found.link.rcv_mode() == 1,
-            None => false,
-        }
-    }
-
     /// A delivery and its first transfer. O(log n) for n links.
     pub(crate) fn plan_start(
         &self,
@@ -236,34 +229,35 @@ impl Endpoint {
         requires { self.now.steps < 2 ^ 30 }
         ensures { Plans Refusal.NoMemory self.now (start_answer self.now link tag format settled payload.now more) (next_start self.now link tag format settled payload.now more) result }
     {
-        let on = match self.check_start(link, &tag, settled, payload, more) {
-            Ok(on) => on,
+        let (on, second) = match self.check_start(link, &tag, settled, payload, more) {
+            Ok(both) => both,
             Err(refusal) => return Err(refusal),
         };
         let _size = size_of(payload);
         let id = self.session.next_delivery();
+        let body = start_body(on.handle, id, tag, format, settled, more);
+        let sent = match write_sharing(self.alloc, body, payload, self.session.max_frame) {
+            Ok(sent) => sent,
+            Err(refusal) => return Err(refusal),
+        };
         let item = HeldItem {
             id,
             link,
             tag,
-            second: self.is_second(link),
+            second,
             local: None,
             remote: None,
         };
-        let body = start_body(on.handle, id, tag, format, settled, more);
-        let session = started(self.session);
-        let fate = Fate::Marked {
-            key: on.key,
-            number: link,
-            marks: on.marks,
-        };
-        plan_carrying(
-            session,
-            fate,
-            change_begun(settled, item),
-            body,
-            payload,
-            Given::Delivery(id),
-        )
+        Ok(Plan {
+            session: started(self.session),
+            fate: Fate::Marked {
+                key: on.key,
+                number: link,
+                marks: on.marks,
+            },
+            change: change_begun(settled, item),
+            sent: Some(sent),
+            given: Given::Delivery(id),
+        })
     }
 }

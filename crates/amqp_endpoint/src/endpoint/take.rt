@@ -12,6 +12,7 @@ use amqp_frames::Role;
 use amqp_links::arrival::Waiting;
 use amqp_links::credit::same_role;
 use amqp_links::fate::Fate;
+use amqp_types::Boxed;
 use std::alloc::AllocError;
 
 /// What is given of a delivery that waits on this link. A payload that came in one transfer is shared, else it is copied once.
@@ -46,6 +47,9 @@ impl Endpoint {
             return Err(Refusal::Nothing);
         };
         let Ok(taken) = taken_of(l.number(), waiting) else {
+            return Err(Refusal::NoMemory);
+        };
+        let Ok(taken) = Boxed::new(self.alloc, taken) else {
             return Err(Refusal::NoMemory);
         };
         let fate = Fate::Taken {

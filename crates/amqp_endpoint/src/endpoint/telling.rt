@@ -10,6 +10,9 @@ use amqp_frames::FlowBody;
 use amqp_links::credit::Credit;
 use amqp_links::marks::Marks;
 
+/// The outgoing window that each begin and each flow of ours tells (part 2, 2.5.6), in transfers.
+pub(crate) const OUTGOING_WINDOW: u32 = 2147483647;
+
 /// A flag is said where it is true, and left off else.
 pub(crate) fn flag(is_true: bool) -> Option<bool>
     ensures { result ≡ flag is_true }
@@ -28,7 +31,7 @@ pub(crate) fn session_flow(windows: &Windows) -> FlowBody
         next_incoming_id: windows.next_incoming(),
         incoming_window: windows.window(),
         next_outgoing_id: windows.next_outgoing(),
-        outgoing_window: 2147483647,
+        outgoing_window: OUTGOING_WINDOW,
         handle: None,
         delivery_count: None,
         link_credit: None,
@@ -48,7 +51,7 @@ pub(crate) fn standing_flow(windows: &Windows, handle: u32, marks: &Marks) -> Fl
             next_incoming_id: windows.next_incoming(),
             incoming_window: windows.window(),
             next_outgoing_id: windows.next_outgoing(),
-            outgoing_window: 2147483647,
+            outgoing_window: OUTGOING_WINDOW,
             handle: Some(handle),
             delivery_count: Some(credit.count()),
             link_credit: Some(credit.credit()),
@@ -61,7 +64,7 @@ pub(crate) fn standing_flow(windows: &Windows, handle: u32, marks: &Marks) -> Fl
             next_incoming_id: windows.next_incoming(),
             incoming_window: windows.window(),
             next_outgoing_id: windows.next_outgoing(),
-            outgoing_window: 2147483647,
+            outgoing_window: OUTGOING_WINDOW,
             handle: Some(handle),
             delivery_count: Some(credit.count()),
             link_credit: Some(credit.credit()),

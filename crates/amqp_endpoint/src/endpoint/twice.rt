@@ -8,18 +8,18 @@ use crate::endpoint::Endpoint;
 use crate::op::Op;
 use crate::plan::Plan;
 use crate::refusal::Refusal;
-use crate::reply::Reply;
-use crate::sending::send_all;
+use crate::reply::{Reply, Sent};
+use crate::sending::list_sent;
 use crate::violation::{Violation, ViolationKind};
 use amqp_frames::Frame;
 use std::alloc::AllocError;
 
-fn copy_frame(frame: &Option<Frame>) -> Result<Option<Frame>, AllocError>
-    ensures { IfOk result (λ copy. copy ≡ frame.now) }
+fn copy_sent(sent: &Option<Sent>) -> Result<Option<Sent>, AllocError>
+    ensures { IfOk result (λ copy. copy ≡ sent.now) }
 {
-    match frame {
+    match sent {
         None => Ok(None),
-        Some(frame) => Ok(Some(frame.clone()?)),
+        Some(sent) => Ok(Some(sent.clone()?)),
     }
 }
 
@@ -30,8 +30,8 @@ impl Endpoint {
     {
         let ended = self.stores.tables.ended(&plan.change)?;
         let given = plan.given.clone()?;
-        let frame = copy_frame(&plan.frame)?;
-        let (sent, _) = send_all(self.alloc, frame, self.session.max_frame)?;
+        let sent = copy_sent(&plan.sent)?;
+        let (sent, _) = list_sent(self.alloc, sent)?;
         Ok(Reply { sent, ended, given })
     }
 

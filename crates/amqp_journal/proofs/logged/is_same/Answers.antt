@@ -1,4 +1,4 @@
-use Rattle.amqp_journal.proofs.Same.{ops_alike}
+use Rattle.amqp_rules.proofs.Same.{ops_alike}
 use Rattle.amqp_journal.proofs.logged.is_same.Goals as goal
 
 pub returns : goal.returns

@@ -1,6 +1,5 @@
-use Rattle.std.proofs.Common.{◌≡◌, ◌∙◌, Some, None, ap, sym, subst, find, rules}
-use Rattle.amqp_rules.specs.View.{View, LinkView, has_number}
-use Rattle.amqp_endpoint.specs.Aborting.{IsAborted}
+use Rattle.std.proofs.Common.{◌∙◌, Some, None, ap, sym, find, rules}
+use Rattle.amqp_rules.specs.View.{LinkView, has_number}
 use Rattle.amqp_endpoint.proofs.endpoint.Endpoint.check_abort.Goals as goal
 
 pub returns-clause-taken : goal.returns-clause-taken

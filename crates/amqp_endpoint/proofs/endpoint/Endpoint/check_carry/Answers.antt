@@ -1,4 +1,4 @@
-use Rattle.std.proofs.Common.{◌≡◌, ℕ, ◌<◌, ◌≤◌, ◌*◌, ◌+◌, ◌^◌, Some, Option, length, find, ap, sym, subst, ◌∙◌, arith, rules}
+use Rattle.std.proofs.Common.{ℕ, ◌<◌, ◌≤◌, ◌*◌, ◌+◌, ◌^◌, Some, Option, length, find, ap, sym, subst, ◌∙◌, arith}
 use Rattle.amqp_rules.specs.View.{SendingView, has_number}
 use Rattle.amqp_rules.specs.Carry.{carried}
 use Rattle.amqp_endpoint.specs.Plan.{IsShort}

@@ -17,5 +17,4 @@ invariant_of-self c =
       short = tt;
       counted = counted-still c.self.inside.steps c.self.inside.session told c.self.inside.stores Stay tt c.self.invariant refl refl refl refl;
       alone = tt;
-      written = tt;
     })

@@ -10,5 +10,5 @@ use Rattle.amqp_endpoint.proofs.endpoint.Endpoint.plan_dispose.Goals as goal
 pub returns : goal.returns
 returns c =
     let both = rw (← c.self.view_is) at c.in_default.ensures in
-    rw (← c.self.view_is, c.frame_of.ensures, c.dispose_body.ensures, c.new.ensures)
+    rw (← c.self.view_is, c.in-Ok-write.ensures.1, c.dispose_body-body.ensures, c.new.ensures)
     (plan_said c.self.inside.steps c.self.inside.session c.self.inside.stores c.args.role (said_in c.args.said) c.in-Ok.sent c.in-Ok-kept.kept c.self.invariant both.0 both.1 c.in-Ok.ensures c.in-Ok-kept.ensures)

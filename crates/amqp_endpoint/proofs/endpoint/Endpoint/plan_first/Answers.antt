@@ -1,6 +1,5 @@
-use Rattle.std.proofs.Common.{refl}
 use Rattle.amqp_endpoint.specs.Plan.{view_of}
-use Rattle.amqp_endpoint.proofs.Transfers.{IsFirstFree, first-free, first-plan, free-at}
+use Rattle.amqp_endpoint.proofs.Transfers.{first-free, first-plan, free-at}
 use Rattle.amqp_endpoint.proofs.endpoint.Endpoint.plan_first.Goals as goal
 
 pub returns : goal.returns

@@ -1,4 +1,3 @@
-use Rattle.std.proofs.Common.{refl}
 use Rattle.amqp_endpoint.specs.Plan.{view_of}
 use Rattle.amqp_endpoint.proofs.Transfers.{later-plan, free-at}
 use Rattle.amqp_endpoint.proofs.endpoint.Endpoint.plan_later.Goals as goal

@@ -5,7 +5,8 @@ use Rattle.amqp_rules.specs.OnLink.{attached_as}
 use Rattle.amqp_rules.specs.declared.reply.Given.TheVariants.{Nothing}
 use Rattle.amqp_deliveries.specs.declared.change.Change.TheVariants.{Stay}
 use Rattle.amqp_endpoint.specs.Plan.{view_of}
-use Rattle.amqp_endpoint.proofs.Plans.{plan-on, counted-still, taken-short}
+use Rattle.amqp_endpoint.proofs.Plans.{counted-still, taken-short}
+use Rattle.amqp_endpoint.proofs.Sends.{plan-still}
 use Rattle.amqp_endpoint.proofs.Offers.{offer-said}
 use Rattle.amqp_endpoint.proofs.endpoint.Endpoint.plan_offer.Goals as goal
 
@@ -14,8 +15,8 @@ returns c =
     let v = view_of c.self.inside.steps c.self.inside.session c.self.inside.stores in
     let t = rw (← c.self.view_is) at c.in_ok-on.ensures in
     rw (← c.self.view_is)
-    (plan-on v c.args.link c.in_ok-on.on.key (λ l. attached_as Sender l []) (offered c.args.available) c.in_ok-on.on _
-    (λ l. offer_body v.windows (offered c.args.available l)) _ Nothing c.plan_sending.result
+    (plan-still v c.args.link c.in_ok-on.on.key (λ l. attached_as Sender l []) (offered c.args.available) c.in_ok-on.on _
+    (λ l. offer_body v.windows (offered c.args.available l)) _ [] Nothing c.plan_sending.result
     t
     refl
     (λ l h m f. offer-said v.windows c.in_ok-on.on.marks l c.args.available c.standing_flow-told.result (c.standing_flow-told.ensures l h) m f)

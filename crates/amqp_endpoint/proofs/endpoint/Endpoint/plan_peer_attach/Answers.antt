@@ -1,4 +1,4 @@
-use Rattle.std.proofs.Common.{refl, sym}
+use Rattle.std.proofs.Common.{sym}
 use Rattle.amqp_endpoint.proofs.Answering.{answering-plan}
 use Rattle.amqp_endpoint.proofs.endpoint.Endpoint.plan_peer_attach.Goals as goal
 

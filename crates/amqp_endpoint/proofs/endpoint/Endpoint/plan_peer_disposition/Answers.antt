@@ -1,4 +1,4 @@
-use Rattle.std.proofs.Common.{◌≡◌, false, true, rules}
+use Rattle.std.proofs.Common.{rules}
 use Rattle.amqp_endpoint.proofs.Heard.{plan_heard}
 use Rattle.amqp_endpoint.proofs.endpoint.Endpoint.plan_peer_disposition.Goals as goal
 

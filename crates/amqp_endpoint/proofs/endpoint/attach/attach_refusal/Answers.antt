@@ -15,5 +15,5 @@ returns-in-Ok c =
 pub returns-in-Err : goal.returns-in-Err
 unfolding frame_refused
 returns-in-Err c =
-    ap (λ e. Some e) c.told.ensures
+    ap (λ e. Some e) c.from.ensures
     ∙ ap (option_map told) (refusal_of (Err c.in-Err.fault) (frame_of (Some (Attach (own_attach (wanted_of c.args.wanted.now) c.args.handle))) []) c.args.max (rw (c.as_str.ensures, c.count_told.ensures, c.size_told.ensures) at (c.in-Err.ensures 0)))

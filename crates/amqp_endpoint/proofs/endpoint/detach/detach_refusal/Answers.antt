@@ -13,5 +13,5 @@ returns-in-Ok c =
 pub returns-in-Err : goal.returns-in-Err
 unfolding frame_refused
 returns-in-Err c =
-    ap (λ e. Some e) c.told.ensures
+    ap (λ e. Some e) c.from.ensures
     ∙ ap (option_map told) (refusal_of (Err c.in-Err.fault) (frame_of (detach_body c.args.handle (Some true) c.args.error.now) []) c.args.max (c.in-Err.ensures 0))

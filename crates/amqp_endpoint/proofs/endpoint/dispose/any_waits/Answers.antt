@@ -12,4 +12,4 @@ pub returns-in-Sender : goal.returns-in-Sender
 returns-in-Sender c = rw c.in-Sender.is (sender_waits (said_in c.args.said) c.args.held.now)
 
 pub returns-in-Receiver : goal.returns-in-Receiver
-returns-in-Receiver c = rw c.in-Receiver.is (receiver_waits (said_in c.args.said) c.args.held.now c.args.run c.any_second.result c.requires c.any_second.ensures)
+returns-in-Receiver c = rw c.in-Receiver.is (receiver_waits (said_in c.args.said) c.args.held.now c.args.span c.any_second.result c.requires c.any_second.ensures)

@@ -16,5 +16,5 @@ pub returns-in-Err : goal.returns-in-Err
 unfolding frame_refused
 returns-in-Err c =
     let m = rw c.flag.ensures at (c.in-Err.ensures 0) in
-    ap (λ e. Some e) c.told.ensures
+    ap (λ e. Some e) c.from.ensures
     ∙ ap (option_map told) (refusal_of (Err c.in-Err.fault) (frame_of (dispose_body c.args.role (said_in c.args.said)) []) c.args.max m)

@@ -1,6 +1,7 @@
-use Rattle.std.proofs.Common.{None, ◌∙◌, ap, refl, sym, rules, arith, append-nil}
+use Rattle.std.proofs.Common.{inl, None, ◌∙◌, ap, refl, sym, rules, arith, append-nil}
 use Rattle.amqp_rules.specs.Opened.{no_reply, next_opened}
 use Rattle.amqp_laws.specs.declared.entry.Step.TheVariants.{Opened}
+use Rattle.amqp_journal.proofs.Due.{opened-full, opened-wanting}
 use Rattle.amqp_journal.proofs.Keeping.{kept-step}
 use Rattle.amqp_journal.proofs.logged.Logged.opened.Goals as goal
 
@@ -27,3 +28,9 @@ invariant_of-self-2 c =
     refl
     (search rules)
     (sym (append-nil c.self.inside.waiting.items))
+
+pub returns-then-len-self-clause-refusal : goal.returns-then-len-self-clause-refusal
+returns-then-len-self-clause-refusal c = inl (opened-full c.args.self.now (search rules))
+
+pub returns-in_default-clause-refusal : goal.returns-in_default-clause-refusal
+returns-in_default-clause-refusal c = opened-wanting c.args.self.now (search rules)
