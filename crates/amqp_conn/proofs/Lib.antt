@@ -1,0 +1,13 @@
+pub mod Appended
+pub mod Cutting
+pub mod Deciding
+pub mod Turns
+pub mod Calls
+pub mod Whole
+pub mod Parts
+pub mod Headers
+pub mod Written
+pub mod Onward
+pub mod Popping
+pub mod Loops
+pub mod Pumps

@@ -1,0 +1,10 @@
+pub mod Connection
+pub mod Octets
+pub mod Treating
+pub mod Feeding
+pub mod Treats
+pub mod Calling
+pub mod Pumping
+pub mod Turning
+pub mod Writes
+pub mod Numbers

@@ -1,0 +1,204 @@
+//! A connection, as a program drives it (part 2, 2.2 and 2.4).
+ghost use Rattle.std.specs.Prelude.{◌≡◌, ◌≢◌, ◌≤◌, [], Some, None, IfSome, MatchResult, IsTrue, slice_get, length, drop};
+ghost use Rattle.amqp_journal.specs.Units.{units, waiting};
+ghost use Rattle.amqp_conn.specs.Connection.{IsQuiet, connection, reads_frames, in_phase};
+ghost use Rattle.amqp_conn.specs.Octets.{new_core};
+ghost use Rattle.amqp_conn.specs.Feeding.{Feeds, MovesOn};
+ghost use Rattle.amqp_conn.specs.Calling.{IsFit, IsStartFault, Does, Closes, popped};
+
+use crate::config::Config;
+use crate::fault::ConnFault;
+use crate::fed::Fed;
+use crate::feeding::{act, frame_shared};
+use crate::header::{fill, read_header};
+use crate::phase::Phase;
+use crate::refused::{CloseRefusal, StartFault};
+use crate::treating::{Machine, nothing};
+use amqp_frames::{AmqpError, Framer};
+use amqp_journal::logged::Logged;
+use amqp_journal::unit::Unit;
+use amqp_rules::op::Op;
+use amqp_rules::refusal::Refusal;
+use amqp_rules::reply::Given;
+use amqp_types::Boxed;
+use bytes::Bytes;
+use std::alloc::Global;
+use std::marker::Model;
+
+/// One end of a connection. It reads octets as they come and puts out units; it has no socket, no clock and no thread.
+///
+/// What it has not read of a frame it keeps, in a buffer of that frame's size at most (`Config::max_frame`).
+#[derive(Drop)]
+pub struct Conn {
+    alloc: Global,
+    machine: Machine,
+    /// Octets of the peer's header; it has room for all eight.
+    head: Vec<u8>,
+    framer: Framer,
+}
+
+impl Model for Conn {
+    ghost use Rattle.std.specs.Prelude.{◌≡◌, ◌≤◌, []};
+    ghost use Rattle.std.specs.Vec.{vec_capacity};
+    ghost use Rattle.amqp_conn.specs.Connection.{Connection, HasRead, IsSetUp, unread_in};
+    ghost use Rattle.amqp_types.specs.contracts.value.Value as value;
+    ghost use Rattle.std.specs.Coded.{codes};
+
+    ghost Value = { Connection };
+
+    ghost coded = { Prim.hlevel (codes, value.the_row.coded) };
+
+    ghost view = { λ c. record { core = c.machine; unread = unread_in c.machine.phase c.head.items c.framer.kept } };
+
+    ghost invariant = { λ c. IsSetUp c.machine c.head.items (vec_capacity c.head) c.framer.max_size c.framer.kept };
+}
+
+impl Conn {
+    /// A connection whose header waits to go out. It takes room for eight octets, and for our open.
+    ///
+    /// # Errors
+    ///
+    /// `BadConfig` where a setting is out of its limits (`Config`), or our open is longer than the 512 octets that every peer takes, as with
+    /// a long container id; `NoMemory`.
+    pub fn new(alloc: Global, config: Config) -> Result<Conn, StartFault>
+        ensures { MatchResult result (λ conn. IsFit config × (conn ≡ connection (new_core config) [])) (λ e. IsStartFault e config) }
+    {
+        let machine = match Machine::new(alloc, config) {
+            Ok(machine) => machine,
+            Err(fault) => return Err(fault),
+        };
+        let Ok(head) = Vec::with_capacity(alloc, 8) else {
+            return Err(StartFault::NoMemory);
+        };
+        let framer = Framer::new(alloc, machine.max_frame());
+        Ok(Conn {
+            alloc,
+            machine,
+            head,
+            framer,
+        })
+    }
+
+    /// Does an operation of the application: one entry more in the journal, and what it sends waits to go out. Refusals are those of the session,
+    /// and `NotRunning` first, unless the connection is running. A refused operation has changed nothing.
+    pub fn apply(&mut self, op: &Op) -> Result<Given, Refusal>
+        ensures does { Does self.old.core op.now result self.new.core }
+        ensures unread { self.new.unread ≡ self.old.unread }
+    {
+        self.machine.apply(op)
+    }
+
+    /// Puts out our close, with the error, and awaits the peer's (part 2, 2.4.3). What is heard until it comes is dropped.
+    ///
+    /// # Errors
+    ///
+    /// `NotOpen` unless the connection is running; `NotWritable` and `FrameTooBig` where there is no such frame, or the peer takes none so
+    /// long; `NoMemory`. Nothing has changed then.
+    pub fn close(&mut self, error: Option<Boxed<AmqpError>>) -> Result<(), CloseRefusal>
+        ensures closes { Closes self.old.core error result self.new.core }
+        ensures unread { self.new.unread ≡ self.old.unread }
+    {
+        self.machine.close(error)
+    }
+
+    /// The first unit that waits to go out, with its number: the octets of one frame, or our header. It takes no memory.
+    pub fn pop_unit(&mut self) -> Option<Unit>
+        ensures some { IfSome result (λ unit. (unit.number ≡ self.old.core.log.popped) × (slice_get (units self.old.core.log) self.old.core.log.popped ≡ Some unit.bytes) × (self.new ≡ popped self.old)) }
+        ensures none { result ≡ None → (waiting self.old.core.log ≡ []) × (self.new ≡ self.old) }
+    {
+        self.machine.pop_unit()
+    }
+
+    /// Where the connection stands.
+    pub fn phase(&self) -> Phase
+        ensures value { result ≡ self.now.core.phase }
+        ensures quiet { IsQuiet self.now }
+    {
+        self.machine.phase()
+    }
+
+    /// The session with its journal, and the units that wait.
+    pub fn logged(&self) -> &Logged
+        ensures { result.now ≡ self.now.core.log }
+    {
+        self.machine.logged()
+    }
+
+    /// The octets ended: the phase is `Closed`, and what was not read is dropped. Nothing else changes, and no close goes out.
+    pub fn lost(&mut self)
+        ensures { self.new ≡ connection (in_phase Phase.Closed self.old.core) [] }
+    {
+        self.machine.lose();
+        self.framer = Framer::new(self.alloc, self.machine.max_frame());
+    }
+
+    /// Takes octets of the piece, at most to the end of one frame, and does what they say. Of a piece that is not empty it uses an octet, or makes
+    /// the step that answers a violation; then the frame is read again by the next feed. It copies what it keeps of an unfinished frame, and a
+    /// transfer's payload once.
+    ///
+    /// # Errors
+    ///
+    /// `ConnFault`: the first five end the connection, `Closed` says that it had ended before, and `NoMemory` that nothing has changed.
+    pub fn feed(&mut self, piece: &[u8]) -> Result<Fed, ConnFault>
+        ensures fed { Feeds self.old piece.now result self.new }
+        ensures progress { piece.now ≢ [] → MovesOn result }
+    {
+        match self.phase() {
+            Phase::Closed => Err(ConnFault::Closed),
+            Phase::AwaitHeader => self.feed_header(piece),
+            Phase::AwaitOpen | Phase::Running | Phase::Closing => self.feed_frames(piece),
+        }
+    }
+
+    /// As `feed` of the shared octets from a place on. The payload of a transfer that lies whole in them is a slice of them, without a copy: it
+    /// keeps all of them alive for as long as the delivery stands in the journal.
+    ///
+    /// # Errors
+    ///
+    /// Those of `feed`.
+    pub fn feed_shared(&mut self, shared: &Bytes, from: usize) -> Result<Fed, ConnFault>
+        requires { from ≤ length shared.now }
+        ensures fed { Feeds self.old (drop from shared.now) result self.new }
+        ensures progress { drop from shared.now ≢ [] → MovesOn result }
+    {
+        match self.phase() {
+            Phase::Closed => Err(ConnFault::Closed),
+            Phase::AwaitHeader => self.feed_header(&shared.as_slice()[from..]),
+            Phase::AwaitOpen | Phase::Running | Phase::Closing => self.share_frames(shared, from),
+        }
+    }
+
+    fn feed_header(&mut self, piece: &[u8]) -> Result<Fed, ConnFault>
+        requires { self.old.core.phase ≡ Phase.AwaitHeader }
+        ensures fed { Feeds self.old piece.now result self.new }
+        ensures progress { piece.now ≢ [] → MovesOn result }
+    {
+        let count = self.head.as_slice().len();
+        let missing = 8 - count;
+        if piece.len() < missing {
+            fill(&mut self.head, piece);
+            return Ok(nothing(piece.len()));
+        }
+        fill(&mut self.head, &piece[..missing]);
+        read_header(&mut self.machine, &mut self.head, count, missing)
+    }
+
+    fn feed_frames(&mut self, piece: &[u8]) -> Result<Fed, ConnFault>
+        requires { IsTrue (reads_frames self.old.core.phase) }
+        ensures fed { Feeds self.old piece.now result self.new }
+        ensures progress { piece.now ≢ [] → MovesOn result }
+    {
+        let answer = self.framer.feed(piece);
+        act(self.alloc, &mut self.machine, &mut self.framer, answer)
+    }
+
+    fn share_frames(&mut self, shared: &Bytes, from: usize) -> Result<Fed, ConnFault>
+        requires reads { IsTrue (reads_frames self.old.core.phase) }
+        requires from { from ≤ length shared.now }
+        ensures fed { Feeds self.old (drop from shared.now) result self.new }
+        ensures progress { drop from shared.now ≢ [] → MovesOn result }
+    {
+        let answer = frame_shared(&mut self.framer, shared, from);
+        act(self.alloc, &mut self.machine, &mut self.framer, answer)
+    }
+}

@@ -1,0 +1,47 @@
+//! The peer's header (part 2, 2.2): eight octets, however they come.
+ghost use Rattle.std.specs.Prelude.{◌≡◌, ◌≢◌, ◌≤◌, ◌+◌, ◌++◌, length, vec_len, vec_capacity, MatchBool};
+ghost use Rattle.amqp_conn.specs.Octets.{header};
+ghost use Rattle.amqp_conn.specs.Treats.{ReadsHeader};
+
+use crate::fault::ConnFault;
+use crate::fed::Fed;
+use crate::treating::{Machine, nothing};
+use crate::writing::HEADER;
+
+/// Puts octets behind those that are there; there is room for them.
+pub(crate) fn fill(head: &mut Vec<u8>, octets: &[u8])
+    requires { vec_len head.old + length octets.now ≤ vec_capacity head.old }
+    ensures items { head.new.items ≡ head.old.items ++ octets.now }
+    ensures room { vec_capacity head.old ≤ vec_capacity head.new }
+{
+    head.extend_from_slice(octets).unwrap();
+}
+
+fn is_header(octets: &[u8]) -> bool
+    ensures { MatchBool result (octets.now ≡ header) (octets.now ≢ header) }
+{
+    octets == HEADER.as_slice()
+}
+
+/// Reads eight octets as the peer's header, of which `used` came last, behind `count`. Where memory is refused those are taken away again.
+pub(crate) fn read_header(
+    machine: &mut Machine,
+    head: &mut Vec<u8>,
+    count: usize,
+    used: usize,
+) -> Result<Fed, ConnFault>
+    ensures reads { ReadsHeader machine.old head.old.items count used result machine.new head.new.items }
+    ensures room { vec_capacity head.old ≤ vec_capacity head.new }
+{
+    if !is_header(head.as_slice()) {
+        machine.lose();
+        return Err(ConnFault::BadHeader);
+    }
+    match machine.greet() {
+        Ok(()) => Ok(nothing(used)),
+        Err(_) => {
+            head.truncate(count);
+            Err(ConnFault::NoMemory)
+        }
+    }
+}

@@ -1,0 +1,124 @@
+//! One end of an AMQP 1.0 connection (OASIS AMQP 1.0 part 2, 2.2 and 2.4), without input and output: octets go in, units of octets come out.
+#![tactic(auto)]
+//!
+//! | module | what it has |
+//! |---|---|
+//! | `conn` | [`Conn`]: what a program drives |
+//! | `config`, `phase`, `fault`, `fed`, `refused` | its settings, where it stands, and what its calls answer |
+//! | `treating` | what a whole frame does: the state that frames and the application drive |
+//! | `header`, `feeding`, `writing` | the peer's header, the framer's answers, and the frames that a connection itself sends |
+//! | `device`, `pumping` | sources and sinks, and [`pump`], which lets a connection run over them |
+//! | `laws` | what holds however octets are cut |
+//!
+//! # Phases
+//!
+//! ```text
+//!              header heard          open heard             our close                peer's close
+//! AwaitHeader ─────────────► AwaitOpen ──────────► Running ───────────► Closing ───────────────► Closed
+//!      │                         │                    │ peer's close, or a fault: one close goes out  ▲
+//!      └─────────────────────────┴────────────────────┴───────────── octets ended (lost) ─────────────┘
+//! ```
+//!
+//! | phase | what was put out | what is heard | operations |
+//! |---|---|---|---|
+//! | `AwaitHeader` | our header | eight octets, the peer's header | refused |
+//! | `AwaitOpen` | and our open | an open, as the first frame with a body | refused |
+//! | `Running` | and the session's frames | the session's frames, and a close | done as the session allows |
+//! | `Closing` | and our close | a close; all else is dropped | refused |
+//! | `Closed` | and our close, where one could go out | nothing: each feed answers `ConnFault::Closed` | refused |
+//!
+//! # How a program drives a connection
+//!
+//! A [`Conn`] does no input or output, starts nothing and never waits: each call returns at once. A program moves the octets:
+//!
+//! 1. **Write**: take units by `pop_unit()` until it answers `None`, and write the octets of each, whole and in this order. Our header waits from the
+//!    start, so write before the first read. A unit's octets are the program's once it is popped: one that was written in part is kept by the
+//!    program, with the rest to be written before the next unit. Popping takes no memory.
+//! 2. **Read**: some octets, as many as have come, into a buffer of the program's. A read that gives none is the end of the input: call `lost()`.
+//! 3. **Feed**: `feed(piece)` takes octets at most to the end of one frame. Feed again what comes after the `used` ones, until none are left or the phase
+//!    is `Closed`. Where octets were cut makes no difference. Octets that lie in a `Bytes` are fed by `feed_shared`, which copies no payload.
+//! 4. **Act**: each feed that added an entry to the journal gives what that entry gave (`Fed::given`): a link that the peer offered, a delivery that is
+//!    ready, an outcome. `apply(&op)` does an operation, as take, dispose, grant or start, while the phase is `Running`; what it sends is a unit more.
+//! 5. Again from 1, until the phase is `Closed` and no unit waits; then shut the socket.
+//!
+//! ```text
+//! loop {
+//!     while let Some(unit) = conn.pop_unit() { socket.write_all(unit.bytes.as_slice())?; }
+//!     if conn.phase() == Phase::Closed { break; }
+//!     let count = socket.read(&mut buffer)?;
+//!     if count == 0 { conn.lost(); break; }
+//!     let mut rest = &buffer[..count];
+//!     while !rest.is_empty() && conn.phase() != Phase::Closed {
+//!         match conn.feed(rest) {
+//!             Ok(fed) => { rest = &rest[fed.used..]; act(&mut conn, fed.given); }
+//!             Err(fault) => { told = Some(fault); break; }   // the phase is Closed now, unless the fault is NoMemory
+//!         }
+//!     }
+//! }
+//! ```
+//!
+//! [`pump`] is this loop over a [`Source`] and a [`Sink`] for so many turns, without the act: for programs that have nothing else to do meanwhile, and
+//! for tests. [`FromStd`] makes one of any `Read` or `Write`.
+//!
+//! # How it ends
+//!
+//! The phase `Closed` is the only end state. What it means is told by what led there:
+//!
+//! | what led to `Closed` | what goes out | what it means |
+//! |---|---|---|
+//! | `close(..)`, and then the peer's close | our close, with the program's error if it gave one | ended as agreed |
+//! | the peer's close, while `Running` | our close, without an error | ended by the peer; its error is not kept |
+//! | a feed told `ConnFault::BadHeader` | nothing more | the peer speaks another protocol, or another version |
+//! | a feed told `Framing`, `OutOfPlace`, `BadChannel` or `JournalFull` | a close with the fault's condition, unless our close went out before | ended by us for what was heard |
+//! | `lost()` | nothing more | the octets ended first: nothing is known of what the peer has taken |
+//!
+//! Units that wait at the end still go out, the last close behind them. An input that ended in another phase than `Closed` was cut off. The journal,
+//! the unsettled deliveries and the units stay readable (`logged`): from them a program tells what was settled and what was not.
+//!
+//! # Errors
+//!
+//! - **A violation** of the session or of a link is answered as the standard wants, by an end or a detach with its condition (part 2, 2.5 and 2.6). That
+//!   feed uses no octets and tells it (`Fed::violation`); the next one reads the frame again, which is then dropped. The loop above needs no case for it.
+//! - **A fault** (`ConnFault`, the first five) ends the connection, as the table says.
+//! - **A refusal** of an operation (`Refusal`) or of a close (`CloseRefusal`) has changed nothing.
+//! - **Want of memory** (`NoMemory`, of any call) has changed nothing: the call can be made again once there is memory, a feed with the same octets.
+//! - **A device's error** is the program's: call `lost()`, and write no more.
+//!
+//! # Idle time-out
+//!
+//! A peer may tell in its open after how long without a frame it closes (part 2, 2.4.5). This crate has no clock, so the program keeps the time:
+//! whoever writes the units applies `Op::Beat`, which sends an empty frame of eight octets, whenever half of the peer's time-out has passed since the last
+//! unit was written. It may beat at any time while `Running`. What the peer told stands in no view: a program that does not know it beforehand
+//! beats often enough for any peer it meets. Ours is `Config::idle_time_out`, which the peer is told, in milliseconds; a program that has
+//! read nothing for twice as long may take the peer for gone: `close` the connection with an error, or call `lost`.
+//!
+//! # Threads
+//!
+//! A `Conn` belongs to one thread at a time: each call but the readers takes `&mut self`, and no call keeps a thread waiting. Units are to be written in
+//! the order in which they were popped, so one thread pops and writes, or the order is kept by the program. Feeds are in the order of the octets,
+//! so one thread reads and feeds. A program whose threads share a connection puts it under a lock.
+
+mod config;
+mod conn;
+mod device;
+mod fault;
+mod fed;
+mod feeding;
+mod header;
+pub mod laws;
+mod phase;
+mod pumping;
+mod refused;
+#[cfg(test)]
+mod tests;
+mod treating;
+mod writing;
+
+pub use config::{Config, MIN_MAX_FRAME};
+pub use conn::Conn;
+pub use device::{Failed, FromStd, Sink, Source};
+pub use fault::ConnFault;
+pub use fed::Fed;
+pub use phase::Phase;
+pub use pumping::{PumpEnd, PumpFault, pump};
+pub use refused::{CloseRefusal, StartFault};

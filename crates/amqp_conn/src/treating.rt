@@ -1,0 +1,405 @@
+//! A connection but the octets that it has not read: what a whole frame does to it (part 2, 2.4).
+ghost use Rattle.std.specs.Prelude.{◌≡◌, ◌≢◌, ◌⊎◌, [], Some, None, Ok, Err, OnOk, OnErr, IfOk, IfErr, IfSome, MatchResult, slice_get, true, false};
+ghost use Rattle.amqp_rules.specs.Refusing.{no_memory};
+ghost use Rattle.amqp_rules.specs.ViolationAnswer.{violation_answer, error_of};
+ghost use Rattle.amqp_frames.specs.Measuring.{IsMeasureOf};
+ghost use Rattle.amqp_rules.specs.Limits.{IsWithinLimits};
+ghost use Rattle.amqp_rules.specs.Sending.{octets_of};
+ghost use Rattle.amqp_journal.specs.Log.{IsRefusal, heard_due, popping};
+ghost use Rattle.amqp_journal.specs.Units.{units, waiting};
+ghost use Rattle.amqp_conn.specs.Calling.{IsFit, IsStartFault, Does, Closes, peer_max};
+ghost use Rattle.amqp_conn.specs.Octets.{open_frame, close_frame, condition, last_words, session_of, new_core};
+ghost use Rattle.amqp_conn.specs.Connection.{in_phase, sending};
+ghost use Rattle.amqp_conn.specs.Treating.{greeted, sending_last, fault_of, run, await_open, await_close, hearing, answering};
+ghost use Rattle.amqp_conn.specs.Treats.{Treats, TreatsAs, EndsWith};
+
+use crate::config::Config;
+use crate::fault::ConnFault;
+use crate::fed::Fed;
+use crate::phase::Phase;
+use crate::refused::{CloseRefusal, StartFault};
+use crate::writing::{HEADER, close_octets, last_close, measure_ours, open_octets, plain_close};
+use amqp_frames::{AmqpError, Frame, FrameRefusal, Measured, Performative};
+use amqp_journal::logged::Logged;
+use amqp_journal::unit::Unit;
+use amqp_rules::op::Op;
+use amqp_rules::refusal::Refusal;
+use amqp_rules::reply::Given;
+use amqp_rules::violation::{Violation, ViolationKind};
+use amqp_types::Boxed;
+use bytes::Bytes;
+use std::alloc::{AllocError, Global};
+use std::marker::Model;
+
+/// The state that whole frames and the application's calls drive.
+#[derive(Drop)]
+pub struct Machine {
+    alloc: Global,
+    config: Config,
+    /// The octets of our open.
+    opening: Bytes,
+    phase: Phase,
+    logged: Logged,
+}
+
+impl Model for Machine {
+    ghost use Rattle.std.specs.Prelude.{◌≡◌};
+    ghost use Rattle.amqp_rules.specs.Sending.{octets_of};
+    ghost use Rattle.amqp_conn.specs.Connection.{Core};
+    ghost use Rattle.amqp_conn.specs.Octets.{open_frame};
+    ghost use Rattle.amqp_types.specs.contracts.value.Value as value;
+    ghost use Rattle.std.specs.Coded.{codes};
+
+    ghost Value = { Core };
+
+    ghost coded = { Prim.hlevel (codes, value.the_row.coded) };
+
+    ghost view = { λ c. record { config = c.config; phase = c.phase; log = c.logged } };
+
+    ghost invariant = { λ c. c.opening ≡ octets_of (open_frame c.config) };
+}
+
+/// Nothing was taken but octets.
+pub fn nothing(used: usize) -> Fed
+    ensures { result ≡ record { used = used; stepped = false; given = Given.Nothing; violation = None } }
+{
+    Fed {
+        used,
+        stepped: false,
+        given: Given::Nothing,
+        violation: None,
+    }
+}
+
+fn fault_of(kind: ViolationKind) -> ConnFault
+    ensures { result ≡ fault_of kind }
+{
+    match kind {
+        ViolationKind::JournalFull => ConnFault::JournalFull,
+        ViolationKind::OutOfSession
+        | ViolationKind::BadHandle
+        | ViolationKind::HandleTaken
+        | ViolationKind::NameTaken
+        | ViolationKind::CountAhead
+        | ViolationKind::Window
+        | ViolationKind::MissingField
+        | ViolationKind::IdOrder
+        | ViolationKind::TagHeld
+        | ViolationKind::Mode
+        | ViolationKind::Credit
+        | ViolationKind::TooLong
+        | ViolationKind::BadRange
+        | ViolationKind::NoMemory => ConnFault::OutOfPlace,
+    }
+}
+
+#[tactic(auto, unfolding(crate::specs::Calling::peer_max))]
+/// The longest frame that the peer takes.
+fn peer_max(logged: &Logged) -> u32
+    ensures { result ≡ peer_max logged.now }
+{
+    logged.peer_max_frame()
+}
+
+/// The state at first, with our header put out.
+fn start(alloc: Global, config: Config, measured: Measured) -> Result<Machine, AllocError>
+    requires limits { IsWithinLimits (session_of config) }
+    requires measure { IsMeasureOf (open_frame config) measured }
+    ensures { IfOk result (λ machine. machine ≡ new_core config) }
+{
+    let opening = open_octets(alloc, &config, measured)?;
+    let mut logged = Logged::new(alloc, &config.session())?;
+    logged.put_unit(Bytes::from_static(&HEADER))?;
+    Ok(Machine {
+        alloc,
+        config,
+        opening,
+        phase: Phase::AwaitHeader,
+        logged,
+    })
+}
+
+impl Machine {
+    pub fn new(alloc: Global, config: Config) -> Result<Machine, StartFault>
+        ensures { MatchResult result (λ machine. IsFit config × (machine ≡ new_core config)) (λ e. IsStartFault e config) }
+    {
+        if !config.is_within_limits() {
+            return Err(StartFault::BadConfig);
+        }
+        let (config, measured) = match measure_ours(config) {
+            Ok(both) => both,
+            Err(_) => return Err(StartFault::BadConfig),
+        };
+        match start(alloc, config, measured) {
+            Ok(machine) => Ok(machine),
+            Err(_) => Err(StartFault::NoMemory),
+        }
+    }
+
+    /// Does an operation, where the connection is running.
+    pub fn apply(&mut self, op: &Op) -> Result<Given, Refusal>
+        ensures { Does self.old op.now result self.new }
+    {
+        match self.phase {
+            Phase::Running => self.logged.apply(op),
+            Phase::AwaitHeader | Phase::AwaitOpen | Phase::Closing | Phase::Closed => {
+                Err(Refusal::NotRunning)
+            }
+        }
+    }
+
+    /// Puts out our close, where the connection is running.
+    pub fn close(&mut self, error: Option<Boxed<AmqpError>>) -> Result<(), CloseRefusal>
+        ensures { Closes self.old error result self.new }
+    {
+        match self.phase {
+            Phase::Running => self.put_our_close(error),
+            Phase::AwaitHeader | Phase::AwaitOpen | Phase::Closing | Phase::Closed => {
+                Err(CloseRefusal::NotOpen)
+            }
+        }
+    }
+
+    fn put_our_close(&mut self, error: Option<Boxed<AmqpError>>) -> Result<(), CloseRefusal>
+        requires { self.old.phase ≡ Phase.Running }
+        ensures { Closes self.old error result self.new }
+    {
+        match close_octets(self.alloc, error, peer_max(&self.logged)) {
+            Ok(octets) => match self.logged.put_unit(octets) {
+                Ok(()) => {
+                    self.phase = Phase::Closing;
+                    Ok(())
+                }
+                Err(_) => Err(CloseRefusal::NoMemory),
+            },
+            Err(FrameRefusal::NotWritable) => Err(CloseRefusal::NotWritable),
+            Err(FrameRefusal::FrameTooBig) => Err(CloseRefusal::FrameTooBig),
+            Err(FrameRefusal::NoMemory) => Err(CloseRefusal::NoMemory),
+        }
+    }
+
+    pub fn pop_unit(&mut self) -> Option<Unit>
+        ensures some { IfSome result (λ unit. (unit.number ≡ self.old.log.popped) × (slice_get (units self.old.log) self.old.log.popped ≡ Some unit.bytes) × (self.new ≡ record self.old { log = popping self.old.log })) }
+        ensures none { result ≡ None → (waiting self.old.log ≡ []) × (self.new ≡ self.old) }
+    {
+        self.logged.pop_unit()
+    }
+
+    pub fn phase(&self) -> Phase
+        ensures { result ≡ self.now.phase }
+    {
+        self.phase
+    }
+
+    pub fn max_frame(&self) -> u32
+        ensures { result ≡ self.now.config.max_frame }
+    {
+        self.config.max_frame
+    }
+
+    pub fn logged(&self) -> &Logged
+        ensures { result.now ≡ self.now.log }
+    {
+        &self.logged
+    }
+
+    /// The octets ended, or are not the header.
+    pub fn lose(&mut self)
+        ensures { self.new ≡ in_phase Phase.Closed self.old }
+    {
+        self.phase = Phase::Closed;
+    }
+
+    /// The header was read: our open goes out.
+    pub fn greet(&mut self) -> Result<(), AllocError>
+        ensures ok { OnOk result (self.new ≡ greeted self.old) }
+        ensures err { OnErr result (self.new ≡ self.old) }
+    {
+        let octets = self.opening.clone()?;
+        self.logged.put_unit(octets)?;
+        self.phase = Phase::AwaitOpen;
+        Ok(())
+    }
+
+    #[tactic(auto, unfolding(crate::specs::Treating::treat))]
+    /// Does what a whole frame does.
+    pub fn treat(&mut self, used: usize, frame: &Frame) -> Result<Fed, ConnFault>
+        ensures { Treats self.old frame.now used result self.new }
+    {
+        match self.phase {
+            Phase::AwaitHeader | Phase::Closed => Ok(nothing(used)),
+            Phase::AwaitOpen => self.await_open(used, frame),
+            Phase::Running => self.run(used, frame),
+            Phase::Closing => Ok(self.await_close(used, frame)),
+        }
+    }
+
+    /// The first frame with a body is to be an open.
+    fn await_open(&mut self, used: usize, frame: &Frame) -> Result<Fed, ConnFault>
+        requires { self.old.phase ≡ Phase.AwaitOpen }
+        ensures { TreatsAs (await_open self.old frame.now.channel frame.now.body) self.old frame.now used result self.new }
+    {
+        match &frame.body {
+            None => Ok(nothing(used)),
+            Some(Performative::Open(body)) => {
+                if frame.channel != 0 {
+                    return Err(self.end(ConnFault::BadChannel));
+                }
+                let told = body.get().max_frame_size.unwrap_or(4294967295).max(512);
+                match self.logged.opened(told) {
+                    Ok(()) => {
+                        self.phase = Phase::Running;
+                        Ok(Fed {
+                            used,
+                            stepped: true,
+                            given: Given::Nothing,
+                            violation: None,
+                        })
+                    }
+                    Err(_) => Err(ConnFault::NoMemory),
+                }
+            }
+            Some(_) => Err(self.end(ConnFault::OutOfPlace)),
+        }
+    }
+
+    fn await_close(&mut self, used: usize, frame: &Frame) -> Fed
+        requires { self.old.phase ≡ Phase.Closing }
+        ensures { TreatsAs (await_close self.old frame.now.body) self.old frame.now used (Ok result) self.new }
+    {
+        if let Some(Performative::Close(_)) = &frame.body {
+            self.phase = Phase::Closed;
+        }
+        nothing(used)
+    }
+
+    fn run(&mut self, used: usize, frame: &Frame) -> Result<Fed, ConnFault>
+        requires { self.old.phase ≡ Phase.Running }
+        ensures { TreatsAs (run self.old frame.now frame.now.body) self.old frame.now used result self.new }
+    {
+        match &frame.body {
+            None => Ok(nothing(used)),
+            Some(Performative::Open(_)) => Err(self.end(ConnFault::OutOfPlace)),
+            Some(Performative::Close(_)) => {
+                if frame.channel != 0 {
+                    return Err(self.end(ConnFault::BadChannel));
+                }
+                self.close_in_return(used)
+            }
+            Some(
+                Performative::Begin(_)
+                | Performative::Attach(_)
+                | Performative::Flow(_)
+                | Performative::Transfer(_)
+                | Performative::Disposition(_)
+                | Performative::Detach(_)
+                | Performative::End(_),
+            ) => {
+                if frame.channel != 0 {
+                    return Err(self.end(ConnFault::BadChannel));
+                }
+                self.hear(used, frame)
+            }
+        }
+    }
+
+    fn hear(&mut self, used: usize, frame: &Frame) -> Result<Fed, ConnFault>
+        requires { self.old.phase ≡ Phase.Running }
+        ensures { TreatsAs (hearing self.old frame.now (heard_due self.old.log frame.now)) self.old frame.now used result self.new }
+    {
+        match self.logged.receive(frame) {
+            Ok(given) => Ok(Fed {
+                used,
+                stepped: true,
+                given,
+                violation: None,
+            }),
+            Err(violation) => self.violated(used, frame, violation),
+        }
+    }
+
+    /// Answers the violation by its operation, or ends the connection.
+    fn violated(
+        &mut self,
+        used: usize,
+        frame: &Frame,
+        violation: Violation,
+    ) -> Result<Fed, ConnFault>
+        requires running { self.old.phase ≡ Phase.Running }
+        requires told { IsRefusal no_memory (heard_due self.old.log frame.now) violation }
+        ensures { TreatsAs (hearing self.old frame.now (heard_due self.old.log frame.now)) self.old frame.now used result self.new }
+    {
+        if violation.kind == ViolationKind::NoMemory {
+            return Err(ConnFault::NoMemory);
+        }
+        let Ok(answer) = violation.answer(self.alloc) else {
+            return Err(ConnFault::NoMemory);
+        };
+        let Some(op) = answer else {
+            return Err(self.end(fault_of(violation.kind)));
+        };
+        let done = self.logged.apply(&op);
+        drop(op);
+        match done {
+            Ok(given) => Ok(Fed {
+                used: 0,
+                stepped: true,
+                given,
+                violation: Some(violation),
+            }),
+            Err(Refusal::NoMemory) => Err(ConnFault::NoMemory),
+            Err(_) => Err(self.end(fault_of(violation.kind))),
+        }
+    }
+
+    /// Answers the peer's close.
+    fn close_in_return(&mut self, used: usize) -> Result<Fed, ConnFault>
+        ensures ok { IfOk result (λ fed. (fed ≡ record { used = used; stepped = false; given = Given.Nothing; violation = None }) × (self.new ≡ in_phase Phase.Closed (sending (octets_of (close_frame None)) self.old))) }
+        ensures memory { IfErr result (λ e. e ≡ ConnFault.NoMemory) }
+        ensures err { OnErr result (self.new ≡ self.old) }
+    {
+        let Ok(octets) = plain_close(self.alloc) else {
+            return Err(ConnFault::NoMemory);
+        };
+        let Ok(()) = self.logged.put_unit(octets) else {
+            return Err(ConnFault::NoMemory);
+        };
+        self.phase = Phase::Closed;
+        Ok(nothing(used))
+    }
+
+    #[tactic(auto, unfolding(crate::specs::Treating::ending))]
+    /// Ends the connection with the fault, or tells that memory was refused.
+    pub fn end(&mut self, fault: ConnFault) -> ConnFault
+        requires open { self.old.phase ≢ Phase.Closed }
+        ensures { EndsWith fault self.old result self.new }
+    {
+        match self.put_last(fault) {
+            Ok(()) => {
+                self.phase = Phase::Closed;
+                fault
+            }
+            Err(_) => ConnFault::NoMemory,
+        }
+    }
+
+    /// Puts out the last close, where one may go out.
+    fn put_last(&mut self, fault: ConnFault) -> Result<(), AllocError>
+        ensures ok { OnOk result (self.new ≡ sending_last (last_words self.old.phase fault) self.old) }
+        ensures err { OnErr result (self.new ≡ self.old) }
+    {
+        match self.phase {
+            Phase::AwaitOpen => self.put_close(fault),
+            Phase::Running => self.put_close(fault),
+            Phase::AwaitHeader | Phase::Closing | Phase::Closed => Ok(()),
+        }
+    }
+
+    fn put_close(&mut self, fault: ConnFault) -> Result<(), AllocError>
+        ensures ok { OnOk result (self.new ≡ sending (octets_of (close_frame (error_of (condition fault)))) self.old) }
+        ensures err { OnErr result (self.new ≡ self.old) }
+    {
+        let octets = last_close(self.alloc, fault)?;
+        self.logged.put_unit(octets)
+    }
+}
