@@ -1,15 +1,78 @@
-//! How the crates are embedded, the lowest first: frames alone, then a session with its journal.
+//! How the crates are embedded, the lowest first: frames alone, a session with its journal, a connection. And a connection to try by hand.
 //!
 //! | module | which crate it shows |
 //! |---|---|
 //! | `codec` | `amqp_frames`: frames written, and a stream read however it is cut |
 //! | `session` | `amqp_journal`: operations and heard frames in, frames to send out |
+//! | `connection` | `amqp_conn`: octets in, octets out |
+//! | `command_line` | the command and its options |
+//! | `feeding` | one feed of a loop of feeds |
+//! | `driven` | the command `conn`: a connection that lines drive |
+//!
+//! | exit status | where |
+//! |---|---|
+//! | 0 | all is done, or help was asked for |
+//! | 1 | a read, a write or an allocation failed; standard error has one line on it |
+//! | 2 | the command line is at fault, or a line was bad |
 #![tactic(auto)]
 
 mod codec;
+mod command_line;
+mod connection;
+mod driven;
+mod feeding;
 mod session;
+#[cfg(test)]
+mod tests;
 
-fn main(rt: HostRuntime) -> anyhow::Result<()> {
-    codec::run(&rt)?;
-    session::run(&rt)
+use amqp_script::Outcome;
+use command_line::{Request, Settings, read_request};
+use std::env::Env;
+use std::io::{BufReader, BufWriter};
+use std::process::ExitCode;
+use std::{env, io};
+
+const FAULT: u8 = 1;
+
+const BAD_LINE: u8 = 2;
+
+fn main(rt: HostRuntime) -> ExitCode {
+    match run(&rt) {
+        Ok(status) => status,
+        Err(fault) => {
+            // A fault that cannot be told still has its status.
+            let _ = eprintln!(rt; "amqp_example: {fault}");
+            ExitCode::from(FAULT)
+        }
+    }
+}
+
+fn run<R>(rt: &R) -> anyhow::Result<ExitCode>
+where
+    R: AllocGlobal + Env + Input + Print + Eprint,
+{
+    let words: Vec<String> = env::args(rt)?.collect(rt.alloc())?;
+    match read_request(rt.alloc(), words.as_slice()) {
+        Ok(Request::Examples) => {
+            codec::run(rt)?;
+            session::run(rt)?;
+            connection::run(rt)?;
+            Ok(ExitCode::SUCCESS)
+        }
+        Ok(Request::Conn(settings)) => drive(rt, &settings),
+        Err(error) => {
+            error.print(rt)?;
+            Ok(ExitCode::from(error.exit_code() as u8))
+        }
+    }
+}
+
+fn drive<R: AllocGlobal + Input + Print>(rt: &R, settings: &Settings) -> anyhow::Result<ExitCode> {
+    let conn = driven::open(rt.alloc(), settings)?;
+    let mut reader = BufReader::new(rt.alloc(), rt.reader())?;
+    let mut writer = BufWriter::new(rt.alloc(), io::writer(rt))?;
+    match driven::run_lines(rt.alloc(), conn, &mut reader, &mut writer)? {
+        Outcome::EachLineGood => Ok(ExitCode::SUCCESS),
+        Outcome::SomeLineBad => Ok(ExitCode::from(BAD_LINE)),
+    }
 }

@@ -112,10 +112,12 @@ impl End {
             Given::Delivery(id) => Ok(println!(rt; "{name}: delivery {id} begins")?),
             Given::Ready(_, id) => Ok(println!(rt; "{name}: delivery {id} is ready")?),
             Given::Taken(taken) => {
+                let taken = taken.get();
                 let (id, length) = (taken.id, taken.payload.len());
                 Ok(println!(rt; "{name}: delivery {id} is taken, {length} octets")?)
             }
             Given::Learned(learned) => {
+                let learned = learned.get();
                 let (id, settled) = (learned.id, learned.settled);
                 Ok(println!(rt; "{name}: delivery {id} is settled: {settled}")?)
             }
@@ -131,14 +133,18 @@ impl End {
 /// Each end hears what the other put out.
 fn exchange<R: AllocGlobal + Print>(rt: &R, one: &mut End, other: &mut End) -> anyhow::Result<()> {
     for _ in 0..UNITS {
-        if let Some(unit) = one.logged.pop_unit() {
-            other.hear(rt, unit.bytes.as_slice())?;
-        }
-        if let Some(unit) = other.logged.pop_unit() {
-            one.hear(rt, unit.bytes.as_slice())?;
-        }
+        hand_on(rt, one, other)?;
+        hand_on(rt, other, one)?;
     }
     Ok(())
+}
+
+/// The first unit that waits at the one end is heard at the other.
+fn hand_on<R: AllocGlobal + Print>(rt: &R, from: &mut End, to: &mut End) -> anyhow::Result<()> {
+    match from.logged.pop_unit() {
+        Some(unit) => to.hear(rt, unit.bytes.as_slice()),
+        None => Ok(()),
+    }
 }
 
 fn attach(alloc: Global, role: Role) -> anyhow::Result<Op> {

@@ -1,4 +1,1 @@
-pub mod Cuts
-pub mod Decimal
 pub mod Entries
-pub mod KnownOctets

@@ -1,3 +1,1 @@
-pub mod Left
 pub mod Requests
-pub mod Words

@@ -1,8 +1,8 @@
 //! The command `frames`: lines of hexadecimal are joined, framed and named.
 ghost use Rattle.std.specs.Prelude.{◌≢◌, ◌<◌, ◌≤◌, [], IfOk, length};
 
-use crate::lines::{LineTaker, Outcome, RunFault, take_lines};
 use amqp_frames::{Frame, FrameFault, Framer, Performative};
+use amqp_script::{LineTaker, Outcome, RunFault, take_lines};
 use std::alloc::{AllocError, Global};
 use std::io::{BufRead, Write};
 

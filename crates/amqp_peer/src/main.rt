@@ -3,11 +3,8 @@
 //! | module | what it holds |
 //! |---|---|
 //! | `command_line` | the commands and their options |
-//! | `lines` | the lines of an input, one after the other |
 //! | `frames` | the command `frames`: octets in hexadecimal, framed and named |
 //! | `script` | the command `script`: lines of text on one journal, one answer each |
-//! | `script::line`, `script::words` | what a line says |
-//! | `script::answer` | the text of an answer |
 //!
 //! | exit status | where |
 //! |---|---|
@@ -18,14 +15,13 @@
 
 pub mod command_line;
 pub mod frames;
-pub mod lines;
 pub mod script;
 #[cfg(test)]
 mod tests;
 
+use amqp_script::Outcome;
 use command_line::{Request, read_request};
 use frames::{Framed, Octets, run_frames};
-use lines::Outcome;
 use script::run_script;
 use std::env::Env;
 use std::io::{BufReader, BufWriter};

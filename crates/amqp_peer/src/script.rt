@@ -3,19 +3,13 @@ ghost use Rattle.std.specs.Prelude.{◌<◌, OnOk, OnSome, length};
 ghost use Rattle.std.specs.Io.KnownBytes.{IsAtEnd};
 ghost use Rattle.amqp_rules.specs.Limits.{IsWithinLimits};
 
-pub mod answer;
-pub mod line;
-pub mod words;
-
-use crate::lines::{LineTaker, Outcome, RunFault, take_lines};
 use amqp_endpoint::config::Config;
 use amqp_endpoint::op::Op;
 use amqp_endpoint::refusal::Refusal;
 use amqp_endpoint::violation::ViolationKind;
 use amqp_frames::Frame;
 use amqp_journal::logged::Logged;
-use answer::Answer;
-use line::{Line, LineFault};
+use amqp_script::{Answer, Line, LineFault, LineTaker, Outcome, RunFault, take_lines};
 use std::alloc::{AllocError, Global};
 use std::io::{BufRead, Write};
 

@@ -1,0 +1,209 @@
+//! What no clause says: the lines of the command `conn` and their answers, for worked connections.
+
+use crate::command_line::{Request, Settings, read_request};
+use crate::driven::{open, run_lines};
+use amqp_script::Outcome;
+use std::alloc::Global;
+use std::test::Fail;
+
+/// Header and open of the peer, and a session that both ends have begun.
+const MAPPED: &[u8] = b"feed 414d515000010000
+feed 0000001a02000000005310c00d04a10161407000010000600000
+begin
+feed 0000001c02000000005311c00f04600000437000000800707fffffff
+";
+
+/// The lines are answered so at their end, after a session was begun, and whether each of them was one.
+fn ends_so(alloc: Global, settings: &Settings, lines: &[u8], wanted: &[u8]) -> Result<bool, Fail> {
+    let mut script = Vec::from_slice(alloc, MAPPED)?;
+    script.extend_from_slice(lines)?;
+    let (answers, outcome) = answers(alloc, settings, script.as_slice())?;
+    if !answers.ends_with(wanted) {
+        return Err(Fail::new("other answers"));
+    }
+    Ok(outcome == Outcome::EachLineGood)
+}
+
+fn answers(alloc: Global, settings: &Settings, lines: &[u8]) -> Result<(Vec<u8>, Outcome), Fail> {
+    let Ok(conn) = open(alloc, settings) else {
+        return Err(Fail::new("no connection"));
+    };
+    let mut reader: &[u8] = lines;
+    let mut answers: Vec<u8> = Vec::new(alloc);
+    let outcome = run_lines(alloc, conn, &mut reader, &mut answers)?;
+    Ok((answers, outcome))
+}
+
+#[test]
+fn a_connection_that_begins(rt: HostRuntime) -> Result<(), Fail> {
+    let wanted =
+        b"ok told=- phase=awaitopen units=414d515000010000,0000001a02000000005310c00d04a10161407000010000600000
+ok told=none phase=running units=-
+ok given=none phase=running units=0000001a02000000005311c00d0440437000000800707fffffff
+ok told=none phase=running units=-
+refused 3
+bad line
+ok phase=closing units=0000000c0200000000531845
+ok told=- phase=closed units=-
+ok told=fault:6 phase=closed units=-
+ok phase=closed units=-
+";
+    let lines = b"begin
+hear 0000001c02000000005311c00f04600000437000000800707fffffff
+close
+feed 0000000c0200000000531845
+feed 00
+lost
+";
+    let good = ends_so(rt.alloc(), &Settings::default(), lines, wanted)?;
+    assert!(rt; !good);
+    Ok(())
+}
+
+/// A flow that counts a transfer that was not sent is answered by an end; read again, it is dropped.
+#[test]
+fn a_count_ahead(rt: HostRuntime) -> Result<(), Fail> {
+    let settings = Settings {
+        first_id: 10,
+        window: 2048,
+        limit: 1000,
+    };
+    let lines = b"attach sender q 2 0 0 0
+feed 0000001302000000005312c00603a101714341
+feed 0000001f02000000005313c01207520a700000080043707fffffff43435205
+start 0 01 0 0 0 78
+start 0 02 0 0 0 78
+start 0 03 0 0 0 78
+feed 0000001802000000005313c00b04520e520443707fffffff
+beat
+";
+    let wanted =
+        b"ok given=link:0 phase=running units=0000001c02000000005312c00f0aa101714342500250004040404043
+ok told=attached:0 phase=running units=-
+ok told=none phase=running units=-
+ok given=delivery:10 phase=running units=0000001602000000005314c0080443520aa001014378
+ok given=delivery:11 phase=running units=0000001602000000005314c0080443520ba001024378
+ok given=delivery:12 phase=running units=0000001602000000005314c0080443520ca001034378
+ok told=violation:6,none phase=running units=0000002802000000005317c01b0100531dc01501a312616d71703a696e76616c69642d6669656c64
+ok given=none phase=running units=0000000802000000
+";
+    assert!(rt; ends_so(rt.alloc(), &settings, lines, wanted)?);
+    Ok(())
+}
+
+/// A transfer without credit is answered by a detach; read again, it is passed over.
+#[test]
+fn a_transfer_without_credit(rt: HostRuntime) -> Result<(), Fail> {
+    let lines = b"attach receiver q 2 0 0 0
+feed 0000001c02000000005312c00f0aa101714342500250004040404043
+grant 0 2 0 0
+feed 0000001502000000005314c007044343a001014378
+feed 0000001602000000005314c00804435201a001024378
+feed 0000001602000000005314c00804435202a001034378
+";
+    let wanted = b"ok told=ready:0:0 phase=running units=-
+ok told=ready:0:1 phase=running units=-
+ok told=violation:12,none phase=running units=0000003902000000005316c02c03434100531dc02401a321616d71703a6c696e6b3a7472616e736665722d6c696d69742d6578636565646564
+";
+    assert!(rt; ends_so(rt.alloc(), &Settings::default(), lines, wanted)?);
+    Ok(())
+}
+
+#[test]
+fn a_body_that_is_none(rt: HostRuntime) -> Result<(), Fail> {
+    let wanted =
+        b"ok told=fault:2.5 phase=closed units=0000002702000000005318c01a0100531dc01401a311616d71703a6465636f64652d6572726f72
+ok told=fault:6 phase=closed units=-
+";
+    let lines = b"feed 0000000902000000ff
+feed 00
+";
+    assert!(rt; ends_so(rt.alloc(), &Settings::default(), lines, wanted)?);
+    Ok(())
+}
+
+/// A full journal takes no step; the peer's next frame ends the connection.
+#[test]
+fn a_full_journal(rt: HostRuntime) -> Result<(), Fail> {
+    let settings = Settings {
+        first_id: 0,
+        window: 2048,
+        limit: 4,
+    };
+    let lines = b"refresh 0
+refresh 0
+feed 0000001a02000000005313c00d0443700000080043707fffffff
+feed 00
+";
+    let wanted =
+        b"ok given=none phase=running units=0000001a02000000005313c00d0443700000080043707fffffff
+refused 2
+ok told=fault:5 phase=closed units=0000003202000000005318c0250100531dc01f01a31c616d71703a7265736f757263652d6c696d69742d6578636565646564
+ok told=fault:6 phase=closed units=-
+";
+    assert!(rt; ends_so(rt.alloc(), &settings, lines, wanted)?);
+    let closing = b"refresh 0
+close
+";
+    let closed = b"ok phase=closing units=0000000c0200000000531845
+";
+    assert!(rt; ends_so(rt.alloc(), &settings, closing, closed)?);
+    Ok(())
+}
+
+/// A link is left while a delivery comes on it, and the connection is closed.
+#[test]
+fn a_link_that_is_left(rt: HostRuntime) -> Result<(), Fail> {
+    let lines = b"attach receiver q 2 0 0 0
+feed 0000001c02000000005312c00f0aa101714342500250004040404043
+grant 0 2 0 0
+detach 0
+feed 0000001b02000000005314c007044343a0010143005375a0026869
+windows
+feed 0000001002000000005316c003024341
+close
+";
+    let wanted = b"ok given=none phase=running units=0000001002000000005316c003024341
+ok told=none phase=running units=-
+windows next-in=1 in=2047 next-out=0 remote-in=2048 remote-out=2147483646 delivery=0
+ok told=gone:0 phase=running units=-
+ok phase=closing units=0000000c0200000000531845
+";
+    assert!(rt; ends_so(rt.alloc(), &Settings::default(), lines, wanted)?);
+    Ok(())
+}
+
+#[test]
+fn command_lines(rt: HostRuntime) -> Result<(), Fail> {
+    let alloc = rt.alloc();
+    let asked = Settings {
+        first_id: 1,
+        window: 2,
+        limit: 3,
+    };
+    let words = [
+        "amqp_example",
+        "conn",
+        "--first-id",
+        "1",
+        "--window",
+        "2",
+        "--limit",
+        "3",
+    ];
+    assert_eq!(rt;
+        read_request(alloc, &words).ok(),
+        Some(Request::Conn(asked))
+    );
+    let words = ["amqp_example", "conn"];
+    assert_eq!(rt;
+        read_request(alloc, &words).ok(),
+        Some(Request::Conn(Settings::default()))
+    );
+    assert_eq!(rt;
+        read_request(alloc, &["amqp_example"]).ok(),
+        Some(Request::Examples)
+    );
+    assert!(rt; read_request(alloc, &["amqp_example", "conn", "--window", "0"]).is_err());
+    Ok(())
+}
