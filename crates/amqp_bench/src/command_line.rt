@@ -1,0 +1,115 @@
+//! What is asked for on the command line.
+
+use crate::session::Messages;
+use clap::{Arg, ArgMatches, Command, Error, value_parser};
+use std::alloc::{AllocError, Global};
+use std::convert::AsStr;
+
+/// How often each frame is written and read where nothing else is asked for.
+const ROUNDS: u32 = 100000;
+
+/// What is to be measured.
+#[derive(Clone, Copy, Debug)]
+pub enum Request {
+    /// Frames written and read, so often; one way alone where a part is named.
+    Codec { rounds: u32, part: Option<u32> },
+    /// Messages over a session.
+    Session(Messages),
+}
+
+/// What the words ask for, the first of which is the program's name.
+pub fn read_request<'a, S: AsStr>(alloc: Global, words: &'a [S]) -> Result<Request, Error> {
+    let mut command = program(alloc)?;
+    let matches = command.try_get_matches_from_mut(words)?;
+    if let Some(options) = matches.subcommand_matches("session") {
+        return Ok(Request::Session(read_messages(options)));
+    }
+    match matches.subcommand_matches("codec") {
+        Some(options) => {
+            let rounds = options.get_one::<u32>("rounds");
+            Ok(Request::Codec {
+                rounds: rounds.unwrap_or(ROUNDS),
+                part: options.get_one::<u32>("part"),
+            })
+        }
+        None => Ok(Request::Codec {
+            rounds: ROUNDS,
+            part: None,
+        }),
+    }
+}
+
+/// The messages that the options ask for. Where no range is named, a disposition names all deliveries that were taken.
+fn read_messages(options: &ArgMatches<'_>) -> Messages {
+    let number = |name: &str, other: u32| options.get_one::<u32>(name).unwrap_or(other);
+    Messages {
+        count: number("count", 100000),
+        size: number("size", 16),
+        settled: number("settled", 0) == 1,
+        credit: number("credit", 100),
+        range: number("range", u32::MAX),
+    }
+}
+
+fn program<'a>(alloc: Global) -> Result<Command<'a>, AllocError> {
+    Command::new(alloc, "amqp_bench")
+        .about("Measures one end of an AMQP 1.0 connection")
+        .subcommand_required(true)
+        .subcommand(codec(alloc)?)?
+        .subcommand(session(alloc)?)
+}
+
+fn codec<'a>(alloc: Global) -> Result<Command<'a>, AllocError> {
+    let rounds = Arg::new(alloc, "rounds")
+        .long("rounds")
+        .value_name("N")
+        .value_parser(value_parser!(u32).range(1..=100000000))
+        .default_value("100000")
+        .help("How often each frame is written and read");
+    let part = Arg::new(alloc, "part")
+        .long("part")
+        .value_name("K")
+        .value_parser(value_parser!(u32).range(1..=6))
+        .help("One way alone: 1 a transfer written, 2 read, 3 and 4 a flow, 5 and 6 a disposition");
+    Command::new(alloc, "codec")
+        .about("Writes and reads transfer, flow and disposition frames in memory")
+        .arg(rounds)?
+        .arg(part)
+}
+
+fn session<'a>(alloc: Global) -> Result<Command<'a>, AllocError> {
+    let count = Arg::new(alloc, "count")
+        .long("count")
+        .value_name("N")
+        .value_parser(value_parser!(u32).range(1..=100000000))
+        .help("How many messages are sent");
+    let size = Arg::new(alloc, "size")
+        .long("size")
+        .value_name("S")
+        .value_parser(value_parser!(u32).range(0..=100000000))
+        .help("How long each is, in octets");
+    let settled = Arg::new(alloc, "settled")
+        .long("settled")
+        .value_name("0|1")
+        .value_parser(value_parser!(u32).range(0..=1))
+        .help("1: they are sent settled; 0: each is accepted, settled and learnt");
+    let credit = Arg::new(alloc, "credit")
+        .long("credit")
+        .value_name("C")
+        .value_parser(value_parser!(u32).range(1..=2147483647))
+        .help("How many the receiver lets begin at a time");
+    let range = Arg::new(alloc, "range")
+        .long("range")
+        .value_name("R")
+        .value_parser(value_parser!(u32).range(1..=2147483647))
+        .help(
+            "How many deliveries a disposition names at most; all that were taken where it is left off",
+        );
+    Command::new(alloc, "session")
+        .about("Sends messages over a session in memory, between two ends with their journals")
+        .arg(count)?
+        .arg(size)?
+        .arg(settled)?
+        .arg(credit)?
+        .arg(range)
+}

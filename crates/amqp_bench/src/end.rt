@@ -1,0 +1,251 @@
+//! One end of a session: an endpoint with its journal, and the framer of what it hears.
+
+use amqp_endpoint::config::{Config, MAX_JOURNAL_LIMIT, MAX_WINDOW};
+use amqp_endpoint::op::Op;
+use amqp_endpoint::reply::Given;
+use amqp_frames::{DeliveryState, Frame, Framer, Role};
+use amqp_journal::logged::Logged;
+use amqp_types::{Tag, Text};
+use anyhow::{Context, ensure};
+use bytes::Bytes;
+use std::alloc::Global;
+
+/// The longest frame that either end takes, in octets.
+const MAX_FRAME: u32 = 65536;
+
+/// How many octets of a payload go in one transfer at most, so that the frame is not too long.
+const PART: usize = 65472;
+
+/// More units than an end has waiting at any time.
+const UNITS: u32 = u32::MAX;
+
+/// One end of the session, with the counts of what it did.
+#[derive(Drop)]
+pub struct End {
+    logged: Logged,
+    framer: Framer,
+    /// The frame that was heard last.
+    heard: Frame,
+    begun: u32,
+    taken: u32,
+    octets: u64,
+    learnt: u32,
+    /// How many of the deliveries that were taken are settled.
+    settled: u32,
+}
+
+impl End {
+    pub fn new(alloc: Global) -> anyhow::Result<End> {
+        let config = Config {
+            first_id: 0,
+            window: MAX_WINDOW,
+            journal_limit: MAX_JOURNAL_LIMIT,
+        };
+        ensure!(config.is_within_limits(), "a setting is out of its limits");
+        Ok(End {
+            logged: Logged::new(alloc, &config)?,
+            framer: Framer::new(alloc, MAX_FRAME),
+            heard: Frame {
+                channel: 0,
+                body: None,
+                payload: Bytes::new(),
+            },
+            begun: 0,
+            taken: 0,
+            octets: 0,
+            learnt: 0,
+            settled: 0,
+        })
+    }
+
+    /// How many deliveries were taken.
+    pub fn taken(&self) -> u32 {
+        self.taken
+    }
+
+    /// How many octets the deliveries had that were taken.
+    pub fn octets(&self) -> u64 {
+        self.octets
+    }
+
+    /// How many deliveries are known to be settled by the peer.
+    pub fn learnt(&self) -> u32 {
+        self.learnt
+    }
+
+    /// How many steps the journal has.
+    pub fn steps(&self) -> usize {
+        self.logged.journal().len()
+    }
+
+    /// The peer takes long frames, and the session begins.
+    pub fn begin(&mut self) -> anyhow::Result<()> {
+        self.logged.opened(MAX_FRAME)?;
+        self.apply(Op::Begin)
+    }
+
+    /// Attaches the one link; the sender's mode is unsettled or settled, the receiver's first.
+    pub fn attach(&mut self, alloc: Global, role: Role, settled: bool) -> anyhow::Result<()> {
+        let name = Text::new(alloc, "messages")?;
+        self.apply(Op::Attach {
+            name,
+            role,
+            snd: settled as u8,
+            rcv: 0,
+            source: None,
+            target: None,
+            count: 0,
+            max_message: 0,
+        })
+    }
+
+    /// Lets the peer begin so many deliveries.
+    pub fn grant(&mut self, credit: u32) -> anyhow::Result<()> {
+        self.apply(Op::Grant {
+            link: 0,
+            credit,
+            drain: false,
+            echo: false,
+        })
+    }
+
+    /// Sends so many messages.
+    pub fn send_many(&mut self, payload: &Bytes, settled: bool, count: u32) -> anyhow::Result<()> {
+        for _ in 0..count {
+            self.send(payload, settled)?;
+        }
+        Ok(())
+    }
+
+    /// Sends a message, in several transfers where it is long.
+    fn send(&mut self, payload: &Bytes, settled: bool) -> anyhow::Result<()> {
+        if payload.len() <= PART {
+            return self.start(payload.clone()?, settled, false);
+        }
+        let mut rest = payload.clone()?;
+        let first = rest.split_to(PART)?;
+        self.start(first, settled, true)?;
+        self.carry_all(rest)
+    }
+
+    /// Begins a delivery, whose tag is its number.
+    fn start(&mut self, payload: Bytes, settled: bool, more: bool) -> anyhow::Result<()> {
+        let tag = Tag::new(&self.begun.to_be_bytes()).context("a tag has at most 32 octets")?;
+        self.begun = self.begun.wrapping_add(1);
+        self.apply(Op::Start {
+            link: 0,
+            tag,
+            format: 0,
+            settled,
+            payload,
+            more,
+        })
+    }
+
+    /// Sends the rest of a message, in as many transfers as it needs.
+    fn carry_all(&mut self, mut rest: Bytes) -> anyhow::Result<()> {
+        for _ in 0..u64::MAX {
+            if rest.is_empty() {
+                break;
+            }
+            let payload = rest.split_to(rest.len().min(PART))?;
+            let more = !rest.is_empty();
+            self.apply(Op::Carry {
+                link: 0,
+                payload,
+                more,
+            })?;
+        }
+        Ok(())
+    }
+
+    /// Accepts and settles all that was taken and is not settled, so many deliveries at a time.
+    pub fn settle(&mut self, range: u32) -> anyhow::Result<()> {
+        for _ in self.settled..self.taken {
+            if self.settled == self.taken {
+                break;
+            }
+            self.settle_range(range.max(1))?;
+        }
+        Ok(())
+    }
+
+    fn settle_range(&mut self, range: u32) -> anyhow::Result<()> {
+        let first = self.settled;
+        let end = first.saturating_add(range).min(self.taken);
+        self.settled = end;
+        self.apply(Op::Dispose {
+            role: Role::Receiver,
+            first,
+            last: end.saturating_sub(1),
+            settled: true,
+            state: Some(DeliveryState::Accepted),
+        })
+    }
+
+    /// Learns what was told of so many deliveries.
+    pub fn learn(&mut self, count: u32) -> anyhow::Result<()> {
+        for _ in 0..count {
+            self.apply(Op::Learn { link: 0 })?;
+        }
+        Ok(())
+    }
+
+    /// Takes a frame of the peer's; a delivery that it makes ready is taken at once.
+    fn hear(&mut self, octets: &Bytes) -> anyhow::Result<()> {
+        let (_, is_whole) = self.framer.feed_shared(octets, 0, &mut self.heard)?;
+        ensure!(is_whole, "a unit is no whole frame");
+        let given = self.logged.receive(&self.heard)?;
+        let is_ready = matches!(given, Given::Ready(_, _));
+        drop(given);
+        if is_ready {
+            self.apply(Op::Take { link: 0 })?;
+        }
+        Ok(())
+    }
+
+    /// Does an operation, and counts what it gives.
+    fn apply(&mut self, op: Op) -> anyhow::Result<()> {
+        let applied = self.logged.apply(&op);
+        drop(op);
+        let given = applied?;
+        self.count(&given);
+        drop(given);
+        Ok(())
+    }
+
+    fn count(&mut self, given: &Given) {
+        match given {
+            Given::Taken(taken) => {
+                let taken = taken.get();
+                self.taken = self.taken.wrapping_add(1);
+                self.octets = self.octets.wrapping_add(taken.payload.len() as u64);
+            }
+            Given::Learned(learned) => {
+                let learned = learned.get();
+                if learned.settled {
+                    self.learnt = self.learnt.wrapping_add(1);
+                }
+            }
+            _ => {}
+        }
+    }
+
+    fn pop(&mut self) -> Option<Bytes> {
+        match self.logged.pop_unit() {
+            Some(unit) => Some(unit.bytes),
+            None => None,
+        }
+    }
+}
+
+/// One end hears all that the other put out.
+pub fn exchange(from: &mut End, to: &mut End) -> anyhow::Result<()> {
+    for _ in 0..UNITS {
+        match from.pop() {
+            Some(octets) => to.hear(&octets)?,
+            None => break,
+        }
+    }
+    Ok(())
+}

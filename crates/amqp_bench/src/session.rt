@@ -1,0 +1,179 @@
+//! Messages over a session in memory: two ends, each an endpoint with its journal, in one thread.
+
+use crate::end::{End, exchange};
+use amqp_frames::Role;
+use bytes::Bytes;
+use std::alloc::Global;
+use std::rt::Clock;
+use std::time::{Duration, Instant};
+
+/// What is sent, and how.
+#[derive(Clone, Copy, Debug)]
+pub struct Messages {
+    /// How many there are.
+    pub count: u32,
+    /// How long each is, in octets.
+    pub size: u32,
+    /// They are sent settled; else the receiver accepts and settles each, and the sender learns of it.
+    pub settled: bool,
+    /// How many the receiver lets begin at a time.
+    pub credit: u32,
+    /// How many deliveries a disposition names at most.
+    pub range: u32,
+}
+
+/// What came of it.
+#[derive(Clone, Copy, Debug, PartialEq, Eq)]
+pub struct Totals {
+    /// How many messages were taken.
+    pub taken: u32,
+    /// How many octets these had.
+    pub octets: u64,
+    /// How many messages the sender learnt to be settled.
+    pub learnt: u32,
+    /// How many steps the two journals have.
+    pub steps: usize,
+}
+
+/// Sends the messages. Standard output has what came of it, standard error the time.
+pub fn run_session<R>(rt: &R, messages: Messages) -> anyhow::Result<()>
+where
+    R: AllocGlobal + Print + Eprint + Clock,
+{
+    let (totals, took) = send_messages(rt, messages)?;
+    println!(rt;
+        "session taken {} octets {} learnt {} steps {}",
+        totals.taken, totals.octets, totals.learnt, totals.steps
+    )?;
+    tell(rt, messages.count, took)
+}
+
+/// Tells the time of one message, and how many there are in a second.
+fn tell<R: Eprint>(rt: &R, count: u32, took: Duration) -> anyhow::Result<()> {
+    let nanoseconds = took.as_nanos().max(1);
+    let each = nanoseconds / count.max(1) as u128;
+    let each_second = (count as u128).saturating_mul(1000000000) / nanoseconds;
+    eprintln!(rt; "session: {each} ns a message, {each_second} a second")?;
+    Ok(())
+}
+
+/// Sends the messages from one end to the other. The time is that of both ends, without giving back the memory of their journals.
+pub fn send_messages<R>(rt: &R, messages: Messages) -> anyhow::Result<(Totals, Duration)>
+where
+    R: AllocGlobal + Clock,
+{
+    let alloc = rt.alloc();
+    let payload = Bytes::from_vec(vec![in alloc; 0x78u8; messages.size as usize]?)?;
+    let mut sender = End::new(alloc)?;
+    let sent = send_from(rt, &mut sender, &payload, messages);
+    drop(sender);
+    sent
+}
+
+/// Sends them to a new receiver.
+fn send_from<R>(
+    rt: &R,
+    sender: &mut End,
+    payload: &Bytes,
+    messages: Messages,
+) -> anyhow::Result<(Totals, Duration)>
+where
+    R: AllocGlobal + Clock,
+{
+    let mut receiver = End::new(rt.alloc())?;
+    let sent = send_timed(rt, sender, &mut receiver, payload, messages);
+    drop(receiver);
+    sent
+}
+
+fn send_timed<R>(
+    rt: &R,
+    sender: &mut End,
+    receiver: &mut End,
+    payload: &Bytes,
+    messages: Messages,
+) -> anyhow::Result<(Totals, Duration)>
+where
+    R: AllocGlobal + Clock,
+{
+    let begun = Instant::now(rt)?;
+    send_between(rt.alloc(), sender, receiver, payload, messages)?;
+    let took = begun.elapsed(rt)?;
+    Ok((totals_of(sender, receiver), took))
+}
+
+fn send_between(
+    alloc: Global,
+    sender: &mut End,
+    receiver: &mut End,
+    payload: &Bytes,
+    messages: Messages,
+) -> anyhow::Result<()> {
+    attach(alloc, sender, receiver, messages.settled)?;
+    send_all(sender, receiver, payload, messages)
+}
+
+fn totals_of(sender: &End, receiver: &End) -> Totals {
+    Totals {
+        taken: receiver.taken(),
+        octets: receiver.octets(),
+        learnt: sender.learnt(),
+        steps: sender.steps().saturating_add(receiver.steps()),
+    }
+}
+
+/// Both ends begin the session and attach the link.
+fn attach(
+    alloc: Global,
+    sender: &mut End,
+    receiver: &mut End,
+    settled: bool,
+) -> anyhow::Result<()> {
+    sender.begin()?;
+    exchange(sender, receiver)?;
+    receiver.begin()?;
+    exchange(receiver, sender)?;
+    sender.attach(alloc, Role::Sender, settled)?;
+    exchange(sender, receiver)?;
+    receiver.attach(alloc, Role::Receiver, settled)?;
+    exchange(receiver, sender)
+}
+
+/// Sends all messages, each time as many as there is credit for.
+fn send_all(
+    sender: &mut End,
+    receiver: &mut End,
+    payload: &Bytes,
+    messages: Messages,
+) -> anyhow::Result<()> {
+    let mut left = messages.count;
+    for _ in 0..messages.count {
+        let batch = left.min(messages.credit);
+        send_batch(sender, receiver, payload, batch, messages)?;
+        left -= batch;
+        if left == 0 {
+            break;
+        }
+    }
+    Ok(())
+}
+
+/// Sends as many messages as the receiver gives credit for.
+fn send_batch(
+    sender: &mut End,
+    receiver: &mut End,
+    payload: &Bytes,
+    batch: u32,
+    messages: Messages,
+) -> anyhow::Result<()> {
+    receiver.grant(batch)?;
+    exchange(receiver, sender)?;
+    sender.send_many(payload, messages.settled, batch)?;
+    exchange(sender, receiver)?;
+    if messages.settled {
+        return Ok(());
+    }
+    receiver.settle(messages.range)?;
+    exchange(receiver, sender)?;
+    sender.learn(batch)
+}
