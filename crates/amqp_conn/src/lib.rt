@@ -109,6 +109,8 @@ pub mod laws;
 mod phase;
 mod pumping;
 mod refused;
+#[cfg(test)]
+mod tests;
 mod treating;
 mod writing;
 
