@@ -173,6 +173,164 @@ ok phase=closing units=0000000c0200000000531845
     Ok(())
 }
 
+/// A link on which this end receives, with two credits.
+const RECEIVING: &[u8] = b"attach receiver q 2 0 0 0
+feed 0000001c02000000005312c00f0aa101714342500250004040404043
+grant 0 2 0 0
+";
+
+/// And a delivery has come.
+const RECEIVED: &[u8] = b"attach receiver q 2 0 0 0
+feed 0000001c02000000005312c00f0aa101714342500250004040404043
+grant 0 2 0 0
+feed 0000001502000000005314c007044343a001014378
+";
+
+/// The same link, with messages of two octets at most.
+const LIMITED: &[u8] = b"attach receiver q 2 0 0 2
+feed 0000001c02000000005312c00f0aa101714342500250004040404043
+grant 0 2 0 0
+";
+
+/// After these lines, with this window, the peer's frame is answered so.
+fn is_answered(
+    alloc: Global,
+    window: u32,
+    setup: &[u8],
+    frame: &[u8],
+    wanted: &[u8],
+) -> Result<bool, Fail> {
+    let settings = Settings {
+        first_id: 0,
+        window,
+        limit: 1000,
+    };
+    let mut lines = Vec::from_slice(alloc, setup)?;
+    lines.extend_from_slice(b"feed ")?;
+    lines.extend_from_slice(frame)?;
+    ends_so(alloc, &settings, lines.as_slice(), wanted)
+}
+
+/// Each is answered by an end, with its condition; read again, the frame is dropped.
+#[test]
+fn violations_of_the_session(rt: HostRuntime) -> Result<(), Fail> {
+    let rows: [(u32, &[u8], &[u8], &[u8]); 6] = [
+        // A transfer on a handle of no link
+        (
+            2048,
+            RECEIVING,
+            b"0000001602000000005314c00804520543a001014378",
+            b"ok told=violation:3,none phase=running units=0000003402000000005317c0270100531dc02101a31e616d71703a73657373696f6e3a756e61747461636865642d68616e646c65\n",
+        ),
+        // An attach on a handle in use
+        (
+            2048,
+            RECEIVING,
+            b"0000001302000000005312c00603a101724341",
+            b"ok told=violation:4,none phase=running units=0000003002000000005317c0230100531dc01d01a31a616d71703a73657373696f6e3a68616e646c652d696e2d757365\n",
+        ),
+        // An attach of a link that is attached
+        (
+            2048,
+            RECEIVING,
+            b"0000001d02000000005312c0100aa10171520142500250004040404043",
+            b"ok told=violation:5,none phase=running units=0000002602000000005317c0190100531dc01301a310616d71703a6e6f742d616c6c6f776564\n",
+        ),
+        // A flow that counts a transfer that was not sent
+        (
+            2048,
+            b"",
+            b"0000001802000000005313c00b045201520443707fffffff",
+            b"ok told=violation:6,none phase=running units=0000002802000000005317c01b0100531dc01501a312616d71703a696e76616c69642d6669656c64\n",
+        ),
+        // A transfer past our window
+        (
+            1,
+            RECEIVED,
+            b"0000001602000000005314c00804435201a001024378",
+            b"ok told=violation:7,none phase=running units=0000003302000000005317c0260100531dc02001a31d616d71703a73657373696f6e3a77696e646f772d76696f6c6174696f6e\n",
+        ),
+        // A range that runs backwards
+        (
+            2048,
+            b"",
+            b"0000001502000000005315c0080341437080000000",
+            b"ok told=violation:14,none phase=running units=0000002802000000005317c01b0100531dc01501a312616d71703a696e76616c69642d6669656c64\n",
+        ),
+    ];
+    for (window, setup, frame, wanted) in &rows {
+        assert!(rt; is_answered(rt.alloc(), *window, setup, frame, wanted)?);
+    }
+    Ok(())
+}
+
+/// Each is answered by an end or by a detach, with its condition.
+#[test]
+fn violations_of_a_delivery(rt: HostRuntime) -> Result<(), Fail> {
+    let rows: [(u32, &[u8], &[u8], &[u8]); 5] = [
+        // A first transfer without id and tag
+        (
+            2048,
+            RECEIVING,
+            b"0000001002000000005314c002014378",
+            b"ok told=violation:8,none phase=running units=0000002802000000005317c01b0100531dc01501a312616d71703a696e76616c69642d6669656c64\n",
+        ),
+        // An id out of order
+        (
+            2048,
+            RECEIVED,
+            b"0000001602000000005314c00804435205a001024378",
+            b"ok told=violation:9,none phase=running units=0000002802000000005317c01b0100531dc01501a312616d71703a696e76616c69642d6669656c64\n",
+        ),
+        // A tag in use
+        (
+            2048,
+            RECEIVED,
+            b"0000001602000000005314c00804435201a001014378",
+            b"ok told=violation:10,none phase=running units=0000002802000000005317c01b0100531dc01501a312616d71703a696e76616c69642d6669656c64\n",
+        ),
+        // A settle mode that the link does not have
+        (
+            2048,
+            RECEIVING,
+            b"0000001902000000005314c00b074343a00101434040500178",
+            b"ok told=violation:11,none phase=running units=0000002802000000005317c01b0100531dc01501a312616d71703a696e76616c69642d6669656c64\n",
+        ),
+        // A message longer than the link takes
+        (
+            2048,
+            LIMITED,
+            b"0000001702000000005314c007044343a0010143787878",
+            b"ok told=violation:13,none phase=running units=0000003702000000005316c02a03434100531dc02201a31f616d71703a6c696e6b3a6d6573736167652d73697a652d6578636565646564\n",
+        ),
+    ];
+    for (window, setup, frame, wanted) in &rows {
+        assert!(rt; is_answered(rt.alloc(), *window, setup, frame, wanted)?);
+    }
+    Ok(())
+}
+
+/// A second begin is out of place; before our begin went out no end can answer a violation.
+#[test]
+fn violations_without_an_answer(rt: HostRuntime) -> Result<(), Fail> {
+    let lines = b"feed 0000001702000000005311c00a0440435205707fffffff
+";
+    let wanted =
+        b"ok told=fault:3 phase=closed units=0000002602000000005318c0190100531dc01301a310616d71703a6e6f742d616c6c6f776564
+";
+    assert!(rt; ends_so(rt.alloc(), &Settings::default(), lines, wanted)?);
+    let early = b"feed 414d515000010000
+feed 0000001a02000000005310c00d04a10161407000010000600000
+feed 0000001702000000005311c00a0440435205707fffffff
+feed 0000001302000000005312c00603a101714341
+feed 0000001302000000005312c00603a101724341
+";
+    let (said, outcome) = answers(rt.alloc(), &Settings::default(), early)?;
+    assert_eq!(rt; outcome, Outcome::EachLineGood);
+    assert!(rt; said.ends_with(wanted));
+    Ok(())
+}
+
 #[test]
 fn command_lines(rt: HostRuntime) -> Result<(), Fail> {
     let alloc = rt.alloc();
