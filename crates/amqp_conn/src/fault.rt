@@ -27,7 +27,7 @@ pub enum ConnFault {
     #[error("the connection is closed")]
     Closed,
     /// Nothing has changed: the octets can be fed again.
-    #[error("memory was refused")]
+    #[error("out of memory")]
     NoMemory,
 }
 

@@ -10,7 +10,7 @@ pub enum StartFault {
     /// A setting is out of its limits, or our open would be longer than 512 octets.
     #[error("a setting is out of its limits")]
     BadConfig,
-    #[error("memory was refused")]
+    #[error("out of memory")]
     NoMemory,
 }
 
@@ -37,7 +37,7 @@ pub enum CloseRefusal {
     NotWritable,
     #[error("the frame is longer than the peer takes")]
     FrameTooBig,
-    #[error("memory was refused")]
+    #[error("out of memory")]
     NoMemory,
 }
 

@@ -298,7 +298,7 @@ fn header_and_open_in_two_pieces(rt: HostRuntime) -> Result<(), Fail> {
     Ok(())
 }
 
-/// Header, open, begin, attach, flow and transfer of a peer, with one octet in turn replaced: all is taken, or a fault closes the connection.
+/// Header, open, begin, attach, flow and transfer of a peer, with one octet in turn replaced, and cut short there: all is taken, or a fault closes the connection.
 #[test]
 fn wrong_octets(rt: HostRuntime) -> Result<(), Fail> {
     let alloc = rt.alloc();
@@ -319,6 +319,12 @@ fn wrong_octets(rt: HostRuntime) -> Result<(), Fail> {
         ));
         assert_eq!(rt; phase == Phase::Closed, !good);
         session[place] = right;
+        // What is cut short is awaited.
+        let (_, awaited) = stands(alloc, &session[..place], place / 2).unwrap_or((
+            Phase::Closed,
+            false,
+        ));
+        assert!(rt; awaited);
     }
     Ok(())
 }
