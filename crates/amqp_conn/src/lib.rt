@@ -109,8 +109,6 @@ pub mod laws;
 mod phase;
 mod pumping;
 mod refused;
-#[cfg(test)]
-mod tests;
 mod treating;
 mod writing;
 

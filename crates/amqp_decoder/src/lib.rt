@@ -20,6 +20,3 @@ mod states;
 
 pub use fault::BodyFault;
 pub use front::{one_performative, one_value, read_performative, read_performative_into};
-
-#[cfg(test)]
-mod tests;

@@ -23,8 +23,6 @@ mod partial;
 mod span;
 mod tables;
 mod tags;
-#[cfg(test)]
-mod tests;
 
 pub use change::Change;
 pub use disposition::{Disposition, Telling};

@@ -18,8 +18,6 @@ pub mod receiver;
 pub mod refusal;
 pub mod sender;
 pub mod serial;
-#[cfg(test)]
-mod tests;
 pub mod windows;
 
 pub use flow::{LinkFlow, SessionFlow};

@@ -41,6 +41,3 @@ pub use lent::{
 pub use measured::{Measured, frame_refusal, measure_frame};
 pub use stream::Stopped;
 pub use written::{write_frame, write_measured, written_is_framed};
-
-#[cfg(test)]
-mod tests;

@@ -41,6 +41,3 @@ pub use equality::equal_is_same;
 pub use error::AmqpError;
 pub use performative::Performative;
 pub use state::DeliveryState;
-
-#[cfg(test)]
-mod tests;

@@ -74,6 +74,3 @@ pub use text::Text;
 pub use value::{MAX_DEPTH, Value};
 pub use within::{append_map, append_value, is_symbol, map_size_within, size_within};
 pub use write::{canon_is_shortest, canon_spells, read_back, value_size, write_value};
-
-#[cfg(test)]
-mod tests;

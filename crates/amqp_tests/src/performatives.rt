@@ -1,5 +1,5 @@
 //! Each kind of performative, state and error, with each field that owns memory, is copied where there is enough memory, and the copy is equal.
-use super::*;
+use amqp_performatives::*;
 use amqp_types::{Boxed, Items, Tag, Text, Value};
 use std::alloc::Global;
 use std::test::Fail;

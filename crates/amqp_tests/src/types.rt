@@ -1,5 +1,5 @@
 //! The spellings of the standard's types, both ways, and each call that takes memory once where there is enough of it.
-use super::*;
+use amqp_types::*;
 use std::alloc::Global;
 use std::process::Abort;
 use std::test::Fail;
@@ -81,14 +81,22 @@ fn shortened(rt: HostRuntime) -> Result<(), Fail> {
     )
 }
 
-// 256 octets, whose size takes four
+// 256 octets, alone and in a list, a map and an array: each size takes four
 #[test]
 fn long(rt: HostRuntime) -> Result<(), Fail> {
-    let mut octets = vec![in rt.alloc(); 0xb0, 0, 0, 1, 0]?;
-    for _ in 0..=255u8 {
-        octets.push(7)?;
+    let mut octets = Vec::new(rt.alloc());
+    for head in [
+        b"\xb0\x00\x00\x01\x00".as_slice(),
+        b"\xd0\x00\x00\x01\x09\x00\x00\x00\x01\xb0\x00\x00\x01\x00".as_slice(),
+        b"\xd1\x00\x00\x01\x0a\x00\x00\x00\x02\x43\xb0\x00\x00\x01\x00".as_slice(),
+        b"\xf0\x00\x00\x01\x09\x00\x00\x00\x01\xb0\x00\x00\x01\x00".as_slice(),
+    ] {
+        octets.extend_from_slice(head)?;
+        for _ in 0..=255u8 {
+            octets.push(7)?;
+        }
     }
-    all_again(&rt, rt.alloc(), 1, &octets, &octets)
+    all_again(&rt, rt.alloc(), 4, &octets, &octets)
 }
 
 #[test]
@@ -244,6 +252,22 @@ fn written_fields(rt: HostRuntime) -> Result<(), Fail> {
     assert_eq!(rt;
         out.as_slice(),
         b"\x40\x41\x50\x07\x60\x01\x02\x52\xff\x53\x24".as_slice()
+    );
+    Ok(())
+}
+
+// Each length of a number.
+#[test]
+fn written_numbers(rt: HostRuntime) -> Result<(), Fail> {
+    let mut out = Vec::new(rt.alloc());
+    for n in [0, 255, 256] {
+        write_uint(&mut out, n)?;
+        write_ulong(&mut out, u64::from(n))?;
+    }
+    write_boolean(&mut out, false)?;
+    assert_eq!(rt;
+        out.as_slice(),
+        b"\x43\x44\x52\xff\x53\xff\x70\x00\x00\x01\x00\x80\x00\x00\x00\x00\x00\x00\x01\x00\x42".as_slice()
     );
     Ok(())
 }

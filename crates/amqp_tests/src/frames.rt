@@ -1,6 +1,6 @@
 //! What no clause says: octets of known frames, and each call once. A frame is let go in the helper that makes it: a test holds octets and answers alone.
 
-use super::*;
+use amqp_frames::*;
 use amqp_types::{Boxed, Items, Text, Value};
 use bytes::Bytes;
 use std::alloc::{AllocError, Global};
@@ -11,8 +11,9 @@ const UNFAIR: Option<FrameRefusal> = Some(FrameRefusal::NotWritable);
 /// A transfer of a delivery with the payload of one data section.
 const T: &str = "0000001b0200000000 5314c0070443 43a00100 43005375a0026869";
 
-/// A frame of each performative with all its fields, and of each delivery state; those that own memory too.
-const EACH: [&str; 14] = [
+/// A frame of each performative with all its fields, and of each delivery state; those that own memory too. A flow without properties, and an
+/// empty frame.
+const EACH: [&str; 16] = [
     T,
     "0000003702000000005310c02a0aa10161a10162700001000060000070000003e8a302656ea302656ea30178a30179c10602a301615201",
     "0000002c02000000005311c01f0860000043700000080070000008005207a30178a30179c10602a301615201",
@@ -27,6 +28,8 @@ const EACH: [&str; 14] = [
     "0000003402000000005316c02703434100531dc01f03a30e616d71703a6e6f742d666f756e64a104676f6e65c10602a301615201",
     "0000003202000000005317c0250100531dc01f03a30e616d71703a6e6f742d666f756e64a104676f6e65c10602a301615201",
     "0000003202000000005318c0250100531dc01f03a30e616d71703a6e6f742d666f756e64a104676f6e65c10602a301615201",
+    "0000001e02000000005313c0110743700000080043707fffffff43435205",
+    "0000000802000000",
 ];
 
 /// The octets that the text writes, past its spaces; as many as fit.
@@ -411,6 +414,21 @@ fn a_long_frame_in_pieces(rt: HostRuntime) -> Result<(), Fail> {
     let mut long = octets(alloc, "0000138802000000 005314c00704 43 43a00100 43")?;
     long.resize(5000, 0x61)?;
     let again = written_in_pieces(alloc, long.as_slice())?;
+    assert!(rt; again.as_slice() == long.as_slice());
+    Ok(())
+}
+
+/// A name of 256 octets: its size and the list's take four.
+#[test]
+fn a_long_name(rt: HostRuntime) -> Result<(), Fail> {
+    let alloc = rt.alloc();
+    let mut long = octets(
+        alloc,
+        "0000011b02000000 005312d00000010b00000003 b100000100",
+    )?;
+    long.resize(281, 0x71)?;
+    long.extend_from_slice(&[0x43, 0x41])?;
+    let again = written(alloc, long.as_slice(), 65536)?;
     assert!(rt; again.as_slice() == long.as_slice());
     Ok(())
 }

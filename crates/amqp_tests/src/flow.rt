@@ -1,5 +1,5 @@
 //! Worked examples of serial numbers, windows and credit.
-use super::*;
+use amqp_flow::*;
 use std::process::Abort;
 
 // RFC 1982, 5.2, whose numbers have 8 bits: here the upper ones of 32.

@@ -1,7 +1,7 @@
 //! What no clause says: octets of known connections, that calls succeed where memory is there, and devices that fail. A connection is let go in the
 //! helper that makes it: a test holds answers alone.
 
-use super::*;
+use amqp_conn::*;
 use amqp_rules::op::Op;
 use amqp_types::Text;
 use bytes::Bytes;

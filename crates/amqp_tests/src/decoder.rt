@@ -1,4 +1,5 @@
-use super::*;
+//! Performatives in front of octets, in each spelling that the standard allows.
+use amqp_decoder::*;
 use amqp_performatives::{DeliveryState, Performative, Role};
 use std::alloc::Global;
 use std::process::Abort;

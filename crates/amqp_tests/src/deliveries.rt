@@ -1,5 +1,5 @@
 //! Worked examples, and a thousand deliveries whose ids wrap.
-use crate::{Disposition, Held, HeldItem, Partial};
+use amqp_deliveries::{Disposition, Held, HeldItem, Partial};
 use amqp_performatives::DeliveryState;
 use amqp_types::Tag;
 use bytes::Bytes;
