@@ -59,6 +59,40 @@ total close 1
     Ok(())
 }
 
+/// Each other kind is counted under its own name.
+#[test]
+fn each_kind_is_counted(rt: HostRuntime) -> Result<(), Fail> {
+    for (line, wanted) in [
+        (
+            b"0000001a02000000005310c00d04a10161407000010000600000".as_slice(),
+            b"channel=0 name=open fields=4 payload=0\ntotal open 1\n".as_slice(),
+        ),
+        (
+            b"0000001302000000005312c00603a101714341".as_slice(),
+            b"channel=0 name=attach fields=3 payload=0\ntotal attach 1\n".as_slice(),
+        ),
+        (
+            b"0000001e02000000005313c0110743700000080043707fffffff43435205".as_slice(),
+            b"channel=0 name=flow fields=7 payload=0\ntotal flow 1\n".as_slice(),
+        ),
+        (
+            b"0000001002000000005315c003024143".as_slice(),
+            b"channel=0 name=disposition fields=2 payload=0\ntotal disposition 1\n".as_slice(),
+        ),
+        (
+            b"0000001002000000005316c003024341".as_slice(),
+            b"channel=0 name=detach fields=2 payload=0\ntotal detach 1\n".as_slice(),
+        ),
+        (
+            b"0000000c0200000000531745".as_slice(),
+            b"channel=0 name=end fields=0 payload=0\ntotal end 1\n".as_slice(),
+        ),
+    ] {
+        assert_eq!(rt; framed(rt.alloc(), line, wanted)?, ALL_GOOD);
+    }
+    Ok(())
+}
+
 #[test]
 fn frames_over_lines(rt: HostRuntime) -> Result<(), Fail> {
     let lines = b"0000000802000000000000\n1b02000000005314c0070443
