@@ -1,5 +1,5 @@
 -- The plan of a delivery that begins.
-use Rattle.std.proofs.Common.{◌≡◌, ◌<◌, ◌≤◌, ℕ, ◌+◌, ◌*◌, ◌^◌, ◌==◌, ◌++◌, not, Bool, true, false, cond, Option, Some, None, Result, List, [], ◌∷◌, inl, inr, arith, refl, ap, find, is_some, length, map, ⊎_elim}
+use Rattle.std.proofs.Common.{Ok, sym, ◌∙◌, ◌≡◌, ◌<◌, ◌≤◌, ℕ, ◌+◌, ◌*◌, ◌^◌, ◌==◌, ◌++◌, not, Bool, true, false, cond, Option, Some, None, Result, List, [], ◌∷◌, inl, inr, arith, refl, ap, find, is_some, length, map, ⊎_elim}
 use Rattle.std.proofs.lemmas.List.{append-nil}
 use Rattle.std.specs.List.{filter, list_any}
 use Rattle.amqp_flow.specs.Serial.{wire}
@@ -24,8 +24,13 @@ use Rattle.amqp_endpoint.specs.declared.plan.Session.{Session}
 use Rattle.amqp_endpoint.specs.declared.plan.Plan.{Plan}
 use Rattle.amqp_endpoint.specs.declared.endpoint.onlink.OnLink.{OnLink}
 use Rattle.amqp_endpoint.specs.Stores.{StoresView}
-use Rattle.amqp_endpoint.specs.Plan.{IsCounted, IsKept, IsShort, Plans, next_id, view_of}
-use Rattle.amqp_endpoint.specs.Starting.{change_begun, second_on}
+use Rattle.amqp_endpoint.specs.Plan.{IsCounted, IsKept, IsPlan, IsShort, Plans, next_id, planned, tables_in, view_of}
+use Rattle.amqp_endpoint.specs.Starting.{change_begun, item_begun, second_on, start_plan, started}
+use Rattle.amqp_endpoint.specs.declared.endpoint.start.Starting.{Starting}
+use Rattle.amqp_endpoint.specs.declared.done.Done.{Done}
+use Rattle.amqp_endpoint.specs.Doing.{IsDone}
+use Rattle.amqp_rules.specs.declared.reply.Reply.{Reply}
+use Rattle.amqp_deliveries.specs.Change.{TablesView, ended_in}
 use Rattle.amqp_endpoint.specs.Taking.{IsTaken}
 use Rattle.amqp_endpoint.proofs.Sends.{Sends, plan-on}
 use Rattle.amqp_endpoint.proofs.Rows.{found-number, any-of, expects-same}
@@ -37,10 +42,6 @@ unspoken-of i (x ∷ xs) = rw (unspoken-of i xs) refl
 
 unspoken : (i : Item) (xs : List SentItem) → next_sent_held (event.Begins i false) xs ≡ xs
 unspoken i xs = rw (append-nil (map (next_sent (event.Begins i false)) (filter (λ s. not (ends (event.Begins i false) s.item)) xs))) (unspoken-of i xs)
-
--- the session with one transfer more, which begins a delivery
-abbrev pub started : Session → Session
-started s = record s { windows = windows_sent s.windows; deliveries = s.deliveries + 1 }
 
 abbrev pub begun-item : View → ℕ → List ℕ → Bool → Item
 begun-item v link tag second = record { id = next_delivery v; link = link; tag = tag; second = second; local = None; remote = None }
@@ -127,3 +128,20 @@ start-plan k s st link key format tag payload false more second o r i fits is t 
       (let e = ap (λ x. x.sending) m in rw e (short-after k (length payload) (next_delivery v) more fits)),
     ))
     tt h)
+
+ended-begun : (settled : Bool) (i : Item) (t : TablesView) → ended_in (change_begun settled i) t ≡ []
+ended-begun true i t = refl
+ended-begun false i t = refl
+
+-- what a delivery gives that begins at once
+pub started-done : (v new after : View) (link : ℕ) (tag : List ℕ) (settled : Bool) (x : Starting) (answer : Result Reply Refusal) (d : Done) → IsPlan v answer after (start_plan v link tag settled x)
+    → d ≡ record { reply = record { sent = x.sent ∷ []; ended = []; given = Delivery (next_delivery v) }; octets = Some x.sent.bytes; given = Delivery (next_delivery v) }
+    → new ≡ planned v (start_plan v link tag settled x) → IsDone answer after new d
+started-done v new after link tag settled x answer d p is n =
+    rw is
+    record {
+      due = p.due ∙ (λ i. Ok (record { sent = x.sent ∷ []; ended = ended-begun settled (item_begun (next_delivery v) link tag x.second) (tables_in v) i; given = Delivery (next_delivery v) }));
+      leaves = n ∙ sym p.leaves;
+      octets = refl;
+      given = refl;
+    }

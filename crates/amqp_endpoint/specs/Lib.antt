@@ -13,3 +13,6 @@ pub mod Answered
 pub mod Parting
 pub mod Attaching
 pub mod Transferring
+pub mod Doing
+pub mod Written
+pub mod Arriving

@@ -17,6 +17,7 @@ mod begin;
 mod carry;
 mod detach;
 mod dispose;
+mod doing;
 mod drained;
 mod end;
 mod flow;
@@ -90,22 +91,15 @@ impl Endpoint {
                 return Err(e);
             }
         };
-        let (sent, octets) = match list_sent(self.alloc, sent) {
-            Ok(both) => both,
-            Err(e) => {
-                drop(given);
-                drop(change);
-                drop(fate);
-                return Err(e);
-            }
-        };
         match self.stores.keep(fate, change) {
             Ok(()) => {}
             Err(e) => {
+                drop(sent);
                 drop(given);
                 return Err(e);
             }
         }
+        let (sent, octets) = list_sent(self.alloc, sent);
         self.steps += 1;
         self.session = session;
         Ok((Reply { sent, ended, given }, octets))

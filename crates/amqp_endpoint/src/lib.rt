@@ -2,16 +2,18 @@
 //! heard, and answers each with the frames to send. It keeps no history and does no input or output.
 //!
 //! A step is planned, then committed: a plan changes nothing, and is refused or owns all that the step needs; `commit` asks for the memory
-//! that is left to ask for, and then changes what cannot fail.
+//! that is left to ask for, and then changes what cannot fail. `own` and `heard` do both at once, the frequent kinds without a whole plan.
 //!
 //! | module | what it has |
 //! |---|---|
 //! | `plan` | a step as it is planned |
 //! | `stores` | the links and the unsettled deliveries, and what a step makes of both |
 //! | `sending` | frames as they are sent |
+//! | `done` | what a step gives that was done |
 //! | `endpoint` | the endpoint, and one module for each kind of step |
 #![tactic(auto)]
 
+pub mod done;
 pub mod endpoint;
 pub mod plan;
 mod sending;

@@ -7,8 +7,8 @@ ghost use Rattle.amqp_rules.specs.Sending.{frame_refused};
 ghost use Rattle.amqp_rules.specs.View.{awaits_begin, is_ending, is_mapped, may_begin, takes_frames};
 
 use crate::refusal::Refusal;
-use crate::reply::{Given, Sent};
-use crate::sending::write;
+use crate::reply::Given;
+use crate::sending::{Written, write};
 use crate::violation::{Violation, ViolationKind};
 use amqp_deliveries::Change;
 use amqp_flow::windows::Windows;
@@ -44,7 +44,7 @@ pub struct Plan {
     pub(crate) fate: Fate,
     pub(crate) change: Change,
     /// The frame that is sent, with its octets.
-    pub(crate) sent: Option<Sent>,
+    pub(crate) sent: Option<Written>,
     /// What the application is told.
     pub(crate) given: Given,
 }

@@ -1,5 +1,5 @@
 //! Frames as they are sent: all on channel 0, each with its octets.
-ghost use Rattle.std.specs.Prelude.{◌≡◌, ◌⊎◌, Some, None, IfOk, MatchResult, [], option_map, option_to_list};
+ghost use Rattle.std.specs.Prelude.{◌≡◌, ◌<◌, vec_capacity, vec_len, ◌⊎◌, ◌∷◌, Some, None, IfOk, MatchResult, [], option_map, option_to_list};
 ghost use Rattle.amqp_endpoint.specs.Plan.{octets_sent};
 ghost use Rattle.amqp_rules.specs.Sending.{told, frame_refused, sent_of};
 
@@ -9,6 +9,61 @@ use amqp_frames::{Frame, FrameRefusal, Performative, append_frame, frame_refusal
 use amqp_types::Items;
 use bytes::Bytes;
 use std::alloc::{AllocError, Global};
+use std::marker::Model;
+
+/// A frame that is sent, with its octets: where it stays, alone in its list, and one handle more of the octets. Contracts see it as the frame.
+#[derive(Drop)]
+pub struct Written {
+    list: Items<Sent>,
+    octets: Bytes,
+}
+
+impl Model for Written {
+    ghost use Rattle.std.specs.Coded.{codes};
+    ghost use Rattle.amqp_types.specs.contracts.value.Value as value;
+    ghost use Rattle.amqp_rules.specs.declared.reply.Sent.{Sent};
+    ghost use Rattle.amqp_endpoint.specs.Written.{IsAlone, first_of};
+
+    ghost Value = { Sent };
+
+    ghost coded = { Prim.hlevel (codes, value.the_row.coded) };
+
+    ghost view = { λ w. first_of w.list };
+
+    ghost invariant = { λ w. IsAlone w.list w.octets };
+}
+
+/// A place for one frame, and its octets with a handle more.
+fn make_place(alloc: Global, octets: Vec<u8>) -> Result<(Vec<Sent>, Bytes, Bytes), AllocError>
+    ensures empty { IfOk result (λ t. t.0.items ≡ []) }
+    ensures room { IfOk result (λ t. vec_len t.0 < vec_capacity t.0) }
+    ensures octets { IfOk result (λ t. t.1 ≡ octets.items) }
+    ensures handle { IfOk result (λ t. t.2 ≡ octets.items) }
+{
+    let items = Vec::with_capacity(alloc, 1)?;
+    let Ok(bytes) = Bytes::from_vec(octets) else {
+        return Err(AllocError);
+    };
+    let handle = bytes.clone()?;
+    Ok((items, bytes, handle))
+}
+
+/// The frame with its octets moves to where it stays.
+fn keep_frame(alloc: Global, frame: Frame, octets: Vec<u8>) -> Result<Written, AllocError>
+    ensures { IfOk result (λ w. w ≡ record { frame = frame; bytes = octets.items }) }
+{
+    match make_place(alloc, octets) {
+        Ok((mut items, bytes, octets)) => {
+            items.push_reserved(Sent { frame, bytes });
+            let list = Items { items };
+            Ok(Written { list, octets })
+        }
+        Err(e) => {
+            drop(frame);
+            Err(e)
+        }
+    }
+}
 
 fn told_refusal(fault: Option<FrameRefusal>) -> Option<Refusal>
     ensures { result ≡ option_map told fault }
@@ -36,7 +91,7 @@ pub(crate) fn write(
     body: Option<Performative>,
     payload: Bytes,
     max: u32,
-) -> Result<Sent, Refusal>
+) -> Result<Written, Refusal>
     ensures { MatchResult result (λ s. (frame_refused max body payload ≡ None) × (s ≡ sent_of body payload)) (λ e. (frame_refused max body payload ≡ Some e) ⊎ ((frame_refused max body payload ≡ None) × (e ≡ Refusal.NoMemory))) }
 {
     let frame = Frame {
@@ -46,12 +101,9 @@ pub(crate) fn write(
     };
     let mut octets = Vec::new(alloc);
     match append_frame(&frame, max, &mut octets) {
-        Ok(()) => match Bytes::from_vec(octets) {
-            Ok(bytes) => Ok(Sent { frame, bytes }),
-            Err(_) => {
-                drop(frame);
-                Err(Refusal::NoMemory)
-            }
+        Ok(()) => match keep_frame(alloc, frame, octets) {
+            Ok(written) => Ok(written),
+            Err(_) => Err(Refusal::NoMemory),
         },
         Err(fault) => {
             drop(frame);
@@ -66,7 +118,7 @@ pub(crate) fn write_sharing(
     body: Option<Performative>,
     payload: &Bytes,
     max: u32,
-) -> Result<Sent, Refusal>
+) -> Result<Written, Refusal>
     ensures { MatchResult result (λ s. (frame_refused max body payload.now ≡ None) × (s ≡ sent_of body payload.now)) (λ e. (frame_refused max body payload.now ≡ Some e) ⊎ ((frame_refused max body payload.now ≡ None) × (e ≡ Refusal.NoMemory))) }
 {
     if let Ok(handle) = payload.clone() {
@@ -77,18 +129,54 @@ pub(crate) fn write_sharing(
     Err(refusal.unwrap_or(Refusal::NoMemory))
 }
 
-/// The frame that is sent, if there is one, and a handle of its octets.
-pub(crate) fn list_sent(
-    alloc: Global,
-    sent: Option<Sent>,
-) -> Result<(Items<Sent>, Option<Bytes>), AllocError>
-    ensures { IfOk result (λ both. (both.0 ≡ option_to_list sent) × (both.1 ≡ octets_sent sent)) }
+impl Written {
+    /// The list of it alone, and a handle of its octets.
+    pub(crate) fn listed(self) -> (Items<Sent>, Bytes)
+        ensures list { result.0 ≡ self ∷ [] }
+        ensures octets { result.1 ≡ self.bytes }
+    {
+        let Written { list, octets } = self;
+        (list, octets)
+    }
+}
+
+impl Clone for Written {
+    ghost is_clone = { λ a b. b ≡ a };
+
+    fn clone(&self) -> Result<Written, AllocError> {
+        match self.list.as_slice() {
+            [sent] => keep_copy(self.list.allocator(), sent),
+            _ => Err(AllocError),
+        }
+    }
+}
+
+/// A copy of the frame with its octets, where it stays.
+fn keep_copy(alloc: Global, sent: &Sent) -> Result<Written, AllocError>
+    ensures { IfOk result (λ w. w ≡ sent.now) }
 {
-    let Some(sent) = sent else {
-        return Ok((Items::new(alloc), None));
-    };
     let mut items = Vec::with_capacity(alloc, 1)?;
-    let handle = sent.bytes.clone()?;
-    items.push_reserved(sent);
-    Ok((Items { items }, Some(handle)))
+    let octets = sent.bytes.clone()?;
+    match sent.clone() {
+        Ok(copy) => {
+            items.push_reserved(copy);
+            let list = Items { items };
+            Ok(Written { list, octets })
+        }
+        Err(e) => Err(e),
+    }
+}
+
+/// The frame that is sent, if there is one, and a handle of its octets.
+pub(crate) fn list_sent(alloc: Global, sent: Option<Written>) -> (Items<Sent>, Option<Bytes>)
+    ensures list { result.0 ≡ option_to_list sent }
+    ensures octets { result.1 ≡ octets_sent sent }
+{
+    match sent {
+        None => (Items::new(alloc), None),
+        Some(sent) => {
+            let (list, octets) = sent.listed();
+            (list, Some(octets))
+        }
+    }
 }

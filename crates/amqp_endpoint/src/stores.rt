@@ -1,10 +1,13 @@
 //! The links and the unsettled deliveries, and what a step makes of both.
 ghost use Rattle.std.specs.Prelude.{◌≡◌, ◌<◌, ◌^◌, [], OnOk, OnErr};
+ghost use Rattle.amqp_endpoint.specs.Starting.{change_begun};
 ghost use Rattle.amqp_endpoint.specs.Stores.{IsMet, stores_after};
 
 use amqp_deliveries::{Change, Disposition, HeldItem, Tables};
+use amqp_links::arrival::Piece;
 use amqp_links::fate::Fate;
 use amqp_links::links::Links;
+use amqp_links::marks::Marks;
 use amqp_performatives::{DeliveryState, Role};
 use std::alloc::{AllocError, Global};
 use std::marker::Model;
@@ -106,6 +109,123 @@ impl Stores {
                 }
             }
         }
+    }
+
+    /// An unsettled delivery of ours begins on the link, which has these marks.
+    fn hold(
+        &mut self,
+        key: usize,
+        number: u32,
+        marks: &Marks,
+        item: HeldItem,
+    ) -> Result<(), AllocError>
+        requires met { IsMet (Fate.Marked key number marks.now) (Change.Begins Role.Sender item) self.old }
+        ensures ok { OnOk result (self.new ≡ stores_after (Fate.Marked key number marks.now) (Change.Begins Role.Sender item) self.old) }
+        ensures err { OnErr result (self.new ≡ self.old) }
+    {
+        match self.tables.begin(Role::Sender, item) {
+            Ok(()) => {
+                self.links.mark(key, number, marks);
+                Ok(())
+            }
+            Err(e) => Err(e),
+        }
+    }
+
+    /// A delivery of ours begins on the link, which has these marks. One that is sent settled is not held.
+    pub(crate) fn start(
+        &mut self,
+        key: usize,
+        number: u32,
+        marks: &Marks,
+        settled: bool,
+        item: HeldItem,
+    ) -> Result<(), AllocError>
+        requires met { IsMet (Fate.Marked key number marks.now) (change_begun settled item) self.old }
+        ensures ok { OnOk result (self.new ≡ stores_after (Fate.Marked key number marks.now) (change_begun settled item) self.old) }
+        ensures err { OnErr result (self.new ≡ self.old) }
+    {
+        match settled {
+            true => {
+                drop(item);
+                self.links.mark(key, number, marks);
+                Ok(())
+            }
+            false => self.hold(key, number, marks, item),
+        }
+    }
+
+    /// A transfer is heard on the link, which has these marks, and begins a delivery. Where the link cannot follow, it is taken back.
+    fn arrive_first(
+        &mut self,
+        key: usize,
+        number: u32,
+        marks: &Marks,
+        piece: Piece,
+        role: Role,
+        item: HeldItem,
+    ) -> Result<(), AllocError>
+        requires met { IsMet (Fate.Heard key number marks.now piece) (Change.Begins role item) self.old }
+        ensures ok { OnOk result (self.new ≡ stores_after (Fate.Heard key number marks.now piece) (Change.Begins role item) self.old) }
+        ensures err { OnErr result (self.new ≡ self.old) }
+    {
+        match self.tables.begin(role, item) {
+            Ok(()) => {}
+            Err(e) => {
+                drop(piece);
+                return Err(e);
+            }
+        }
+        match self.links.hear(key, number, marks, piece) {
+            Ok(()) => Ok(()),
+            Err(e) => {
+                self.tables.take_back(role);
+                Err(e)
+            }
+        }
+    }
+
+    /// A transfer is heard on the link, which has these marks; the unsettled deliveries change so.
+    pub(crate) fn arrive(
+        &mut self,
+        key: usize,
+        number: u32,
+        marks: &Marks,
+        piece: Piece,
+        change: Change,
+    ) -> Result<(), AllocError>
+        requires met { IsMet (Fate.Heard key number marks.now piece) change self.old }
+        requires made { self.old.links.made < 2 ^ 31 }
+        ensures ok { OnOk result (self.new ≡ stores_after (Fate.Heard key number marks.now piece) change self.old) }
+        ensures err { OnErr result (self.new ≡ self.old) }
+    {
+        match change {
+            Change::Stay => self.links.hear(key, number, marks, piece),
+            Change::Begins(role, item) => self.arrive_first(key, number, marks, piece, role, item),
+            change => self.keep(
+                Fate::Heard {
+                    key,
+                    number,
+                    marks: *marks,
+                    piece,
+                },
+                change,
+            ),
+        }
+    }
+
+    /// What waits first on the link is taken.
+    pub(crate) fn take(&mut self, key: usize, number: u32)
+        ensures { self.new ≡ stores_after (Fate.Taken key number) Change.Stay self.old }
+    {
+        self.links.take(key, number);
+    }
+
+    /// What was told first of the link's deliveries is learnt.
+    pub(crate) fn learn(&mut self, key: usize, number: u32)
+        ensures { self.new ≡ stores_after (Fate.Learnt key number) Change.Stay self.old }
+    {
+        self.links.learn(key, number);
     }
 
     /// They become what they are to be. Memory is asked for before anything changes.

@@ -14,9 +14,9 @@ use Rattle.amqp_rules.specs.Opened.{no_reply}
 use Rattle.amqp_rules.specs.Refusing.{unlinked, no_memory}
 use Rattle.amqp_rules.specs.View.{View}
 use Rattle.amqp_rules.specs.Answer.{own_answer, heard_answer, next_own, next_heard}
-use Rattle.amqp_endpoint.specs.declared.plan.Plan.{Plan}
-use Rattle.amqp_endpoint.specs.Plan.{IsPlan, IsSound, plan_reply, planned}
-use Rattle.amqp_journal.specs.Planning.{PlansStep}
+use Rattle.amqp_endpoint.specs.declared.done.Done.{Done}
+use Rattle.amqp_endpoint.specs.Doing.{IsDone}
+use Rattle.amqp_laws.specs.Lawful.{Answers, next}
 use Rattle.amqp_laws.specs.declared.entry.Step.{Step}
 use Rattle.amqp_laws.specs.declared.entry.Step.TheVariants.{Own, Heard}
 use Rattle.amqp_laws.specs.Past.{past}
@@ -74,46 +74,34 @@ opened-wanting l room = wanting NoMemory (opened_due l) no_reply (opened-open l 
 
 -- ---- of operations
 
-pub own-planned : (l : Log) (v : View) (queue : List (List ℕ)) (op copy : Op) (p : Plan) → IsKept l v queue → IsPlan v (own_answer v op) (next_own v op) p → copy ≡ op
-    → PlansStep (at l.config (past l.journal)) (Own copy) p
-own-planned l v queue op copy p k plan same =
-    let P : View → Op → Type 0 = λ w x. PlansStep w (Own x) p in
-    let here : P v op = record { due = plan.due; leaves = plan.leaves; sound = plan.sound } in
-    subst (λ (w : View). P w copy) k.is_at (subst (P v) (sym same) here)
+pub own-answers : (v w : View) (op : Op) (step : Step) (reply : Reply) → v ≡ w → step ≡ Own op → own_answer v op ≡ Ok reply → Answers w step reply
+own-answers v w op step reply is same due = subst (λ (x : View). Answers x step reply) is (subst (λ (s : Step). Answers v s reply) (sym same) due)
 
-pub own-appends : (l new : Log) (v : View) (queue : List (List ℕ)) (op copy : Op) (p : Plan) (given : Given) → IsKept l v queue → length l.journal < l.config.journal_limit
-    → IsPlan v (own_answer v op) (next_own v op) p → copy ≡ op → (new ≡ logging l (Own copy) (plan_reply p (at l.config (past l.journal)))) × (given ≡ p.given) → Appends l (Own op) (own_due l op) given new
-own-appends l new v queue op copy p given k room plan same done =
-    let is : new ≡ logging l (Own op) (plan_reply p v) = done.0 ∙ (λ i. logging l (Own (same i)) (plan_reply p (sym k.is_at i))) in
-    appends l new (Own op) (own_due l op) (plan_reply p v) given (own-open l v queue op k room ∙ plan.due) is done.1
+pub own-next : (v w later : View) (op : Op) (step : Step) → v ≡ w → step ≡ Own op → later ≡ next_own v op → later ≡ next w step
+own-next v w later op step is same h = h ∙ (λ i. next (is i) (sym same i))
+
+pub own-appends : (l new : Log) (v later : View) (queue : List (List ℕ)) (op : Op) (step : Step) (d : Done) → IsKept l v queue → length l.journal < l.config.journal_limit
+    → IsDone (own_answer v op) (next_own v op) later d → step ≡ Own op → new ≡ logging l step d.reply → Appends l (Own op) (own_due l op) d.given new
+own-appends l new v later queue op step d k room done same n =
+    appends l new (Own op) (own_due l op) d.reply d.given (own-open l v queue op k room ∙ done.due) (n ∙ (λ i. logging l (same i) d.reply)) done.given
 
 pub own-refused : (l : Log) (v : View) (queue : List (List ℕ)) (op : Op) (e : Refusal) → IsKept l v queue → length l.journal < l.config.journal_limit
     → (own_answer v op ≡ Err e) ⊎ (IsOk (own_answer v op) × (e ≡ NoMemory)) → IsRefusal NoMemory (own_due l op) e
 own-refused l v queue op e k room r = refused-as NoMemory e (own_due l op) (own_answer v op) (own-open l v queue op k room) r
 
-pub own-wanting : (l : Log) (v : View) (queue : List (List ℕ)) (op : Op) (p : Plan) → IsKept l v queue → length l.journal < l.config.journal_limit → IsPlan v (own_answer v op) (next_own v op) p
-    → IsRefusal NoMemory (own_due l op) NoMemory
-own-wanting l v queue op p k room plan = wanting NoMemory (own_due l op) (plan_reply p v) (own-open l v queue op k room ∙ plan.due)
-
 -- ---- of frames
 
-pub heard-planned : (l : Log) (v : View) (queue : List (List ℕ)) (f copy : Frame) (p : Plan) → IsKept l v queue → IsPlan v (heard_answer v f) (next_heard v f) p → copy ≡ f
-    → PlansStep (at l.config (past l.journal)) (Heard copy) p
-heard-planned l v queue f copy p k plan same =
-    let P : View → Frame → Type 0 = λ w x. PlansStep w (Heard x) p in
-    let here : P v f = record { due = plan.due; leaves = plan.leaves; sound = plan.sound } in
-    subst (λ (w : View). P w copy) k.is_at (subst (P v) (sym same) here)
+pub heard-answers : (v w : View) (f : Frame) (step : Step) (reply : Reply) → v ≡ w → step ≡ Heard f → heard_answer v f ≡ Ok reply → Answers w step reply
+heard-answers v w f step reply is same due = subst (λ (x : View). Answers x step reply) is (subst (λ (s : Step). Answers v s reply) (sym same) due)
 
-pub heard-appends : (l new : Log) (v : View) (queue : List (List ℕ)) (f copy : Frame) (p : Plan) (given : Given) → IsKept l v queue → length l.journal < l.config.journal_limit
-    → IsPlan v (heard_answer v f) (next_heard v f) p → copy ≡ f → (new ≡ logging l (Heard copy) (plan_reply p (at l.config (past l.journal)))) × (given ≡ p.given) → Appends l (Heard f) (heard_due l f) given new
-heard-appends l new v queue f copy p given k room plan same done =
-    let is : new ≡ logging l (Heard f) (plan_reply p v) = done.0 ∙ (λ i. logging l (Heard (same i)) (plan_reply p (sym k.is_at i))) in
-    appends l new (Heard f) (heard_due l f) (plan_reply p v) given (heard-open l v queue f k room ∙ plan.due) is done.1
+pub heard-next : (v w later : View) (f : Frame) (step : Step) → v ≡ w → step ≡ Heard f → later ≡ next_heard v f → later ≡ next w step
+heard-next v w later f step is same h = h ∙ (λ i. next (is i) (sym same i))
+
+pub heard-appends : (l new : Log) (v later : View) (queue : List (List ℕ)) (f : Frame) (step : Step) (d : Done) → IsKept l v queue → length l.journal < l.config.journal_limit
+    → IsDone (heard_answer v f) (next_heard v f) later d → step ≡ Heard f → new ≡ logging l step d.reply → Appends l (Heard f) (heard_due l f) d.given new
+heard-appends l new v later queue f step d k room done same n =
+    appends l new (Heard f) (heard_due l f) d.reply d.given (heard-open l v queue f k room ∙ done.due) (n ∙ (λ i. logging l (same i) d.reply)) done.given
 
 pub heard-refused : (l : Log) (v : View) (queue : List (List ℕ)) (f : Frame) (e : Violation) → IsKept l v queue → length l.journal < l.config.journal_limit
     → (heard_answer v f ≡ Err e) ⊎ (IsOk (heard_answer v f) × (e ≡ no_memory)) → IsRefusal no_memory (heard_due l f) e
 heard-refused l v queue f e k room r = refused-as no_memory e (heard_due l f) (heard_answer v f) (heard-open l v queue f k room) r
-
-pub heard-wanting : (l : Log) (v : View) (queue : List (List ℕ)) (f : Frame) (p : Plan) → IsKept l v queue → length l.journal < l.config.journal_limit → IsPlan v (heard_answer v f) (next_heard v f) p
-    → IsRefusal no_memory (heard_due l f) no_memory
-heard-wanting l v queue f p k room plan = wanting no_memory (heard_due l f) (plan_reply p v) (heard-open l v queue f k room ∙ plan.due)

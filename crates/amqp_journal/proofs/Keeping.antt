@@ -6,10 +6,6 @@ use Rattle.amqp_rules.specs.declared.config.Config.{Config}
 use Rattle.amqp_rules.specs.declared.reply.Reply.{Reply}
 use Rattle.amqp_rules.specs.Limits.{IsWithinLimits}
 use Rattle.amqp_rules.specs.View.{View, initial}
-use Rattle.amqp_rules.specs.declared.reply.Sent.{Sent}
-use Rattle.amqp_endpoint.specs.declared.plan.Plan.{Plan}
-use Rattle.amqp_endpoint.specs.Plan.{plan_reply, planned, octets_sent as octets_of_plan}
-use Rattle.amqp_journal.specs.Planning.{PlansStep}
 use Rattle.amqp_laws.specs.declared.entry.Entry.{Entry}
 use Rattle.amqp_laws.specs.declared.entry.Step.{Step}
 use Rattle.amqp_laws.specs.Past.{past}
@@ -131,27 +127,6 @@ kept-step c before after put popped endpoint later queue queued step reply unit 
     let P : List (List ℕ) → Type 0 = λ x. IsKept (record { config = c; journal = after; put = put; popped = popped }) later x in
     let Q : List Entry → Type 0 = λ x. IsKept (record { config = c; journal = x; put = put; popped = popped }) later (queue ++ option_to_list unit) in
     subst P (sym q) (subst Q (sym j) here)
-
--- of a plan that was committed
-pub kept-planned : (c : Config) (before after : List Entry) (put : List (ℕ × List ℕ)) (popped : ℕ) (endpoint later : View) (queue queued : List (List ℕ)) (step : Step) (reply : Reply) (unit : Option (List ℕ)) (plan : Plan)
-    (old : Log) → GoesOnAlong c → IsKept (record { config = c; journal = before; put = put; popped = popped }) endpoint queue → record { config = c; journal = before; put = put; popped = popped } ≡ old
-    → length old.journal < old.config.journal_limit → PlansStep (at old.config (past old.journal)) step plan → reply ≡ plan_reply plan endpoint → later ≡ planned endpoint plan
-    → unit ≡ octets_of_plan plan.sent → after ≡ before ++ record { step = step; reply = reply } ∷ [] → queued ≡ queue ++ option_to_list unit
-    → IsKept (record { config = c; journal = after; put = put; popped = popped }) later queued
-kept-planned c before after put popped endpoint later queue queued step reply unit plan old goes k same room due r is u j q =
-    let P : Log → Type 0 = λ l. PlansStep (at l.config (past l.journal)) step plan in
-    let R : Log → Type 0 = λ l. length l.journal < l.config.journal_limit in
-    let S : View → Type 0 = λ v. Answers (at c (past before)) step (plan_reply plan v) in
-    let T : Reply → Type 0 = λ x. Answers (at c (past before)) step x in
-    let here : PlansStep (at c (past before)) step plan = subst P (sym same) due in
-    let answers : Answers (at c (past before)) step reply = subst T (sym r) (subst S (sym k.is_at) here.due) in
-    let along : later ≡ next (at c (past before)) step = is ∙ ap (λ (v : View). planned v plan) k.is_at ∙ sym here.leaves in
-    let sent : option_to_list unit ≡ map (λ s. s.bytes) reply.sent = ap option_to_list u ∙ octets-alone plan.sent ∙ sym (ap (λ (x : Reply). map (λ s. s.bytes) x.sent) r) in
-    kept-step c before after put popped endpoint later queue queued step reply unit goes k (subst R (sym same) room) answers along sent j q
-  where
-    octets-alone : (s : Option Sent) → option_to_list (octets_of_plan s) ≡ map (λ s. s.bytes) (option_to_list s)
-    octets-alone None = refl
-    octets-alone (Some s) = refl
 
 pub kept-put-parts : (c : Config) (journal : List Entry) (before after : List (ℕ × List ℕ)) (popped : ℕ) (endpoint : View) (queue queued : List (List ℕ)) (octets : List ℕ)
     → IsKept (record { config = c; journal = journal; put = before; popped = popped }) endpoint queue → after ≡ before ++ (length journal, octets) ∷ [] → queued ≡ queue ++ octets ∷ []

@@ -1,4 +1,3 @@
 pub mod Log
 pub mod Units
 pub mod Kept
-pub mod Planning

@@ -6,8 +6,8 @@
 //! | `unit` | what goes out to the peer, with its number |
 //! | `receipt` | what stands for an operation that was done |
 //!
-//! A step is planned by the endpoint, room is made for its entry, its copy and its unit, and only then the endpoint changes: a step that is
-//! refused, or for which memory is wanting, leaves all as it was. Entries, and the laws of whole journals, are those of `amqp_laws`.
+//! Room is made for a step's entry and its unit, and the copy that the entry keeps; only then the endpoint does the step: one that is refused,
+//! or for which memory is wanting, leaves all as it was. Entries, and the laws of whole journals, are those of `amqp_laws`.
 #![tactic(auto)]
 
 pub mod logged;

@@ -1,24 +1,24 @@
 //! An endpoint with the journal of its steps and the units that wait.
-ghost use Rattle.std.specs.Prelude.{ℕ, List, ◌≡◌, ◌≢◌, ◌<◌, ◌≤◌, ◌⊎◌, ◌+◌, ◌++◌, ◌∷◌, ◌↔◌, length, [], drop, map, vec_len, vec_capacity, option_to_list, Option, Some, None, Ok, IsTrue, IfErr, IfSome, OnOk, OnErr, IfOk, slice_get};
+ghost use Rattle.std.specs.Prelude.{ℕ, List, ◌≡◌, ◌≢◌, ◌<◌, ◌≤◌, ◌^◌, ◌⊎◌, ◌+◌, ◌++◌, ◌∷◌, ◌↔◌, length, [], drop, map, vec_len, vec_capacity, option_to_list, Option, Some, None, Ok, IsTrue, IfErr, IfSome, OnOk, OnErr, IfOk, slice_get};
 ghost use Rattle.std.specs.VecDeque.{deque_len, deque_capacity};
 ghost use Rattle.amqp_rules.specs.declared.config.Config.{Config};
 ghost use Rattle.amqp_rules.specs.Limits.{IsWithinLimits};
 ghost use Rattle.amqp_rules.specs.Refusing.{no_memory};
 ghost use Rattle.amqp_rules.specs.Opened.{no_reply};
-ghost use Rattle.amqp_endpoint.specs.Plan.{plan_reply};
+ghost use Rattle.amqp_endpoint.specs.Plan.{IsRefused};
+ghost use Rattle.amqp_rules.specs.Answer.{own_answer, heard_answer};
 ghost use Rattle.amqp_laws.specs.Past.{past};
 ghost use Rattle.amqp_laws.specs.At.{at};
 ghost use Rattle.amqp_laws.specs.Lawful.{IsLawful, NeverWithoutCredit};
 ghost use Rattle.amqp_laws.specs.DeliveryLaws.{AreLeft, NeverTwice, SendsSerials};
 ghost use Rattle.amqp_laws.specs.declared.entry.Step.TheVariants as step;
 ghost use Rattle.amqp_journal.specs.Log.{Log, Appends, IsRefusal, opened_due, own_due, heard_due, new_log, logging, putting, popping};
-ghost use Rattle.amqp_journal.specs.Planning.{PlansStep};
 ghost use Rattle.amqp_journal.specs.Units.{units, waiting, Stands, PutWithin, given_link, given_id};
 
 use crate::receipt::Receipt;
 use crate::unit::Unit;
+use amqp_endpoint::done::Done;
 use amqp_endpoint::endpoint::Endpoint;
-use amqp_endpoint::plan::Plan;
 use amqp_frames::Frame;
 use amqp_laws::entry::{Entry, Step};
 use amqp_laws::laws::laws;
@@ -143,18 +143,25 @@ impl Logged {
         if self.journal.len() >= self.config.journal_limit as usize {
             return Err(Refusal::JournalFull);
         }
-        let plan = match self.endpoint.plan_own(op) {
-            Ok(plan) => plan,
-            Err(refusal) => return Err(refusal),
+        let own = match room_for_own(&mut self.journal, &mut self.waiting, op) {
+            Ok(own) => own,
+            Err(_) => return Err(own_refused(&self.endpoint, op)),
         };
-        match op.clone() {
-            Ok(copy) => match self.append(Step::Own(copy), plan) {
-                Ok(given) => Ok(given),
-                Err(_) => Err(Refusal::NoMemory),
-            },
-            Err(_) => {
-                drop(plan);
-                Err(Refusal::NoMemory)
+        laws();
+        match self.endpoint.own(op) {
+            Ok(done) => {
+                let Done {
+                    reply,
+                    octets,
+                    given,
+                } = done;
+                self.journal.push_reserved(Entry { step: own, reply });
+                queue(&mut self.waiting, octets);
+                Ok(given)
+            }
+            Err(refusal) => {
+                drop(own);
+                Err(refusal)
             }
         }
     }
@@ -169,48 +176,25 @@ impl Logged {
         if self.journal.len() >= self.config.journal_limit as usize {
             return Err(Violation::unlinked(ViolationKind::JournalFull));
         }
-        let plan = match self.endpoint.plan_heard(frame) {
-            Ok(plan) => plan,
-            Err(violation) => return Err(violation),
-        };
-        match boxed(*self.journal.allocator(), frame) {
-            Ok(copy) => match self.append(Step::Heard(copy), plan) {
-                Ok(given) => Ok(given),
-                Err(_) => Err(Violation::unlinked(ViolationKind::NoMemory)),
-            },
-            Err(_) => {
-                drop(plan);
-                Err(Violation::unlinked(ViolationKind::NoMemory))
-            }
-        }
-    }
-
-    /// One entry more, by the plan of its step: room is made first, and the endpoint changes last.
-    fn append(&mut self, step: Step, plan: Plan) -> Result<Given, AllocError>
-        requires room { length self.old.journal < self.old.config.journal_limit }
-        requires due { PlansStep (at self.old.config (past self.old.journal)) step plan }
-        ensures ok { IfOk result (λ given. (self.new ≡ logging self.old step (plan_reply plan (at self.old.config (past self.old.journal)))) × (given ≡ plan.given)) }
-        ensures err { OnErr result (self.new ≡ self.old) }
-    {
-        let given = match ready(&mut self.journal, &mut self.waiting, &plan) {
-            Ok(given) => given,
-            Err(error) => {
-                drop(step);
-                drop(plan);
-                return Err(error);
-            }
+        let heard = match room_for_heard(&mut self.journal, &mut self.waiting, frame) {
+            Ok(heard) => heard,
+            Err(_) => return Err(heard_refused(&self.endpoint, frame)),
         };
         laws();
-        match self.endpoint.commit(plan) {
-            Ok((reply, unit)) => {
-                self.journal.push_reserved(Entry { step, reply });
-                queue(&mut self.waiting, unit);
+        match self.endpoint.heard(frame) {
+            Ok(done) => {
+                let Done {
+                    reply,
+                    octets,
+                    given,
+                } = done;
+                self.journal.push_reserved(Entry { step: heard, reply });
+                queue(&mut self.waiting, octets);
                 Ok(given)
             }
-            Err(error) => {
-                drop(given);
-                drop(step);
-                Err(error)
+            Err(violation) => {
+                drop(heard);
+                Err(violation)
             }
         }
     }
@@ -273,21 +257,70 @@ fn boxed(alloc: Global, frame: &Frame) -> Result<Boxed<Frame>, AllocError>
     Boxed::new(alloc, copy)
 }
 
-/// Room for one entry and one unit more, and what the step will give.
-fn ready(
+/// The refusal that is due to an operation, or want of memory.
+#[inline(never)]
+fn own_refused(endpoint: &Endpoint, op: &Op) -> Refusal
+    requires { endpoint.now.steps < 2 ^ 30 }
+    ensures { IsRefused Refusal.NoMemory (own_answer endpoint.now op.now) result }
+{
+    match endpoint.plan_own(op) {
+        Ok(plan) => {
+            drop(plan);
+            Refusal::NoMemory
+        }
+        Err(refusal) => refusal,
+    }
+}
+
+/// What a frame that is heard violates, or want of memory.
+#[inline(never)]
+fn heard_refused(endpoint: &Endpoint, frame: &Frame) -> Violation
+    requires { endpoint.now.steps < 2 ^ 30 }
+    ensures { IsRefused no_memory (heard_answer endpoint.now frame.now) result }
+{
+    match endpoint.plan_heard(frame) {
+        Ok(plan) => {
+            drop(plan);
+            Violation::unlinked(ViolationKind::NoMemory)
+        }
+        Err(violation) => violation,
+    }
+}
+
+/// Room for one entry and one unit more, and the step with its copy of the operation.
+fn room_for_own(
     journal: &mut Vec<Entry>,
     waiting: &mut VecDeque<Bytes>,
-    plan: &Plan,
-) -> Result<Given, AllocError>
+    op: &Op,
+) -> Result<Step, AllocError>
     ensures journal { journal.new.items ≡ journal.old.items }
     ensures waiting { waiting.new.items ≡ waiting.old.items }
     ensures room { OnOk result (vec_len journal.new < vec_capacity journal.new) }
     ensures place { OnOk result (deque_len waiting.new < deque_capacity waiting.new) }
-    ensures given { IfOk result (λ given. given ≡ plan.now.given) }
+    ensures step { IfOk result (λ s. s ≡ step.Own op.now) }
 {
     journal.reserve(1)?;
     waiting.reserve(1)?;
-    plan.given()
+    let copy = op.clone()?;
+    Ok(Step::Own(copy))
+}
+
+/// The same for a frame that is heard.
+fn room_for_heard(
+    journal: &mut Vec<Entry>,
+    waiting: &mut VecDeque<Bytes>,
+    frame: &Frame,
+) -> Result<Step, AllocError>
+    ensures journal { journal.new.items ≡ journal.old.items }
+    ensures waiting { waiting.new.items ≡ waiting.old.items }
+    ensures room { OnOk result (vec_len journal.new < vec_capacity journal.new) }
+    ensures place { OnOk result (deque_len waiting.new < deque_capacity waiting.new) }
+    ensures step { IfOk result (λ s. s ≡ step.Heard frame.now) }
+{
+    journal.reserve(1)?;
+    waiting.reserve(1)?;
+    let copy = boxed(*journal.allocator(), frame)?;
+    Ok(Step::Heard(copy))
 }
 
 /// Room for what is put, in its list and in the queue.

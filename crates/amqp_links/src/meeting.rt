@@ -4,6 +4,7 @@ ghost use Rattle.amqp_links.specs.Fate.{IsFit, links_after};
 ghost use Rattle.amqp_links.specs.Links.{LinksView};
 ghost use Rattle.amqp_rules.specs.View.{has_number, remove_first};
 
+use crate::arrival::Piece;
 use crate::end::End;
 use crate::fate::Fate;
 use crate::links::Links;
@@ -96,6 +97,41 @@ impl Links {
         self.handles.clear();
     }
 
+    /// The link with this number, which stands under the key, has these marks: the step `Marked`, by itself.
+    pub fn mark(&mut self, key: usize, number: u32, marks: &Marks)
+        ensures { self.new ≡ links_after (Fate.Marked key number marks.now) self.old }
+    {
+        self.store.mark(key, number, marks);
+    }
+
+    /// What waits first on the link with this number is taken: the step `Taken`, by itself.
+    pub fn take(&mut self, key: usize, number: u32)
+        ensures { self.new ≡ links_after (Fate.Taken key number) self.old }
+    {
+        self.store.take(key, number);
+    }
+
+    /// What was told first of the deliveries of the link with this number is learnt: the step `Learnt`, by itself.
+    pub fn learn(&mut self, key: usize, number: u32)
+        ensures { self.new ≡ links_after (Fate.Learnt key number) self.old }
+    {
+        self.store.learn(key, number);
+    }
+
+    /// A transfer is heard on the link with this number, which has these marks: the step `Heard`, by itself.
+    pub fn hear(
+        &mut self,
+        key: usize,
+        number: u32,
+        marks: &Marks,
+        piece: Piece,
+    ) -> Result<(), AllocError>
+        ensures next { OnOk result (self.new ≡ links_after (Fate.Heard key number marks.now piece) self.old) }
+        ensures err { OnErr result (self.new ≡ self.old) }
+    {
+        self.store.hear(key, number, marks, piece)
+    }
+
     /// The links become what they are to be. Memory is asked for before anything changes.
     pub fn meet(&mut self, fate: Fate) -> Result<(), AllocError>
         requires fit { IsFit fate self.old }
@@ -106,7 +142,7 @@ impl Links {
         match fate {
             Fate::Stay => Ok(()),
             Fate::Marked { key, number, marks } => {
-                self.store.mark(key, number, &marks);
+                self.mark(key, number, &marks);
                 Ok(())
             }
             Fate::Ours {
@@ -128,11 +164,11 @@ impl Links {
                 Ok(())
             }
             Fate::Taken { key, number } => {
-                self.store.take(key, number);
+                self.take(key, number);
                 Ok(())
             }
             Fate::Learnt { key, number } => {
-                self.store.learn(key, number);
+                self.learn(key, number);
                 Ok(())
             }
             Fate::Heard {
@@ -140,7 +176,7 @@ impl Links {
                 number,
                 marks,
                 piece,
-            } => self.store.hear(key, number, &marks, piece),
+            } => self.hear(key, number, &marks, piece),
             Fate::Gone { key, number } => {
                 self.remove(key, number);
                 Ok(())

@@ -1,8 +1,10 @@
 //! Learn: the first thing that was told of a delivery on a link on which we send is given.
-ghost use Rattle.std.specs.Prelude.{◌≡◌, IfOk};
+ghost use Rattle.std.specs.Prelude.{◌≡◌, ◌<◌, ◌^◌, IfOk, MatchResult, OnErr};
 ghost use Rattle.amqp_rules.specs.Learn.{learn_answer, learned_of, next_learn};
-ghost use Rattle.amqp_endpoint.specs.Plan.{Plans};
+ghost use Rattle.amqp_endpoint.specs.Doing.{Does, learn_plan};
+ghost use Rattle.amqp_endpoint.specs.Plan.{IsPlan, IsRefused, Plans};
 
+use crate::done::{Done, quiet_done};
 use crate::endpoint::Endpoint;
 use crate::endpoint::dispose::copy_state;
 use crate::plan::{Plan, plan_quiet};
@@ -30,9 +32,9 @@ fn learned_of(told: &Telling) -> Result<Learned, AllocError>
 }
 
 impl Endpoint {
-    /// Learns what was told first; also of a link that we are leaving. O(log n) for n links.
-    pub(crate) fn plan_learn(&self, link: u32) -> Result<Plan, Refusal>
-        ensures { Plans Refusal.NoMemory self.now (learn_answer self.now link) (next_learn self.now link) result }
+    /// What was told first, with the key of its link; also of a link that we are leaving. O(log n) for n links.
+    fn first_learned(&self, link: u32) -> Result<(usize, Boxed<Learned>), Refusal>
+        ensures { MatchResult result (λ both. IsPlan self.now (learn_answer self.now link) (next_learn self.now link) (learn_plan self.now both.0 link both.1)) (λ e. IsRefused Refusal.NoMemory (learn_answer self.now link) e) }
     {
         let Some(found) = self.stores.links.by_number(link) else {
             return Err(Refusal::NoLink);
@@ -47,13 +49,47 @@ impl Endpoint {
         let Ok(learned) = learned_of(told) else {
             return Err(Refusal::NoMemory);
         };
-        let Ok(learned) = Boxed::new(self.alloc, learned) else {
+        match Boxed::new(self.alloc, learned) {
+            Ok(learned) => Ok((found.key, learned)),
+            Err(_) => Err(Refusal::NoMemory),
+        }
+    }
+
+    /// Learns what was told first.
+    pub(crate) fn plan_learn(&self, link: u32) -> Result<Plan, Refusal>
+        ensures { Plans Refusal.NoMemory self.now (learn_answer self.now link) (next_learn self.now link) result }
+    {
+        match self.first_learned(link) {
+            Ok((key, learned)) => Ok(plan_quiet(
+                self.session,
+                Fate::Learnt { key, number: link },
+                Change::Stay,
+                Given::Learned(learned),
+            )),
+            Err(refusal) => Err(refusal),
+        }
+    }
+
+    /// The same at once.
+    pub(crate) fn learn(&mut self, link: u32) -> Result<Done, Refusal>
+        requires { self.old.steps < 2 ^ 30 }
+        ensures done { Does Refusal.NoMemory (learn_answer self.old link) (next_learn self.old link) self.new result }
+        ensures err { OnErr result (self.new ≡ self.old) }
+    {
+        let (key, learned) = match self.first_learned(link) {
+            Ok(both) => both,
+            Err(refusal) => return Err(refusal),
+        };
+        let Ok(once_more) = learned.clone() else {
+            drop(learned);
             return Err(Refusal::NoMemory);
         };
-        let fate = Fate::Learnt {
-            key: found.key,
-            number: link,
-        };
-        Ok(plan_quiet(self.session, fate, Change::Stay, Given::Learned(learned)))
+        self.stores.learn(key, link);
+        self.steps += 1;
+        Ok(quiet_done(
+            self.alloc,
+            Given::Learned(learned),
+            Given::Learned(once_more),
+        ))
     }
 }

@@ -1,5 +1,5 @@
 //! A transfer that is heard (part 2, 2.6.12, 2.6.14 and 2.7.5).
-ghost use Rattle.std.specs.Prelude.{◌≡◌, ◌<◌, ◌&&◌, ◌||◌, ◌+◌, ◌^◌, ◌==◌, [], ◌∷◌, List, ℕ, true, false, None, Some, cond, is_none, length, unwrap_or, IfOk};
+ghost use Rattle.std.specs.Prelude.{◌≡◌, ◌<◌, ◌&&◌, ◌||◌, ◌+◌, ◌^◌, ◌==◌, [], ◌∷◌, List, ℕ, true, false, None, Some, cond, is_none, length, unwrap_or, IfOk, MatchResult, OnErr};
 ghost use Rattle.amqp_events.specs.Event.{PassesOver};
 ghost use Rattle.amqp_events.specs.Joined.{next_delivery};
 ghost use Rattle.amqp_events.specs.Numbers.{id_used, one_past};
@@ -10,18 +10,24 @@ ghost use Rattle.amqp_links.specs.Arrivals.{size_told};
 ghost use Rattle.amqp_links.specs.Credits.{credit_in, role_of};
 ghost use Rattle.amqp_links.specs.Links.{IsFirst};
 ghost use Rattle.amqp_links.specs.Marks.{with_marks};
-ghost use Rattle.amqp_endpoint.specs.Plan.{Plans};
+ghost use Rattle.amqp_deliveries.specs.Change.{ended_in};
+ghost use Rattle.amqp_endpoint.specs.Doing.{Does};
+ghost use Rattle.amqp_endpoint.specs.Plan.{IsPlan, IsRefused, IsSound, Plans, plan_reply, planned};
+ghost use Rattle.amqp_rules.specs.declared.violation.Violation.{Violation};
+ghost use Rattle.amqp_endpoint.specs.Arriving.{arrival_plan, arrived_plan, arriving_plan, passed_plan};
 ghost use Rattle.amqp_endpoint.specs.Transferring.{IsGoing, breaks_snd, change_heard, given_heard, later_rows, first_rows, delivery_rows};
 ghost use Rattle.amqp_rules.specs.Deliveries.{item_of, transferred};
 ghost use Rattle.amqp_rules.specs.PeerTransfer.{breaks_mode, breaks_rcv_mode, breaks_size, delivery_violations, is_nameless, is_other, is_unexpected, name_violations, next_transfer, receives, tag_is_taken, transfer_answer, transfer_violations};
 ghost use Rattle.amqp_rules.specs.Refusing.{first_refusal, no_memory};
 ghost use Rattle.amqp_rules.specs.View.{has_peer_handle, same_role, takes_frames};
 
+use crate::done::{Done, quiet_done};
 use crate::endpoint::Endpoint;
 use crate::endpoint::dispose::copy_state;
 use crate::endpoint::start::is_too_long;
 use crate::plan::{Plan, Session, plan_quiet};
-use crate::reply::Given;
+use crate::reply::{Given, Reply};
+use crate::stores::Stores;
 use crate::violation::{Violation, ViolationKind};
 use amqp_deliveries::{Change, HeldItem};
 use amqp_flow::receiver::ReceiverCredit;
@@ -31,8 +37,30 @@ use amqp_links::credit::{Credit, same_role};
 use amqp_links::fate::Fate;
 use amqp_links::link::Link;
 use amqp_links::marks::Marks;
-use amqp_types::Tag;
+use amqp_types::{Items, Tag};
 use bytes::Bytes;
+use std::alloc::AllocError;
+
+/// A transfer that comes: its link and that link's marks after it, how it is kept, what it makes of the unsettled deliveries, the id that is
+/// expected next, and what the application is told.
+#[derive(Drop)]
+pub(crate) struct Arriving {
+    pub(crate) key: usize,
+    pub(crate) number: u32,
+    pub(crate) marks: Marks,
+    pub(crate) piece: Piece,
+    pub(crate) change: Change,
+    pub(crate) expected: Option<u32>,
+    pub(crate) given: Given,
+}
+
+/// How a transfer comes.
+#[derive(Drop)]
+pub(crate) enum Arrival {
+    /// It is passed over; this id is expected next.
+    Passed(Option<u32>),
+    Comes(Arriving),
+}
 
 /// We receive on the link, and our attach was sent.
 fn receives(l: &Link) -> bool
@@ -357,36 +385,35 @@ impl Endpoint {
         self.taken_violation(l, b, payload)
     }
 
-    /// A transfer on a link that we have left: it is passed over.
-    fn plan_passed(&self, b: &TransferBody, l: &Link, payload: &Bytes) -> Result<Plan, Violation>
+    /// A transfer on a link that we have left is passed over: the id that is expected next.
+    fn make_passed(&self, b: &TransferBody, l: &Link, payload: &Bytes) -> Option<u32>
         requires takes { takes_frames self.now.session ≡ true }
         requires found { IsFirst (has_peer_handle b.now.handle) self.now.links l.now }
         requires left { l.now.left ≡ true }
         requires free { first_refusal (transfer_violations self.now b.now payload.now l.now) ≡ None }
-        requires window { 0 < self.now.windows.incoming }
-        ensures { Plans no_memory self.now (transfer_answer self.now b.now payload.now) (next_transfer self.now b.now payload.now) result }
+        ensures { IsPlan {E = Violation} self.now (transfer_answer self.now b.now payload.now) (next_transfer self.now b.now payload.now) (passed_plan self.now result) }
     {
-        let expected = passed_expected(b.delivery_id, self.session.expected);
-        let session = session_heard(self.session, expected);
-        Ok(plan_quiet(session, Fate::Stay, Change::Stay, Given::Nothing))
+        let _left = l.has_left();
+        let _size = payload.len();
+        passed_expected(b.delivery_id, self.session.expected)
     }
 
     /// The first transfer of a delivery.
-    fn plan_first(
+    fn make_first(
         &self,
         b: &TransferBody,
         key: usize,
         l: &Link,
         payload: &Bytes,
-    ) -> Result<Plan, Violation>
+    ) -> Result<Arriving, Violation>
         requires takes { takes_frames self.now.session ≡ true }
         requires found { IsFirst (has_peer_handle b.now.handle) self.now.links l.now }
         requires left { l.now.left ≡ false }
         requires none { l.now.receiving ≡ None }
         requires free { first_refusal (transfer_violations self.now b.now payload.now l.now) ≡ None }
-        requires window { 0 < self.now.windows.incoming }
-        ensures { Plans no_memory self.now (transfer_answer self.now b.now payload.now) (next_transfer self.now b.now payload.now) result }
+        ensures { MatchResult result (λ a. IsPlan {E = Violation} self.now (transfer_answer self.now b.now payload.now) (next_transfer self.now b.now payload.now) (arriving_plan self.now a)) (λ e. IsRefused no_memory (transfer_answer self.now b.now payload.now) e) }
     {
+        let _session = &self.session;
         let Ok(payload) = payload.clone() else {
             return Err(Violation::unlinked(ViolationKind::NoMemory));
         };
@@ -398,32 +425,32 @@ impl Endpoint {
         let id = b.delivery_id.unwrap_or(0);
         let over = is_over(b);
         let change = change_heard(over, item_of(number, mode, b, state));
-        let fate = Fate::Heard {
+        Ok(Arriving {
             key,
             number,
             marks: marks_first(l),
             piece: piece_of(mode, b, payload),
-        };
-        let session = session_heard(self.session, one_past(id));
-        Ok(plan_quiet(session, fate, change, given_heard(number, id, b)))
+            change,
+            expected: one_past(id),
+            given: given_heard(number, id, b),
+        })
     }
 
     /// A further transfer of the unfinished delivery.
-    fn plan_later(
+    fn make_later(
         &self,
         b: &TransferBody,
         key: usize,
         l: &Link,
         id: u32,
         payload: &Bytes,
-    ) -> Result<Plan, Violation>
+    ) -> Result<Arriving, Violation>
         requires takes { takes_frames self.now.session ≡ true }
         requires found { IsFirst (has_peer_handle b.now.handle) self.now.links l.now }
         requires left { l.now.left ≡ false }
         requires going { IsGoing id l.now.receiving }
         requires free { first_refusal (transfer_violations self.now b.now payload.now l.now) ≡ None }
-        requires window { 0 < self.now.windows.incoming }
-        ensures { Plans no_memory self.now (transfer_answer self.now b.now payload.now) (next_transfer self.now b.now payload.now) result }
+        ensures { MatchResult result (λ a. IsPlan {E = Violation} self.now (transfer_answer self.now b.now payload.now) (next_transfer self.now b.now payload.now) (arriving_plan self.now a)) (λ e. IsRefused no_memory (transfer_answer self.now b.now payload.now) e) }
     {
         let Ok(payload) = payload.clone() else {
             return Err(Violation::unlinked(ViolationKind::NoMemory));
@@ -433,24 +460,21 @@ impl Endpoint {
         };
         let number = l.number();
         let over = is_over(b);
-        let change = Change::Continues(Role::Receiver, id, state, over);
-        let fate = Fate::Heard {
+        Ok(Arriving {
             key,
             number,
             marks: l.marks(),
             piece: piece_of(l.rcv_mode(), b, payload),
-        };
-        let session = session_heard(self.session, self.session.expected);
-        Ok(plan_quiet(session, fate, change, given_heard(number, id, b)))
+            change: Change::Continues(Role::Receiver, id, state, over),
+            expected: self.session.expected,
+            given: given_heard(number, id, b),
+        })
     }
 
-    /// A transfer that is heard. O(log n) for n links, beside the table of unsettled deliveries.
-    pub(crate) fn plan_peer_transfer(
-        &self,
-        b: &TransferBody,
-        payload: &Bytes,
-    ) -> Result<Plan, Violation>
-        ensures { Plans no_memory self.now (transfer_answer self.now b.now payload.now) (next_transfer self.now b.now payload.now) result }
+    /// What a transfer violates, or how it comes. O(log n) for n links, beside the table of unsettled deliveries.
+    fn arrival(&self, b: &TransferBody, payload: &Bytes) -> Result<Arrival, Violation>
+        ensures window { IfOk result (λ a. 0 < self.now.windows.incoming) }
+        ensures plan { MatchResult result (λ a. IsPlan {E = Violation} self.now (transfer_answer self.now b.now payload.now) (next_transfer self.now b.now payload.now) (arrival_plan self.now a)) (λ e. IsRefused no_memory (transfer_answer self.now b.now payload.now) e) }
     {
         if !self.session.takes_frames() {
             return Err(Violation::unlinked(ViolationKind::OutOfSession));
@@ -463,11 +487,154 @@ impl Endpoint {
             return Err(violation);
         }
         if l.has_left() {
-            return self.plan_passed(b, l, payload);
+            return Ok(Arrival::Passed(self.make_passed(b, l, payload)));
         }
-        match l.progress() {
-            Some(progress) => self.plan_later(b, found.key, l, progress.id, payload),
-            None => self.plan_first(b, found.key, l, payload),
+        let made = match l.progress() {
+            Some(progress) => self.make_later(b, found.key, l, progress.id, payload),
+            None => self.make_first(b, found.key, l, payload),
+        };
+        match made {
+            Ok(arriving) => Ok(Arrival::Comes(arriving)),
+            Err(violation) => Err(violation),
+        }
+    }
+
+    /// A transfer that is heard.
+    pub(crate) fn plan_peer_transfer(
+        &self,
+        b: &TransferBody,
+        payload: &Bytes,
+    ) -> Result<Plan, Violation>
+        ensures { Plans no_memory self.now (transfer_answer self.now b.now payload.now) (next_transfer self.now b.now payload.now) result }
+    {
+        match self.arrival(b, payload) {
+            Ok(arrival) => Ok(plan_arrival(self.session, arrival)),
+            Err(violation) => Err(violation),
+        }
+    }
+
+    /// The transfer is passed over.
+    fn pass(&mut self, expected: Option<u32>) -> Done
+        requires steps { self.old.steps < 2 ^ 30 }
+        requires window { 0 < self.old.windows.incoming }
+        requires sound { IsSound self.old (passed_plan self.old expected) }
+        ensures done { result ≡ record { reply = plan_reply (passed_plan self.old expected) self.old; octets = None; given = Given.Nothing } }
+        ensures next { self.new ≡ planned self.old (passed_plan self.old expected) }
+    {
+        let session = session_heard(self.session, expected);
+        self.steps += 1;
+        self.session = session;
+        quiet_done(self.alloc, Given::Nothing, Given::Nothing)
+    }
+
+    /// The transfer comes.
+    fn come(&mut self, arriving: Arriving) -> Result<Done, AllocError>
+        requires steps { self.old.steps < 2 ^ 30 }
+        requires window { 0 < self.old.windows.incoming }
+        requires sound { IsSound self.old (arriving_plan self.old arriving) }
+        ensures reply { IfOk result (λ d. d.reply ≡ plan_reply (arriving_plan self.old arriving) self.old) }
+        ensures octets { IfOk result (λ d. d.octets ≡ None) }
+        ensures given { IfOk result (λ d. d.given ≡ arriving.given) }
+        ensures next { IfOk result (λ d. self.new ≡ planned self.old (arriving_plan self.old arriving)) }
+        ensures err { OnErr result (self.new ≡ self.old) }
+    {
+        let Arriving {
+            key,
+            number,
+            marks,
+            piece,
+            change,
+            expected,
+            given,
+        } = arriving;
+        let (ended, once_more) = match ending(&self.stores, &change, &given) {
+            Ok(both) => both,
+            Err(e) => {
+                drop(given);
+                drop(change);
+                drop(piece);
+                return Err(e);
+            }
+        };
+        match self.stores.arrive(key, number, &marks, piece, change) {
+            Ok(()) => {}
+            Err(e) => {
+                drop(ended);
+                drop(once_more);
+                drop(given);
+                return Err(e);
+            }
+        }
+        self.steps += 1;
+        self.session = session_heard(self.session, expected);
+        let sent = Items::new(self.alloc);
+        let reply = Reply { sent, ended, given };
+        Ok(Done {
+            reply,
+            octets: None,
+            given: once_more,
+        })
+    }
+
+    /// A transfer that is heard, at once.
+    pub(crate) fn transfer(&mut self, b: &TransferBody, payload: &Bytes) -> Result<Done, Violation>
+        requires { self.old.steps < 2 ^ 30 }
+        ensures done { Does no_memory (transfer_answer self.old b.now payload.now) (next_transfer self.old b.now payload.now) self.new result }
+        ensures err { OnErr result (self.new ≡ self.old) }
+    {
+        match self.arrival(b, payload) {
+            Ok(Arrival::Passed(expected)) => Ok(self.pass(expected)),
+            Ok(Arrival::Comes(arriving)) => match self.come(arriving) {
+                Ok(done) => Ok(done),
+                Err(_) => Err(Violation::unlinked(ViolationKind::NoMemory)),
+            },
+            Err(violation) => Err(violation),
+        }
+    }
+}
+
+/// What a change ends, and once more what is given.
+fn ending(
+    stores: &Stores,
+    change: &Change,
+    given: &Given,
+) -> Result<(Items<(Role, u32)>, Given), AllocError>
+    ensures ended { IfOk result (λ both. both.0 ≡ ended_in change.now stores.now.tables) }
+    ensures given { IfOk result (λ both. both.1 ≡ given.now) }
+{
+    let once_more = given.clone()?;
+    let ended = stores.tables.ended(change)?;
+    Ok((ended, once_more))
+}
+
+/// The plan of a transfer that comes so.
+fn plan_arrival(session: Session, arrival: Arrival) -> Plan
+    requires { 0 < session.windows.incoming }
+    ensures { result ≡ arrived_plan session arrival }
+{
+    match arrival {
+        Arrival::Passed(expected) => {
+            let session = session_heard(session, expected);
+            plan_quiet(session, Fate::Stay, Change::Stay, Given::Nothing)
+        }
+        Arrival::Comes(arriving) => {
+            let Arriving {
+                key,
+                number,
+                marks,
+                piece,
+                change,
+                expected,
+                given,
+            } = arriving;
+            let session = session_heard(session, expected);
+            let fate = Fate::Heard {
+                key,
+                number,
+                marks,
+                piece,
+            };
+            plan_quiet(session, fate, change, given)
         }
     }
 }

@@ -1,9 +1,10 @@
 //! Start: a delivery begins, with its first transfer.
-ghost use Rattle.std.specs.Prelude.{◌≡◌, ◌<◌, ◌+◌, ◌^◌, Err, ℕ, IfOk, MatchResult, true, length, find};
+ghost use Rattle.std.specs.Prelude.{◌≡◌, ◌<◌, ◌+◌, ◌^◌, ◌∷◌, [], Err, Some, ℕ, IfOk, MatchResult, OnErr, true, length, find};
 ghost use Rattle.amqp_flow.specs.Credit.{delivery_begun};
 ghost use Rattle.amqp_flow.specs.Windows.{windows_sent};
-ghost use Rattle.amqp_endpoint.specs.Plan.{Plans};
-ghost use Rattle.amqp_endpoint.specs.Starting.{change_begun, second_on};
+ghost use Rattle.amqp_endpoint.specs.Doing.{Does};
+ghost use Rattle.amqp_endpoint.specs.Plan.{IsPlan, IsRefused, Plans};
+ghost use Rattle.amqp_endpoint.specs.Starting.{change_begun, item_begun, second_on, start_plan};
 ghost use Rattle.amqp_endpoint.specs.Taking.{IsTaken};
 ghost use Rattle.std.specs.List.{list_any};
 ghost use Rattle.amqp_events.specs.Tags.{is_tagged};
@@ -13,13 +14,14 @@ ghost use Rattle.amqp_rules.specs.Refusing.{first_refusal};
 ghost use Rattle.amqp_rules.specs.Start.{begin_delivery, mode_forbids, sending_after, start_body, start_refusals, start_answer, next_start};
 ghost use Rattle.amqp_rules.specs.View.{has_number, is_too_long, next_delivery, same_role};
 
+use crate::done::Done;
 use crate::endpoint::Endpoint;
 use crate::endpoint::onlink::OnLink;
 use crate::endpoint::telling::flag;
 use crate::plan::{Plan, Session};
 use crate::refusal::Refusal;
-use crate::reply::Given;
-use crate::sending::write_sharing;
+use crate::reply::{Given, Reply};
+use crate::sending::{Written, write_sharing};
 use amqp_deliveries::{Change, HeldItem, Tables};
 use amqp_flow::sender::SenderCredit;
 use amqp_frames::{Performative, Role, TransferBody};
@@ -27,8 +29,9 @@ use amqp_links::credit::{Credit, same_role};
 use amqp_links::fate::Fate;
 use amqp_links::link::Link;
 use amqp_links::marks::{Marks, Sending};
-use amqp_types::Tag;
+use amqp_types::{Items, Tag};
 use bytes::Bytes;
+use std::alloc::Global;
 
 /// The transfer on the link with this handle.
 fn start_body(
@@ -215,8 +218,57 @@ pub(crate) fn size_of(payload: &Bytes) -> u128
     payload.len() as u128
 }
 
+/// A delivery that begins: the link as it will be, whether its receiver settles second, and the frame that is sent.
+#[derive(Drop)]
+pub(crate) struct Starting {
+    pub(crate) on: OnLink,
+    pub(crate) second: bool,
+    pub(crate) sent: Written,
+}
+
+/// The delivery as it is held.
+fn item_begun(id: u32, link: u32, tag: &Tag, second: bool) -> HeldItem
+    ensures { result ≡ item_begun id link tag.now second }
+{
+    HeldItem {
+        id,
+        link,
+        tag: *tag,
+        second,
+        local: None,
+        remote: None,
+    }
+}
+
 impl Endpoint {
-    /// A delivery and its first transfer. O(log n) for n links.
+    /// The first refusal that is due, or the delivery that begins. O(log n) for n links.
+    fn make_start(
+        &self,
+        link: u32,
+        tag: &Tag,
+        format: u32,
+        settled: bool,
+        payload: &Bytes,
+        more: bool,
+    ) -> Result<Starting, Refusal>
+        requires { self.now.steps < 2 ^ 30 }
+        ensures window { IfOk result (λ s. 0 < self.now.windows.remote_incoming) }
+        ensures plan { MatchResult result (λ s. IsPlan self.now (start_answer self.now link tag.now format settled payload.now more) (next_start self.now link tag.now format settled payload.now more) (start_plan self.now link tag.now settled s)) (λ e. IsRefused Refusal.NoMemory (start_answer self.now link tag.now format settled payload.now more) e) }
+    {
+        let (on, second) = match self.check_start(link, tag, settled, payload, more) {
+            Ok(both) => both,
+            Err(refusal) => return Err(refusal),
+        };
+        let _size = size_of(payload);
+        let id = self.session.next_delivery();
+        let body = start_body(on.handle, id, *tag, format, settled, more);
+        match write_sharing(self.alloc, body, payload, self.session.max_frame) {
+            Ok(sent) => Ok(Starting { on, second, sent }),
+            Err(refusal) => Err(refusal),
+        }
+    }
+
+    /// A delivery and its first transfer.
     pub(crate) fn plan_start(
         &self,
         link: u32,
@@ -229,25 +281,13 @@ impl Endpoint {
         requires { self.now.steps < 2 ^ 30 }
         ensures { Plans Refusal.NoMemory self.now (start_answer self.now link tag format settled payload.now more) (next_start self.now link tag format settled payload.now more) result }
     {
-        let (on, second) = match self.check_start(link, &tag, settled, payload, more) {
-            Ok(both) => both,
+        let s = match self.make_start(link, &tag, format, settled, payload, more) {
+            Ok(s) => s,
             Err(refusal) => return Err(refusal),
         };
-        let _size = size_of(payload);
+        let Starting { on, second, sent } = s;
         let id = self.session.next_delivery();
-        let body = start_body(on.handle, id, tag, format, settled, more);
-        let sent = match write_sharing(self.alloc, body, payload, self.session.max_frame) {
-            Ok(sent) => sent,
-            Err(refusal) => return Err(refusal),
-        };
-        let item = HeldItem {
-            id,
-            link,
-            tag,
-            second,
-            local: None,
-            remote: None,
-        };
+        let item = item_begun(id, link, &tag, second);
         Ok(Plan {
             session: started(self.session),
             fate: Fate::Marked {
@@ -259,5 +299,56 @@ impl Endpoint {
             sent: Some(sent),
             given: Given::Delivery(id),
         })
+    }
+
+    /// The same at once.
+    pub(crate) fn start(
+        &mut self,
+        link: u32,
+        tag: &Tag,
+        format: u32,
+        settled: bool,
+        payload: &Bytes,
+        more: bool,
+    ) -> Result<Done, Refusal>
+        requires { self.old.steps < 2 ^ 30 }
+        ensures done { Does Refusal.NoMemory (start_answer self.old link tag.now format settled payload.now more) (next_start self.old link tag.now format settled payload.now more) self.new result }
+        ensures err { OnErr result (self.new ≡ self.old) }
+    {
+        let s = match self.make_start(link, tag, format, settled, payload, more) {
+            Ok(s) => s,
+            Err(refusal) => return Err(refusal),
+        };
+        let id = self.session.next_delivery();
+        let item = item_begun(id, link, tag, s.second);
+        match self
+            .stores
+            .start(s.on.key, link, &s.on.marks, settled, item)
+        {
+            Ok(()) => {}
+            Err(_) => {
+                drop(s);
+                return Err(Refusal::NoMemory);
+            }
+        }
+        self.steps += 1;
+        self.session = started(self.session);
+        Ok(sending_done(self.alloc, s.sent, id))
+    }
+}
+
+/// What a delivery that begins gives.
+fn sending_done(alloc: Global, sent: Written, id: u32) -> Done
+    ensures { result ≡ record { reply = record { sent = sent ∷ []; ended = []; given = Given.Delivery id }; octets = Some sent.bytes; given = Given.Delivery id } }
+{
+    let (sent, octets) = sent.listed();
+    Done {
+        reply: Reply {
+            sent,
+            ended: Items::new(alloc),
+            given: Given::Delivery(id),
+        },
+        octets: Some(octets),
+        given: Given::Delivery(id),
     }
 }

@@ -1,8 +1,10 @@
 //! Take: the first delivery that waits on a link on which we receive is given.
-ghost use Rattle.std.specs.Prelude.{◌≡◌, IfOk};
+ghost use Rattle.std.specs.Prelude.{◌≡◌, ◌<◌, ◌^◌, IfOk, MatchResult, OnErr};
 ghost use Rattle.amqp_rules.specs.Take.{take_answer, taken_of, next_take};
-ghost use Rattle.amqp_endpoint.specs.Plan.{Plans};
+ghost use Rattle.amqp_endpoint.specs.Doing.{Does, take_plan};
+ghost use Rattle.amqp_endpoint.specs.Plan.{IsPlan, IsRefused, Plans};
 
+use crate::done::{Done, quiet_done};
 use crate::endpoint::Endpoint;
 use crate::plan::{Plan, plan_quiet};
 use crate::refusal::Refusal;
@@ -32,9 +34,9 @@ fn taken_of(link: u32, waiting: &Waiting) -> Result<Taken, AllocError>
 }
 
 impl Endpoint {
-    /// Takes what waits first. O(log n) for n links, besides the join of a payload that came in several transfers.
-    pub(crate) fn plan_take(&self, link: u32) -> Result<Plan, Refusal>
-        ensures { Plans Refusal.NoMemory self.now (take_answer self.now link) (next_take self.now link) result }
+    /// What waits first, with the key of its link. O(log n) for n links, besides the join of a payload that came in several transfers.
+    fn first_taken(&self, link: u32) -> Result<(usize, Boxed<Taken>), Refusal>
+        ensures { MatchResult result (λ both. IsPlan self.now (take_answer self.now link) (next_take self.now link) (take_plan self.now both.0 link both.1)) (λ e. IsRefused Refusal.NoMemory (take_answer self.now link) e) }
     {
         let Some(found) = self.stores.links.by_number(link) else {
             return Err(Refusal::NoLink);
@@ -49,13 +51,43 @@ impl Endpoint {
         let Ok(taken) = taken_of(l.number(), waiting) else {
             return Err(Refusal::NoMemory);
         };
-        let Ok(taken) = Boxed::new(self.alloc, taken) else {
+        match Boxed::new(self.alloc, taken) {
+            Ok(taken) => Ok((found.key, taken)),
+            Err(_) => Err(Refusal::NoMemory),
+        }
+    }
+
+    /// Takes what waits first.
+    pub(crate) fn plan_take(&self, link: u32) -> Result<Plan, Refusal>
+        ensures { Plans Refusal.NoMemory self.now (take_answer self.now link) (next_take self.now link) result }
+    {
+        match self.first_taken(link) {
+            Ok((key, taken)) => Ok(plan_quiet(
+                self.session,
+                Fate::Taken { key, number: link },
+                Change::Stay,
+                Given::Taken(taken),
+            )),
+            Err(refusal) => Err(refusal),
+        }
+    }
+
+    /// The same at once.
+    pub(crate) fn take(&mut self, link: u32) -> Result<Done, Refusal>
+        requires { self.old.steps < 2 ^ 30 }
+        ensures done { Does Refusal.NoMemory (take_answer self.old link) (next_take self.old link) self.new result }
+        ensures err { OnErr result (self.new ≡ self.old) }
+    {
+        let (key, taken) = match self.first_taken(link) {
+            Ok(both) => both,
+            Err(refusal) => return Err(refusal),
+        };
+        let Ok(once_more) = taken.clone() else {
+            drop(taken);
             return Err(Refusal::NoMemory);
         };
-        let fate = Fate::Taken {
-            key: found.key,
-            number: link,
-        };
-        Ok(plan_quiet(self.session, fate, Change::Stay, Given::Taken(taken)))
+        self.stores.take(key, link);
+        self.steps += 1;
+        Ok(quiet_done(self.alloc, Given::Taken(taken), Given::Taken(once_more)))
     }
 }

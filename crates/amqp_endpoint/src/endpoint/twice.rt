@@ -8,13 +8,13 @@ use crate::endpoint::Endpoint;
 use crate::op::Op;
 use crate::plan::Plan;
 use crate::refusal::Refusal;
-use crate::reply::{Reply, Sent};
-use crate::sending::list_sent;
+use crate::reply::Reply;
+use crate::sending::{Written, list_sent};
 use crate::violation::{Violation, ViolationKind};
 use amqp_frames::Frame;
 use std::alloc::AllocError;
 
-fn copy_sent(sent: &Option<Sent>) -> Result<Option<Sent>, AllocError>
+fn copy_sent(sent: &Option<Written>) -> Result<Option<Written>, AllocError>
     ensures { IfOk result (λ copy. copy ≡ sent.now) }
 {
     match sent {
@@ -31,7 +31,7 @@ impl Endpoint {
         let ended = self.stores.tables.ended(&plan.change)?;
         let given = plan.given.clone()?;
         let sent = copy_sent(&plan.sent)?;
-        let (sent, _) = list_sent(self.alloc, sent)?;
+        let (sent, _) = list_sent(self.alloc, sent);
         Ok(Reply { sent, ended, given })
     }
 

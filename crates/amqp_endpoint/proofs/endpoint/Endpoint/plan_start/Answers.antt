@@ -1,22 +1,6 @@
-use Rattle.std.proofs.Common.{Ok, Err, inl, refl}
-use Rattle.amqp_endpoint.proofs.Starts.{start-plan}
 use Rattle.amqp_endpoint.proofs.endpoint.Endpoint.plan_start.Goals as goal
-
-pub returns-in-Err : goal.returns-in-Err
-returns-in-Err c = inl (c.in-Err.ensures.taken c.args.format)
-
-pub returns-in-Err-write_sharing : goal.returns-in-Err-write_sharing
-returns-in-Err-write_sharing c =
-    rw (← c.self.view_is)
-    (start-plan c.self.inside.steps c.self.inside.session c.self.inside.stores c.args.link c.in-Ok.both.0.key c.args.format c.args.tag c.args.payload.now c.args.settled c.args.more c.in-Ok.both.1
-    c.in-Ok.both.0 (Err c.in-Err-write_sharing.refusal) c.self.invariant (rw c.size_of-size.ensures.size at c.size_of-size.ensures.fits) (rw (← c.self.view_is) at c.in-Ok.ensures.second) (rw (← c.self.view_is) at c.in-Ok.ensures.taken)
-    (rw (c.start_body-body.ensures, c.next_delivery-id.ensures) at c.in-Err-write_sharing.ensures))
 
 pub returns : goal.returns
 returns c =
-    rw (← c.self.view_is)
-    (start-plan c.self.inside.steps c.self.inside.session c.self.inside.stores c.args.link c.in-Ok.both.0.key c.args.format c.args.tag c.args.payload.now c.args.settled c.args.more c.in-Ok.both.1
-    c.in-Ok.both.0 (Ok _) c.self.invariant (rw c.size_of-size.ensures.size at c.size_of-size.ensures.fits) (rw (← c.self.view_is) at c.in-Ok.ensures.second) (rw (← c.self.view_is) at c.in-Ok.ensures.taken) (
-      rw (c.start_body-body.ensures, c.next_delivery-id.ensures) at c.in-Ok-write_sharing.ensures.0,
-      rw (c.started.ensures, c.change_begun.ensures, c.in-Ok-write_sharing.ensures.1, c.start_body-body.ensures, c.next_delivery-id.ensures) refl,
-    ))
+    rw (← c.self.view_is, c.started.ensures, c.change_begun.ensures, c.item_begun-item.ensures, c.next_delivery-id.ensures)
+    (rw (← c.self.view_is) at c.in-Ok.ensures.plan)

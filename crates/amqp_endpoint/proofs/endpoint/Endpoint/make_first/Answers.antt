@@ -1,6 +1,6 @@
 use Rattle.amqp_endpoint.specs.Plan.{view_of}
 use Rattle.amqp_endpoint.proofs.Transfers.{first-free, first-plan, free-at}
-use Rattle.amqp_endpoint.proofs.endpoint.Endpoint.plan_first.Goals as goal
+use Rattle.amqp_endpoint.proofs.endpoint.Endpoint.make_first.Goals as goal
 
 pub returns : goal.returns
 returns c =
@@ -9,8 +9,6 @@ returns c =
     let f = first-free v c.args.b.now c.args.payload.now c.args.l.now free c.requires.left c.requires.none in
     rw (
       ← c.self.view_is,
-      c.plan_quiet.ensures,
-      c.session_heard-session.ensures,
       c.one_past.ensures,
       c.given_heard.ensures,
       c.change_heard-change.ensures,

@@ -1,6 +1,6 @@
 use Rattle.amqp_endpoint.specs.Plan.{view_of}
 use Rattle.amqp_endpoint.proofs.Transfers.{later-plan, free-at}
-use Rattle.amqp_endpoint.proofs.endpoint.Endpoint.plan_later.Goals as goal
+use Rattle.amqp_endpoint.proofs.endpoint.Endpoint.make_later.Goals as goal
 
 pub returns : goal.returns
 returns c =
@@ -8,8 +8,6 @@ returns c =
     let free = free-at v c.args.self.now c.args.b.now c.args.payload.now c.args.l.now c.self.view_is c.requires.free in
     rw (
       ← c.self.view_is,
-      c.plan_quiet.ensures,
-      c.session_heard-session.ensures,
       c.given_heard.ensures,
       c.piece_of.ensures,
       c.number-number.ensures,

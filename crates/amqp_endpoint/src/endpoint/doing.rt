@@ -1,0 +1,130 @@
+//! A step done at once: the kinds that are most frequent by a way of their own, without a plan, and the others by their plan.
+ghost use Rattle.std.specs.Prelude.{◌≡◌, ◌<◌, ◌^◌, Some, IfOk, OnErr};
+ghost use Rattle.amqp_rules.specs.Answer.{own_answer, next_own, heard_answer, next_heard};
+ghost use Rattle.amqp_performatives.specs.declared.performative.Performative.TheVariants.{Transfer};
+ghost use Rattle.amqp_rules.specs.Refusing.{no_memory};
+ghost use Rattle.amqp_endpoint.specs.Doing.{Does};
+ghost use Rattle.amqp_endpoint.specs.Plan.{IsRefused, IsSound, octets_sent, plan_reply, planned};
+
+use crate::done::Done;
+use crate::endpoint::Endpoint;
+use crate::op::Op;
+use crate::plan::Plan;
+use crate::refusal::Refusal;
+use crate::violation::{Violation, ViolationKind};
+use amqp_frames::{Frame, Performative, TransferBody};
+use std::alloc::AllocError;
+
+impl Endpoint {
+    /// Does what was planned.
+    #[inline(never)]
+    fn follow(&mut self, plan: Plan) -> Result<Done, AllocError>
+        requires steps { self.old.steps < 2 ^ 30 }
+        requires sound { IsSound self.old plan }
+        ensures reply { IfOk result (λ d. d.reply ≡ plan_reply plan self.old) }
+        ensures octets { IfOk result (λ d. d.octets ≡ octets_sent plan.sent) }
+        ensures given { IfOk result (λ d. d.given ≡ plan.given) }
+        ensures next { IfOk result (λ d. self.new ≡ planned self.old plan) }
+        ensures err { OnErr result (self.new ≡ self.old) }
+    {
+        let given = match plan.given() {
+            Ok(given) => given,
+            Err(e) => {
+                drop(plan);
+                return Err(e);
+            }
+        };
+        match self.commit(plan) {
+            Ok((reply, octets)) => Ok(Done {
+                reply,
+                octets,
+                given,
+            }),
+            Err(e) => {
+                drop(given);
+                Err(e)
+            }
+        }
+    }
+
+    /// Does an operation by its plan.
+    #[inline(never)]
+    fn own_planned(&mut self, op: &Op) -> Result<Done, Refusal>
+        requires { self.old.steps < 2 ^ 30 }
+        ensures done { Does Refusal.NoMemory (own_answer self.old op.now) (next_own self.old op.now) self.new result }
+        ensures err { OnErr result (self.new ≡ self.old) }
+    {
+        let plan = match self.plan_own(op) {
+            Ok(plan) => plan,
+            Err(refusal) => return Err(refusal),
+        };
+        match self.follow(plan) {
+            Ok(done) => Ok(done),
+            Err(_) => Err(Refusal::NoMemory),
+        }
+    }
+
+    /// Takes a frame that is heard by its plan.
+    #[inline(never)]
+    fn heard_planned(&mut self, frame: &Frame) -> Result<Done, Violation>
+        requires { self.old.steps < 2 ^ 30 }
+        ensures done { Does no_memory (heard_answer self.old frame.now) (next_heard self.old frame.now) self.new result }
+        ensures err { OnErr result (self.new ≡ self.old) }
+    {
+        let plan = match self.plan_heard(frame) {
+            Ok(plan) => plan,
+            Err(violation) => return Err(violation),
+        };
+        match self.follow(plan) {
+            Ok(done) => Ok(done),
+            Err(_) => Err(Violation::unlinked(ViolationKind::NoMemory)),
+        }
+    }
+
+    /// Does an operation: what it gives, or the first refusal that is due. A refused operation has changed nothing; memory is asked for last.
+    pub fn own(&mut self, op: &Op) -> Result<Done, Refusal>
+        requires { self.old.steps < 2 ^ 30 }
+        ensures done { Does Refusal.NoMemory (own_answer self.old op.now) (next_own self.old op.now) self.new result }
+        ensures err { OnErr result (self.new ≡ self.old) }
+    {
+        match op {
+            Op::Start {
+                link,
+                tag,
+                format,
+                settled,
+                payload,
+                more,
+            } => self.start(*link, tag, *format, *settled, payload, *more),
+            Op::Learn { link } => self.learn(*link),
+            Op::Take { link } => self.take(*link),
+            _ => self.own_planned(op),
+        }
+    }
+
+    /// Takes a frame that is heard: what it gives, or what it violates. A frame that is not taken has changed nothing; memory is asked for
+    /// last.
+    pub fn heard(&mut self, frame: &Frame) -> Result<Done, Violation>
+        requires { self.old.steps < 2 ^ 30 }
+        ensures done { Does no_memory (heard_answer self.old frame.now) (next_heard self.old frame.now) self.new result }
+        ensures err { OnErr result (self.new ≡ self.old) }
+    {
+        match &frame.body {
+            Some(Performative::Transfer(body)) => self.heard_transfer(frame, body),
+            _ => self.heard_planned(frame),
+        }
+    }
+
+    /// Takes a transfer that is heard: once our end was sent it is dropped.
+    fn heard_transfer(&mut self, frame: &Frame, body: &TransferBody) -> Result<Done, Violation>
+        requires steps { self.old.steps < 2 ^ 30 }
+        requires body { frame.now.body ≡ Some (Transfer body.now) }
+        ensures done { Does no_memory (heard_answer self.old frame.now) (next_heard self.old frame.now) self.new result }
+        ensures err { OnErr result (self.new ≡ self.old) }
+    {
+        if self.session.is_ending() {
+            return self.heard_planned(frame);
+        }
+        self.transfer(body, &frame.payload)
+    }
+}
