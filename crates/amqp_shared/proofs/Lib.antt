@@ -1,0 +1,6 @@
+pub mod Numbering
+pub mod Growth
+pub mod Rings
+pub mod Found
+pub mod Due
+pub mod Crossing

@@ -1,0 +1,25 @@
+use Rattle.std.proofs.Common.{◌≡◌, ◌<◌, length, vec_len, slice_index_or, sym, subst, arith, rules}
+use Rattle.amqp_shared.specs.Passes.{Raised}
+use denote.Param.{param}
+use Rattle.amqp_shared.proofs.Crossing.{shared_sync}
+use Rattle.amqp_shared.proofs.Found.{if_ok-map}
+use Rattle.amqp_shared.proofs.consumers.run_jobs.Goals as goal
+
+pub returns-clause-each : goal.returns-clause-each
+returns-clause-each g c =
+    let size : length c.args.jobs.items ≡ vec_len c.args.jobs = search rules in
+    if_ok-map _ _ c.map_vec.result (λ v h i j d low.
+    let x = (h i d (omega (arith, size, low))).1 in
+    subst (λ job. Raised job.pass (slice_index_or v.items i d).pass (slice_index_or v.items i d).count) (sym (x.job_is j)) x.call.met) c.map_vec.ensures.each
+
+-- a `&` to the runtime, which is `Sync` by its bound, and one to what threads share
+pub map_vec-requires-sync-F : goal.map_vec-requires-sync-F
+map_vec-requires-sync-F g c κs within = record {
+  shared = λ x b o κ. (
+    (
+      ((λ q. tt), c.type_bounds.sync-R.shared x.0.now x.0.ref_ptr.0 x.0.ref_ptr.1 κs.1.1.1.1.1.1.1.0),
+      (((λ q. tt), (shared_sync (param 0 g.row.N) g.N.Name g.N.Ledger).shared x.1.now x.1.ref_ptr.0 x.1.ref_ptr.1 κs.1.1.1.1.1.1.1.1.0), tt),
+    ),
+    λ q. tt,
+  );
+}

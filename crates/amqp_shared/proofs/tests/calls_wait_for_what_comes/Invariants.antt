@@ -1,0 +1,7 @@
+use Rattle.amqp_shared.proofs.tests.calls_wait_for_what_comes.Given as goal
+
+abbrev pub ghosts-waits-N-Ledger : goal.ghosts-waits-N-Ledger
+ghosts-waits-N-Ledger g a = record { name = a.seed.name; parts = a.seed.parts }
+
+abbrev pub ghosts-waits-N-Name : goal.ghosts-waits-N-Name
+ghosts-waits-N-Name g a = record { ring = a.seed.ring }

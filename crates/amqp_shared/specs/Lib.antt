@@ -1,0 +1,5 @@
+pub mod Ring
+pub mod Units
+pub mod Session
+pub mod Passes
+pub mod Growing

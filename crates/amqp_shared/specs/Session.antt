@@ -1,0 +1,76 @@
+-- What the calls on a lent session do.
+use Rattle.std.specs.Prelude.{ℕ, ◌≡◌, ◌≢◌, ◌≤◌, ◌<◌, ◌+◌, Some, Result, Ok, Err, List, length, take, slice_get}
+use Rattle.amqp_rules.specs.declared.op.Op.{Op}
+use Rattle.amqp_rules.specs.declared.op.Op.TheVariants as op
+use Rattle.amqp_rules.specs.declared.reply.Given.{Given}
+use Rattle.amqp_rules.specs.declared.reply.Reply.{Reply}
+use Rattle.amqp_rules.specs.declared.reply.Given.TheVariants as given
+use Rattle.amqp_rules.specs.declared.refusal.Refusal.{Refusal}
+use Rattle.amqp_rules.specs.declared.refusal.Refusal.TheVariants as refusal
+use Rattle.amqp_laws.specs.declared.entry.Entry.{Entry}
+use Rattle.amqp_journal.specs.declared.unit.Unit as frame
+use Rattle.amqp_journal.specs.declared.receipt.Receipt.{Receipt}
+use Rattle.amqp_journal.specs.Log.{Log, IsRefusal}
+use Rattle.amqp_journal.specs.Units.{units, Stands}
+use Rattle.amqp_conn.specs.Connection.{Core, Connection}
+use Rattle.amqp_conn.specs.Calling.{Does, due_in}
+use Rattle.amqp_shared.specs.Ring.{Ring}
+use Rattle.amqp_shared.specs.Units.{moved_of, unmoved}
+use Rattle.std.specs.Prelude.{Option}
+
+-- What holds of a locked session at all times: the passes made the journal's steps; what was pushed is what left the connection; and units wait in
+-- it only where the ring had no free slot when it was last looked at.
+pub record IsHeld (c : Connection) (total : ℕ) (pushed : List frame.Unit) (free : ℕ) (ring own : Option Ring) (parts : ℕ) : Type 0 where
+  pub counted : total ≡ length c.core.log.journal
+  pub pushed_is : pushed ≡ moved_of c
+  pub no_more_moved : c.core.log.popped ≤ length (units c.core.log)
+  pub full : c.core.log.popped < length (units c.core.log) → free ≡ 0
+  pub ring_is : ring ≡ own
+  pub all_parts : parts ≡ 65536
+
+-- the operation was done, and units may have been moved to the ring
+pub record Makes (old : Connection) (o : Op) (gives : Given) (new : Connection) : Type 0 where
+  pub does : Does old.core o (Ok gives) (unmoved old new).core
+  pub unread : new.unread ≡ old.unread
+  pub more : old.core.log.popped ≤ new.core.log.popped
+
+-- the receipt stands for the operation at the journal's last entry, which gave what is told
+pub record IsReceipt (l : Log) (o : Op) (gives : Given) (r : Receipt) : Type 0 where
+  pub stands : Stands l o r.place r.link r.id
+  pub last : r.place + 1 ≡ length l.journal
+  pub gave : (e : Entry) × (slice_get l.journal r.place ≡ Some e) × (e.reply.given ≡ gives)
+
+-- this refusal is due to the operation, or memory was refused where a reply is due
+abbrev pub IsRefused : Connection → Op → Refusal → Type 0
+IsRefused c o e = IsRefusal refusal.NoMemory (due_in c.core.phase c.core.log o) e
+
+-- the operation was done on some session, which is so now
+abbrev pub IsDone : Op → Given → Connection → Type 0
+IsDone o gives new = (old : Connection) × Makes old o gives new
+
+-- taking gives a delivery
+abbrev pub Fits : Op → Given → Type 0
+Fits (op.Take link) (given.Taken t) = Unit {0}
+Fits (op.Take link) given.Nothing = ⊥
+Fits (op.Take link) (given.Link k) = ⊥
+Fits (op.Take link) (given.Offered k) = ⊥
+Fits (op.Take link) (given.Attached k) = ⊥
+Fits (op.Take link) (given.Gone k) = ⊥
+Fits (op.Take link) (given.Delivery id) = ⊥
+Fits (op.Take link) (given.Ready k id) = ⊥
+Fits (op.Take link) (given.Learned t) = ⊥
+Fits o gives = Unit {0}
+
+-- what is told where a call does not wait on
+abbrev pub EndsWait : Refusal → Type 0
+EndsWait e = (e ≢ refusal.NoCredit) × (e ≢ refusal.NoWindow) × (e ≢ refusal.Nothing)
+
+-- nothing that a call waits on is due
+abbrev pub IsDueAtOnce : Result Reply Refusal → Type 0
+IsDueAtOnce (Ok reply) = Unit {0}
+IsDueAtOnce (Err e) = EndsWait e
+
+-- what a call answers, and leaves
+abbrev pub Calls : Connection → Op → Result (Receipt × Given) Refusal → Connection → Type 0
+Calls old o (Ok r) new = Makes old o r.1 new
+Calls old o (Err e) new = IsRefused old o e × (new ≡ old)

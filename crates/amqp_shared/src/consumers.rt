@@ -1,0 +1,242 @@
+//! Threads that take deliveries and settle them.
+ghost use Rattle.std.specs.Prelude.{◌≡◌, ℕ, ◌<◌, ◌^◌, map, slice_index_or, vec_len, IfOk, OnOk, OnErr};
+ghost use Rattle.amqp_shared.specs.Passes.{Tally, Raised, StepsUpTo, raised};
+
+use crate::locked::Locked;
+use crate::name::Name;
+use crate::pass::Pass;
+use crate::shared::Shared;
+use amqp_frames::{DeliveryState, Role};
+use amqp_rules::op::Op;
+use amqp_rules::refusal::Refusal;
+use amqp_rules::reply::{Given, Taken};
+use std::alloc::AllocError;
+use std::sync::{MutexGuard, Wait};
+use std::thread;
+use std::thread::Threads;
+
+/// What a consumer does with a delivery.
+pub trait Work {
+    /// Consumes a delivery, and says its state (part 3, 3.4). It is called without the lock.
+    fn consume(&mut self, item: &Taken) -> DeliveryState;
+}
+
+/// What a consumer hands back.
+#[derive(Drop)]
+pub struct Consumed<N: Name, W> {
+    pub pass: Pass<N>,
+    pub work: W,
+    /// How many deliveries it has consumed.
+    pub count: u64,
+    /// What ended it.
+    pub stopped: Refusal,
+}
+
+/// What a consumer's thread starts with.
+#[derive(Drop)]
+struct Job<N: Name, W> {
+    pass: Pass<N>,
+    work: W,
+    link: u32,
+    credit: u32,
+}
+
+/// The next delivery of the link; it waits for one.
+fn take_next<N: Name, R: Wait>(
+    rt: &R,
+    shared: &Shared<N>,
+    pass: &mut Pass<N>,
+    link: u32,
+) -> Result<Taken, Refusal>
+    ensures ok { OnOk result (pass.new ≡ raised pass.old) }
+    ensures err { OnErr result (pass.new ≡ pass.old) }
+    ensures range { pass.new.made < 2 ^ 64 }
+{
+    let (guard, answer) = shared.call_wait(rt, shared.lock(rt), pass, &Op::Take { link });
+    drop(guard);
+    let _ = pass.made();
+    match answer {
+        Ok((_, Given::Taken(item))) => Ok(item.into_inner()),
+        Ok(_) => unreachable!(),
+        Err(refusal) => Err(refusal),
+    }
+}
+
+/// An operation whose answer is not looked at.
+fn apply<N: Name>(
+    shared: &Shared<N>,
+    guard: &mut MutexGuard<'_, Locked<N>>,
+    pass: &mut Pass<N>,
+    op: Op,
+) -> Result<(), Refusal>
+    ensures ok { OnOk result (pass.new ≡ raised pass.old) }
+    ensures err { OnErr result (pass.new ≡ pass.old) }
+{
+    let answer = shared.call(guard, pass, &op);
+    drop(op);
+    match answer {
+        Ok((_, given)) => {
+            drop(given);
+            Ok(())
+        }
+        Err(refusal) => Err(refusal),
+    }
+}
+
+/// Tells the delivery's state, and settles it unless the sender is to settle first (part 2, 2.7.3); one that came settled is not told of. One
+/// that is no longer held was settled by the peer meanwhile.
+fn dispose<N: Name>(
+    shared: &Shared<N>,
+    guard: &mut MutexGuard<'_, Locked<N>>,
+    pass: &mut Pass<N>,
+    item: &Taken,
+    state: DeliveryState,
+) -> Result<(), Refusal>
+    ensures { StepsUpTo 1 pass.old pass.new }
+{
+    if item.settled {
+        drop(state);
+        return Ok(());
+    }
+    let op = Op::Dispose {
+        role: Role::Receiver,
+        first: item.id,
+        last: item.id,
+        settled: !item.second,
+        state: Some(state),
+    };
+    match apply(shared, guard, pass, op) {
+        Ok(()) | Err(Refusal::NothingHeld) => Ok(()),
+        Err(refusal) => Err(refusal),
+    }
+}
+
+/// Disposes the delivery, unless it came settled, and grants the credit again.
+fn settle<N: Name, R: Wait>(
+    rt: &R,
+    shared: &Shared<N>,
+    pass: &mut Pass<N>,
+    item: &Taken,
+    state: DeliveryState,
+    credit: u32,
+) -> Result<(), Refusal>
+    ensures { StepsUpTo 2 pass.old pass.new }
+{
+    let mut guard = shared.lock(rt);
+    match dispose(shared, &mut guard, pass, item, state) {
+        Ok(()) => {
+            let grant = Op::Grant {
+                link: item.link,
+                credit,
+                drain: false,
+                echo: false,
+            };
+            apply(shared, &mut guard, pass, grant)
+        }
+        Err(refusal) => Err(refusal),
+    }
+}
+
+/// Takes, consumes, disposes and grants, until an operation is refused.
+fn consume_all<N: Name, W: Work, R: Wait>(
+    rt: &R,
+    shared: &Shared<N>,
+    job: Job<N, W>,
+) -> Consumed<N, W>
+    ensures { Raised job.pass result.pass result.count }
+{
+    let Job {
+        pass,
+        work,
+        link,
+        credit,
+    } = job;
+    let (mut pass, mut work) = (pass, work);
+    let mut count = 0u64;
+    for _ in rt.forever() {
+        let item = match take_next(rt, shared, &mut pass, link) {
+            Ok(item) => item,
+            Err(stopped) => {
+                return Consumed {
+                    pass,
+                    work,
+                    count,
+                    stopped,
+                };
+            }
+        };
+        count += 1;
+        let state = work.consume(&item);
+        let done = settle(rt, shared, &mut pass, &item, state, credit);
+        drop(item);
+        if let Err(stopped) = done {
+            return Consumed {
+                pass,
+                work,
+                count,
+                stopped,
+            };
+        }
+    }
+    unreachable!()
+}
+
+/// One thread for each work: it takes deliveries of the link as they come, consumes each, disposes it unless it came settled, and grants the
+/// credit again, until an operation is refused. Each hands back its pass, raised by one to three for each delivery that it consumed. None of either
+/// is allowed, and gives an empty list. After `NoMemory` the passes and works are gone, and what the consumers did stands.
+pub fn run_consumers<N: Name + Send + Sync, W: Work + Send + Drop, R: Threads + Wait + Sync>(
+    rt: &R,
+    shared: &Shared<N>,
+    passes: Vec<Pass<N>>,
+    works: Vec<W>,
+    link: u32,
+    credit: u32,
+) -> Result<Vec<Consumed<N, W>>, AllocError>
+    requires { vec_len passes ≡ vec_len works }
+    ensures len { IfOk result (λ v. vec_len v ≡ vec_len passes) }
+    ensures each { IfOk result (λ v. (i : ℕ) (p : Tally) (d : _) → i < vec_len passes → Raised (slice_index_or passes.items i p) (slice_index_or v.items i d).pass (slice_index_or v.items i d).count) }
+{
+    match jobs_of(passes, works, link, credit) {
+        Ok(jobs) => run_jobs(rt, shared, jobs),
+        Err(error) => Err(error),
+    }
+}
+
+/// A job for each pass, with its work.
+fn jobs_of<N: Name, W: Drop>(
+    passes: Vec<Pass<N>>,
+    works: Vec<W>,
+    link: u32,
+    credit: u32,
+) -> Result<Vec<Job<N, W>>, AllocError>
+    requires { vec_len passes ≡ vec_len works }
+    ensures passes { IfOk result (λ jobs. map (λ job. job.pass) jobs.items ≡ passes.items) }
+{
+    let mut jobs = Vec::with_capacity(*passes.allocator(), passes.len())?;
+    for (pass, work) in passes.into_iter().zip(works) {
+        jobs.push(Job {
+            pass,
+            work,
+            link,
+            credit,
+        })?;
+    }
+    Ok(jobs)
+}
+
+fn run_jobs<N: Name + Send + Sync, W: Work + Send + Drop, R: Threads + Wait + Sync>(
+    rt: &R,
+    shared: &Shared<N>,
+    jobs: Vec<Job<N, W>>,
+) -> Result<Vec<Consumed<N, W>>, AllocError>
+    ensures len { IfOk result (λ v. vec_len v ≡ vec_len jobs) }
+    ensures each { IfOk result (λ v. (i : ℕ) (j : _) (d : _) → i < vec_len jobs → Raised (slice_index_or jobs.items i j).pass (slice_index_or v.items i d).pass (slice_index_or v.items i d).count) }
+{
+    thread::map_vec(
+        rt,
+        jobs,
+        &|job: Job<N, W>| -> Consumed<N, W>
+            ensures { Raised job.pass result.pass result.count }
+        { consume_all(rt, shared, job) },
+    )
+}

@@ -1,0 +1,106 @@
+//! The calls of a connection, with what they add to its journal and its units; and the units that go on to the ring.
+ghost use Rattle.std.specs.Prelude.{◌≡◌, ◌≢◌, ◌<◌, ◌≤◌, ◌^◌, ◌+◌, [], length, drop, OnOk, Ok};
+ghost use Rattle.rtrb.specs.Ring.{sent, known_free};
+ghost use Rattle.amqp_journal.specs.Units.{units, PutWithin};
+ghost use Rattle.amqp_conn.specs.Feeding.{Feeds, MovesOn};
+ghost use Rattle.amqp_conn.specs.Calling.{Does, Closes};
+ghost use Rattle.amqp_shared.specs.Growing.{Grows};
+ghost use Rattle.amqp_shared.specs.Passes.{steps_fed};
+ghost use Rattle.amqp_shared.specs.Ring.{pushes_to};
+ghost use Rattle.amqp_shared.specs.Units.{MovesUnits, moved_of};
+
+use crate::name::Numbered;
+use amqp_conn::{CloseRefusal, Conn, ConnFault, Fed};
+use amqp_frames::AmqpError;
+use amqp_journal::unit::Unit;
+use amqp_rules::op::Op;
+use amqp_rules::refusal::Refusal;
+use amqp_rules::reply::Given;
+use amqp_types::Boxed;
+use bytes::Bytes;
+use rtrb::Producer;
+use std::alloc::Global;
+
+/// What always holds of a connection; it does nothing.
+pub(crate) fn recall(conn: &Conn)
+    ensures within { PutWithin (length conn.now.core.log.journal) conn.now.core.log.put }
+    ensures some { conn.now.core.log.popped ≤ length (units conn.now.core.log) }
+    ensures few { length (units conn.now.core.log) < 2 ^ 64 }
+    ensures short { length conn.now.core.log.journal < 2 ^ 63 }
+{
+    let _ = conn.logged().put_out();
+    let _ = conn.logged().journal().len();
+}
+
+pub(crate) fn do_operation(conn: &mut Conn, op: &Op) -> Result<Given, Refusal>
+    ensures does { Does conn.old.core op.now result conn.new.core }
+    ensures unread { conn.new.unread ≡ conn.old.unread }
+    ensures grows { OnOk result (Grows conn.old.core conn.new.core 1) }
+{
+    recall(conn);
+    conn.apply(op)
+}
+
+pub(crate) fn feed_octets(conn: &mut Conn, piece: &[u8]) -> Result<Fed, ConnFault>
+    ensures fed { Feeds conn.old piece.now result conn.new }
+    ensures progress { piece.now ≢ [] → MovesOn result }
+    ensures grows { Grows conn.old.core conn.new.core (steps_fed result) }
+{
+    recall(conn);
+    conn.feed(piece)
+}
+
+pub(crate) fn feed_shared_octets(
+    conn: &mut Conn,
+    shared: &Bytes,
+    from: usize,
+) -> Result<Fed, ConnFault>
+    requires { from ≤ length shared.now }
+    ensures fed { Feeds conn.old (drop from shared.now) result conn.new }
+    ensures progress { drop from shared.now ≢ [] → MovesOn result }
+    ensures grows { Grows conn.old.core conn.new.core (steps_fed result) }
+{
+    recall(conn);
+    conn.feed_shared(shared, from)
+}
+
+pub(crate) fn put_close(
+    conn: &mut Conn,
+    error: Option<Boxed<AmqpError>>,
+) -> Result<(), CloseRefusal>
+    ensures closes { Closes conn.old.core error result conn.new.core }
+    ensures unread { conn.new.unread ≡ conn.old.unread }
+    ensures grows { Grows conn.old.core conn.new.core 0 }
+{
+    recall(conn);
+    conn.close(error)
+}
+
+/// MovesUnits units from the connection to the ring, as many as fit.
+pub(crate) fn push_units(conn: &mut Conn, producer: &mut Producer<Unit, Global, Numbered>)
+    requires pushed { sent producer.old ≡ moved_of conn.old }
+    ensures pushed { sent producer.new ≡ moved_of conn.new }
+    ensures some { conn.new.core.log.popped ≤ length (units conn.new.core.log) }
+    ensures full { conn.new.core.log.popped < length (units conn.new.core.log) → known_free producer.new ≡ 0 }
+    ensures ring { pushes_to producer.new ≡ pushes_to producer.old }
+    ensures moves { MovesUnits conn.old conn.new }
+{
+    recall(conn);
+    while !producer.is_full() {
+        match conn.pop_unit() {
+            Some(unit) => producer.push_reserved(unit),
+            None => return,
+        }
+    }
+}
+
+/// How many entries the feed has appended.
+pub(crate) fn steps_of(answer: &Result<Fed, ConnFault>) -> u64
+    ensures steps { result ≡ steps_fed answer.now }
+    ensures most { result ≤ 1 }
+{
+    match answer {
+        Ok(fed) => u64::from(fed.stepped),
+        Err(_) => 0,
+    }
+}

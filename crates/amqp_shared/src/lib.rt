@@ -1,0 +1,72 @@
+//! One AMQP 1.0 connection shared by threads.
+#![tactic(auto)]
+//!
+//! | module | what it has |
+//! |---|---|
+//! | `shared` | `Shared`: the lock, and the calls on the session that it lends |
+//! | `locked` | what lies under the lock: the connection, the book of its passes, and the end of the ring that is pushed to |
+//! | `pass` | `Pass`: a share of the right to make steps, with the number of those made by it |
+//! | `writer` | `WriterEnd`: from which units are written to a socket, without the lock |
+//! | `consumers` | threads that take deliveries and settle them |
+//! | `seed`, `name` | a connection before it is shared, and what tells one shared connection's passes and ring from another's |
+//! | `close`, `closing`, `refused` | how all comes together again |
+//! | `growing`, `receipt` | what each call adds to a connection, and what stands for it |
+//! | `waiting` | what threads wait for, and what may bring it |
+//!
+//! # How threads share a connection
+//!
+//! ```text
+//!  callers, consumers ──► lock ──► Locked: Conn ──► units ──► backlog ──► ring ──► WriterEnd ──► socket
+//!  reader ──────────────► lock ──►                                                 (no lock, no memory)
+//! ```
+//!
+//! 1. `Seed::new` makes the connection, and `open_shared` shares it: a `Shared`, which threads use by reference, the first `Pass`, and the
+//!    `WriterEnd`.
+//! 2. **Callers** take the lock and do operations on the guard: `call`, or `call_wait`, which waits where credit, a window, a delivery or an outcome
+//!    is wanting. Each thread has a pass of its own (`Pass::split`).
+//! 3. **The reader** reads from the socket without the lock, takes it, and feeds the guard what came (`feed`). Where the octets end it
+//!    calls `lost`.
+//! 4. **The writer** takes units and writes them, without the lock: nothing that happens under it can hold up a write, and no write holds up
+//!    those who want the lock. Where `take` answers `None` it calls `wait_units` with what it has taken. It ends where the phase is `Closed`
+//!    and all units are taken.
+//! 5. `close`, with all passes and the writer's end, gives the connection back, and the units that nobody took.
+//!
+//! # What is proved
+//!
+//! What lies under the lock is a `Conn`, with all that its type keeps: its journal is lawful, and the endpoint is what the journal makes it. Each call
+//! on a lent guard does what the same call of `Conn` does, and units may go on to the ring. The passes' steps are the journal's, and a
+//! unit is pushed once, in order, and numbered: what the writer took, then what the ring holds, then the backlog, are the units.
+//!
+//! # What is not
+//!
+//! - **Who comes first.** Nothing is said of the order in which threads get the lock, nor that each gets it.
+//! - **That a thread is woken**, that a call which waits returns, or that all ends. Where a call that may wait returns, its clauses hold.
+//! - **What a socket carried.** That the octets of a unit were written whole, and that what was read is what the peer wrote, is the program's to see to.
+//! - **What a call that takes the lock by itself did to the session**, but what its clauses say of the guard that it gives back: `lock` lends
+//!   a session whose journal is as long as the passes' steps, and that it goes on from what was there before is shown by tests.
+
+mod close;
+mod closing;
+mod consumers;
+mod growing;
+mod locked;
+mod name;
+mod pass;
+mod receipt;
+mod refused;
+mod seed;
+mod shared;
+#[cfg(test)]
+mod tests;
+mod waiting;
+mod writer;
+
+pub use close::{CloseRefusal, Closed};
+pub use consumers::{Consumed, Work, run_consumers};
+pub use locked::Locked;
+pub use name::{Name, Numbered};
+pub use pass::Pass;
+pub use refused::CloseReason;
+pub use seed::Seed;
+pub use shared::{Shared, open_shared};
+pub use writer::WriterEnd;

@@ -1,0 +1,241 @@
+//! What lies under the lock.
+ghost use Rattle.std.specs.Prelude.{◌≡◌, ◌≢◌, ◌<◌, ◌≤◌, ◌^◌, ◌+◌, ◌-◌, ◌↔◌, [], length, drop, IfOk, IfErr, IfSome, IfNone, IsTrue, IsFalse, OnErr, OnOk, Ok};
+ghost use Rattle.amqp_journal.specs.Units.{units};
+ghost use Rattle.amqp_conn.specs.Connection.{connection, in_phase};
+ghost use Rattle.amqp_conn.specs.Feeding.{Feeds, MovesOn};
+ghost use Rattle.amqp_conn.specs.Calling.{Closes};
+ghost use Rattle.amqp_shared.specs.Passes.{raised, CountsStep};
+ghost use Rattle.amqp_shared.specs.Session.{Makes, IsReceipt, IsRefused, Fits};
+ghost use Rattle.amqp_shared.specs.Units.{MovesUnits, unmoved};
+
+use crate::growing::{
+    do_operation, feed_octets, feed_shared_octets, push_units, put_close, recall, steps_of,
+};
+use crate::name::{Name, Numbered};
+use crate::pass::Pass;
+use crate::receipt::receipt_of;
+use crate::waiting::{Callers, Want};
+use amqp_conn::{CloseRefusal, Conn, ConnFault, Fed, Phase};
+use amqp_frames::AmqpError;
+use amqp_journal::receipt::Receipt;
+use amqp_journal::unit::Unit;
+use amqp_rules::op::Op;
+use amqp_rules::refusal::Refusal;
+use amqp_rules::reply::Given;
+use amqp_types::Boxed;
+use bytes::Bytes;
+use rtrb::Producer;
+use std::alloc::Global;
+use std::marker::Model;
+use std::sync::ledger::Book;
+
+/// What lies under the lock. Contracts see it as its connection: the passes made the journal's steps, and the units that left the connection were
+/// pushed to the writer's ring, in their order.
+#[derive(Drop)]
+pub struct Locked<N: Name> {
+    pub(crate) conn: Conn,
+    pub(crate) book: Book<N>,
+    pub(crate) producer: Producer<Unit, Global, Numbered>,
+    /// How many entries the journal may have.
+    pub(crate) limit: u32,
+    /// The least number past which units are awaited; none where no thread awaits units.
+    pub(crate) awaited: Option<u64>,
+    pub(crate) callers: Callers,
+}
+
+impl<N: Name> Model for Locked<N> {
+    ghost use Rattle.rtrb.specs.Ring.{sent, known_free};
+    ghost use Rattle.amqp_conn.specs.Connection.{Connection};
+    ghost use Rattle.amqp_shared.specs.Ring.{pushes_to};
+    ghost use Rattle.amqp_shared.specs.Session.{IsHeld};
+    ghost use Rattle.amqp_types.specs.contracts.value.Value as value;
+    ghost use Rattle.std.specs.Coded.{codes};
+
+    ghost Value = { Connection };
+
+    ghost coded = { Prim.hlevel (codes, value.the_row.coded) };
+
+    ghost view = { λ l. l.conn };
+
+    ghost invariant = { λ l. IsHeld l.conn l.book.total (sent l.producer) (known_free l.producer) (pushes_to l.producer) N.ring N.parts };
+}
+
+impl<N: Name> Locked<N> {
+    /// The connection: its phase, its journal, its endpoint.
+    pub fn conn(&self) -> &Conn
+        ensures { result.now ≡ self.now }
+    {
+        &self.conn
+    }
+
+    /// MovesUnits units to the ring, as many as fit.
+    pub(crate) fn move_units(&mut self)
+        ensures { MovesUnits self.old self.new }
+    {
+        push_units(&mut self.conn, &mut self.producer);
+    }
+
+    /// The octets ended.
+    pub(crate) fn lost(&mut self)
+        ensures { self.new ≡ connection (in_phase Phase.Closed self.old.core) [] }
+    {
+        self.conn.lost();
+    }
+
+    /// An operation, counted in the pass.
+    pub(crate) fn apply(&mut self, pass: &mut Pass<N>, op: &Op) -> Result<(Receipt, Given), Refusal>
+        ensures step { IfOk result (λ r. Makes self.old op.now r.1 self.new) }
+        ensures fits { IfOk result (λ r. Fits op.now r.1) }
+        ensures receipt { IfOk result (λ r. IsReceipt self.new.core.log op.now r.1 r.0) }
+        ensures place { IfOk result (λ r. pass.old.made ≤ r.0.place) }
+        ensures pass { OnOk result (pass.new ≡ raised pass.old) }
+        ensures refusal { IfErr result (λ e. IsRefused self.old op.now e) }
+        ensures err { OnErr result ((self.new ≡ self.old) × (pass.new ≡ pass.old)) }
+    {
+        recall(&self.conn);
+        let place = self.conn.logged().journal().len() as u64;
+        match do_operation(&mut self.conn, op) {
+            Ok(given) => {
+                raise(&mut self.book, pass, 1);
+                push_units(&mut self.conn, &mut self.producer);
+                Ok((receipt_of(place, &given), given))
+            }
+            Err(refusal) => Err(refusal),
+        }
+    }
+
+    /// A feed, whose step is counted in the pass.
+    pub(crate) fn feed(&mut self, pass: &mut Pass<N>, piece: &[u8]) -> Result<Fed, ConnFault>
+        ensures fed { Feeds self.old piece.now result (unmoved self.old self.new) }
+        ensures progress { piece.now ≢ [] → MovesOn result }
+        ensures more { self.old.core.log.popped ≤ self.new.core.log.popped }
+        ensures pass { CountsStep result pass.old pass.new }
+    {
+        recall(&self.conn);
+        let result = feed_octets(&mut self.conn, piece);
+        raise(&mut self.book, pass, steps_of(&result));
+        push_units(&mut self.conn, &mut self.producer);
+        result
+    }
+
+    /// A feed of shared octets, whose step is counted in the pass.
+    pub(crate) fn feed_shared(
+        &mut self,
+        pass: &mut Pass<N>,
+        shared: &Bytes,
+        from: usize,
+    ) -> Result<Fed, ConnFault>
+        requires { from ≤ length shared.now }
+        ensures fed { Feeds self.old (drop from shared.now) result (unmoved self.old self.new) }
+        ensures progress { drop from shared.now ≢ [] → MovesOn result }
+        ensures more { self.old.core.log.popped ≤ self.new.core.log.popped }
+        ensures pass { CountsStep result pass.old pass.new }
+    {
+        recall(&self.conn);
+        let result = feed_shared_octets(&mut self.conn, shared, from);
+        raise(&mut self.book, pass, steps_of(&result));
+        push_units(&mut self.conn, &mut self.producer);
+        result
+    }
+
+    /// Puts out our close.
+    pub(crate) fn shut(&mut self, error: Option<Boxed<AmqpError>>) -> Result<(), CloseRefusal>
+        ensures closes { Closes self.old.core error result (unmoved self.old self.new).core }
+        ensures unread { self.new.unread ≡ self.old.unread }
+        ensures more { self.old.core.log.popped ≤ self.new.core.log.popped }
+        ensures err { OnErr result (self.new ≡ self.old) }
+    {
+        match put_close(&mut self.conn, error) {
+            Ok(()) => {
+                push_units(&mut self.conn, &mut self.producer);
+                Ok(())
+            }
+            Err(refusal) => Err(refusal),
+        }
+    }
+
+    /// How many units were put out.
+    pub(crate) fn put_out(&self) -> u64
+        ensures { result ≡ length (units self.now.core.log) }
+    {
+        self.conn.logged().put_out()
+    }
+
+    /// Units past this number are awaited.
+    pub(crate) fn await_units(&mut self, seen: u64)
+        ensures { self.new ≡ self.old }
+    {
+        self.awaited = Some(match self.awaited {
+            Some(least) => least.min(seen),
+            None => seen,
+        });
+    }
+
+    /// Units that are awaited were put out, or the connection has ended: nobody awaits them any more.
+    pub(crate) fn end_await_units(&mut self) -> bool
+        ensures { self.new ≡ self.old }
+    {
+        match self.awaited {
+            Some(seen) if seen < self.put_out() || self.is_closed() => {
+                self.awaited = None;
+                true
+            }
+            _ => false,
+        }
+    }
+
+    /// A caller waits for this.
+    pub(crate) fn wait_for(&mut self, want: Want)
+        ensures { self.new ≡ self.old }
+    {
+        self.callers = self.callers.set(want, true);
+    }
+
+    /// Whether callers wait for this: none do any more.
+    pub(crate) fn end_wait_for(&mut self, want: Want) -> bool
+        ensures { self.new ≡ self.old }
+    {
+        let waited = self.callers.wait_for(want);
+        self.callers = self.callers.set(want, false);
+        waited
+    }
+
+    /// The connection has ended.
+    pub(crate) fn is_closed(&self) -> bool
+        ensures { IsTrue result ↔ (self.now.core.phase ≡ Phase.Closed) }
+    {
+        self.conn.phase() == Phase::Closed
+    }
+
+    /// The journal has as many entries as it may.
+    pub(crate) fn is_at_limit(&self) -> bool {
+        self.conn.logged().journal().len() >= self.limit as usize
+    }
+
+    /// What is told to a writer that has seen so many units: how many were put out, and whether the connection has ended. None where there are no
+    /// more, and it has not.
+    pub(crate) fn news(&self, seen: u64) -> Option<(u64, bool)>
+        ensures some { IfSome result (λ r. (r.0 ≡ length (units self.now.core.log)) × (IsTrue r.1 ↔ (self.now.core.phase ≡ Phase.Closed)) × (IsFalse r.1 → seen < r.0)) }
+        ensures none { IfNone result ((length (units self.now.core.log) ≤ seen) × (self.now.core.phase ≢ Phase.Closed)) }
+    {
+        let count = self.put_out();
+        let closed = self.is_closed();
+        if seen < count || closed {
+            Some((count, closed))
+        } else {
+            None
+        }
+    }
+}
+
+/// So many steps more in the book, and in the pass: one or none.
+fn raise<N: Name>(book: &mut Book<N>, pass: &mut Pass<N>, steps: u64)
+    requires { (book.old.total < 2 ^ 64 - 1) × (steps ≤ 1) }
+    ensures total { book.new.total ≡ book.old.total + steps }
+    ensures pass { pass.new ≡ record pass.old { made = pass.old.made + steps } }
+    ensures bound { pass.old.made ≤ book.old.total }
+{
+    book.audit(&mut pass.share);
+    book.add(&mut pass.share, steps);
+    pass.made += steps;
+}

@@ -1,0 +1,69 @@
+//! A connection before it is shared.
+ghost use Rattle.std.specs.Prelude.{◌≡◌, ◌<◌, ◌≤◌, [], MatchResult};
+ghost use Rattle.amqp_conn.specs.Calling.{IsFit, IsStartFault};
+ghost use Rattle.amqp_conn.specs.Connection.{connection};
+ghost use Rattle.amqp_conn.specs.Octets.{new_core};
+ghost use Rattle.amqp_shared.specs.Passes.{Planted};
+
+use crate::name::Numbered;
+use amqp_conn::{Config, Conn, StartFault};
+use amqp_journal::unit::Unit;
+use rtrb::{Consumer, Producer, RingBuffer};
+use std::alloc::Global;
+use std::marker::Model;
+use std::sync::ledger::Blank;
+
+/// A connection with its ring and its ledger, which no name stands for yet.
+#[derive(Drop)]
+pub struct Seed {
+    pub(crate) conn: Conn,
+    pub(crate) producer: Producer<Unit, Global, Numbered>,
+    pub(crate) consumer: Consumer<Unit, Global, Numbered>,
+    pub(crate) blank: Blank,
+    pub(crate) limit: u32,
+}
+
+impl Model for Seed {
+    ghost use Rattle.std.specs.Prelude.{◌≡◌, []};
+    ghost use Rattle.rtrb.specs.Ring.{sent, received};
+    ghost use Rattle.amqp_shared.specs.Passes.{Planted};
+    ghost use Rattle.amqp_shared.specs.Ring.{pushes_to, pops_from};
+    ghost use Rattle.amqp_types.specs.contracts.value.Value as value;
+    ghost use Rattle.std.specs.Coded.{codes};
+
+    ghost Value = { Planted };
+
+    ghost coded = { Prim.hlevel (codes, value.the_row.coded) };
+
+    ghost view = { λ s. record { conn = s.conn; name = s.blank.name; parts = s.blank.parts; ring = pushes_to s.producer } };
+
+    ghost invariant = { λ s. (s.conn.core.log.journal ≡ []) × (s.conn.core.log.popped ≡ 0) × (sent s.producer ≡ []) × (received s.consumer ≡ []) × (pops_from s.consumer ≡ pushes_to s.producer) × (s.blank.parts ≡ 65536) };
+}
+
+impl Seed {
+    /// A connection whose header waits to go out, with a ring of so many units for its writer. It takes room for them, for eight octets, and
+    /// for our open.
+    ///
+    /// # Errors
+    ///
+    /// `BadConfig` where a setting is out of its limits, or our open is longer than the 512 octets that every peer takes; `NoMemory`.
+    pub fn new(alloc: Global, config: Config, ring: usize) -> Result<Seed, StartFault>
+        requires { (1 ≤ ring) × (ring ≤ 65536) }
+        ensures { MatchResult result (λ s. IsFit config × (s.conn ≡ connection (new_core config) []) × (s.parts ≡ 65536)) (λ e. IsStartFault e config) }
+    {
+        let limit = config.journal_limit;
+        match Conn::new(alloc, config) {
+            Ok(conn) => match RingBuffer::with_protocol::<Global, Numbered>(alloc, ring) {
+                Ok((producer, consumer)) => Ok(Seed {
+                    conn,
+                    producer,
+                    consumer,
+                    blank: Blank::new(65536),
+                    limit,
+                }),
+                Err(_) => Err(StartFault::NoMemory),
+            },
+            Err(fault) => Err(fault),
+        }
+    }
+}

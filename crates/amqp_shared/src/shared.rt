@@ -1,0 +1,309 @@
+//! A connection that threads share, and the calls on the session that is lent under its lock.
+ghost use Rattle.std.specs.Prelude.{◌≡◌, ◌≢◌, ◌<◌, ◌≤◌, [], length, drop, IfOk, IfErr, OnOk, OnErr, IsFalse};
+ghost use Rattle.std.specs.Sync.Mutex.{mutex_guard_value};
+ghost use Rattle.amqp_conn.specs.Connection.{connection, in_phase};
+ghost use Rattle.amqp_conn.specs.Feeding.{Feeds, MovesOn};
+ghost use Rattle.amqp_conn.specs.Calling.{Closes, due_in};
+ghost use Rattle.amqp_shared.specs.Passes.{IsNamed, raised, CountsStep};
+ghost use Rattle.amqp_shared.specs.Session.{Makes, IsDone, IsReceipt, IsRefused, Fits, EndsWait, IsDueAtOnce, Calls};
+ghost use Rattle.amqp_shared.specs.Units.{MovesUnits, unmoved};
+
+use crate::growing::push_units;
+use crate::locked::Locked;
+use crate::name::Name;
+use crate::pass::Pass;
+use crate::seed::Seed;
+use crate::waiting::{Callers, Change, Conditions, Want, awaited_by, brought, brought_by};
+use crate::writer::WriterEnd;
+use amqp_conn::{CloseRefusal, ConnFault, Fed, Phase};
+use amqp_frames::AmqpError;
+use amqp_journal::receipt::Receipt;
+use amqp_rules::op::Op;
+use amqp_rules::refusal::Refusal;
+use amqp_rules::reply::Given;
+use amqp_types::Boxed;
+use bytes::Bytes;
+use std::marker::PhantomData;
+use std::sync::{Mutex, MutexGuard, Wait};
+
+/// A connection that threads share by reference.
+#[derive(Drop)]
+pub struct Shared<N: Name> {
+    pub(crate) locked: Mutex<Locked<N>>,
+    pub(crate) conditions: Conditions,
+}
+
+/// Opens a seed under its name: what threads share, the first pass, which has all parts and has made nothing, and the writer's end, from which
+/// nothing was taken.
+pub fn open_shared<N: Name>(seed: Seed) -> (Shared<N>, Pass<N>, WriterEnd<N>)
+    requires { IsNamed seed N.name N.parts N.ring }
+    ensures pass { result.1 ≡ record { parts = 65536; made = 0 } }
+    ensures writer { result.2 ≡ [] }
+{
+    let Seed {
+        conn,
+        producer,
+        consumer,
+        blank,
+        limit,
+    } = seed;
+    let (book, share) = blank.open::<N>();
+    let (mut conn, mut producer) = (conn, producer);
+    push_units(&mut conn, &mut producer);
+    (
+        Shared::new(Locked {
+            conn,
+            book,
+            producer,
+            limit,
+            awaited: None,
+            callers: Callers::NONE,
+        }),
+        Pass {
+            share,
+            parts: 65536,
+            made: 0,
+        },
+        WriterEnd {
+            consumer,
+            taken: 0,
+            of: PhantomData,
+        },
+    )
+}
+
+impl<N: Name> Shared<N> {
+    pub(crate) fn new(locked: Locked<N>) -> Shared<N> {
+        Shared {
+            locked: Mutex::new(locked),
+            conditions: Conditions::new(),
+        }
+    }
+
+    /// Takes the lock, and lends what lies under it until the guard is dropped. It may wait.
+    pub fn lock<R: Wait>(&self, rt: &R) -> MutexGuard<'_, Locked<N>> {
+        self.locked.lock(rt)
+    }
+
+    /// An operation of the application on the lent session, as `Conn::apply`, counted in the pass. Its receipt stands for it at the journal's
+    /// last entry. A refusal has changed nothing.
+    pub fn call(
+        &self,
+        guard: &mut MutexGuard<'_, Locked<N>>,
+        pass: &mut Pass<N>,
+        op: &Op,
+    ) -> Result<(Receipt, Given), Refusal>
+        ensures step { IfOk result (λ r. Makes (mutex_guard_value guard.old) op.now r.1 (mutex_guard_value guard.new)) }
+        ensures fits { IfOk result (λ r. Fits op.now r.1) }
+        ensures receipt { IfOk result (λ r. IsReceipt (mutex_guard_value guard.new).core.log op.now r.1 r.0) }
+        ensures place { IfOk result (λ r. pass.old.made ≤ r.0.place) }
+        ensures pass { OnOk result (pass.new ≡ raised pass.old) }
+        ensures refusal { IfErr result (λ e. IsRefused (mutex_guard_value guard.old) op.now e) }
+        ensures err { OnErr result ((mutex_guard_value guard.new ≡ mutex_guard_value guard.old) × (pass.new ≡ pass.old)) }
+    {
+        match guard.apply(pass, op) {
+            Ok(done) => {
+                self.wake_writer(guard);
+                let change = if guard.is_at_limit() {
+                    Change::Ends
+                } else {
+                    brought_by(op)
+                };
+                self.wake_callers(guard, change);
+                Ok(done)
+            }
+            Err(refusal) => Err(refusal),
+        }
+    }
+
+    /// Octets that were heard, as `Conn::feed`; a step that they make is counted in the pass.
+    ///
+    /// # Errors
+    ///
+    /// Those of `Conn::feed`.
+    pub fn feed(
+        &self,
+        guard: &mut MutexGuard<'_, Locked<N>>,
+        pass: &mut Pass<N>,
+        piece: &[u8],
+    ) -> Result<Fed, ConnFault>
+        ensures fed { Feeds (mutex_guard_value guard.old) piece.now result (unmoved (mutex_guard_value guard.old) (mutex_guard_value guard.new)) }
+        ensures progress { piece.now ≢ [] → MovesOn result }
+        ensures more { (mutex_guard_value guard.old).core.log.popped ≤ (mutex_guard_value guard.new).core.log.popped }
+        ensures pass { CountsStep result pass.old pass.new }
+    {
+        let result = guard.feed(pass, piece);
+        let change = if guard.is_at_limit() {
+            Change::Ends
+        } else {
+            brought(guard.conn(), &result)
+        };
+        self.wake_writer(guard);
+        self.wake_callers(guard, change);
+        result
+    }
+
+    /// As `feed` of the shared octets from a place on, as `Conn::feed_shared`: a payload that lies whole in them is a slice of them.
+    ///
+    /// # Errors
+    ///
+    /// Those of `Conn::feed`.
+    pub fn feed_shared(
+        &self,
+        guard: &mut MutexGuard<'_, Locked<N>>,
+        pass: &mut Pass<N>,
+        shared: &Bytes,
+        from: usize,
+    ) -> Result<Fed, ConnFault>
+        requires { from ≤ length shared.now }
+        ensures fed { Feeds (mutex_guard_value guard.old) (drop from shared.now) result (unmoved (mutex_guard_value guard.old) (mutex_guard_value guard.new)) }
+        ensures progress { drop from shared.now ≢ [] → MovesOn result }
+        ensures more { (mutex_guard_value guard.old).core.log.popped ≤ (mutex_guard_value guard.new).core.log.popped }
+        ensures pass { CountsStep result pass.old pass.new }
+    {
+        let result = guard.feed_shared(pass, shared, from);
+        let change = if guard.is_at_limit() {
+            Change::Ends
+        } else {
+            brought(guard.conn(), &result)
+        };
+        self.wake_writer(guard);
+        self.wake_callers(guard, change);
+        result
+    }
+
+    /// Puts out our close with the error, as `Conn::close`.
+    ///
+    /// # Errors
+    ///
+    /// Those of `Conn::close`; nothing has changed then.
+    pub fn shut(
+        &self,
+        guard: &mut MutexGuard<'_, Locked<N>>,
+        error: Option<Boxed<AmqpError>>,
+    ) -> Result<(), CloseRefusal>
+        ensures closes { Closes (mutex_guard_value guard.old).core error result (unmoved (mutex_guard_value guard.old) (mutex_guard_value guard.new)).core }
+        ensures unread { (mutex_guard_value guard.new).unread ≡ (mutex_guard_value guard.old).unread }
+        ensures more { (mutex_guard_value guard.old).core.log.popped ≤ (mutex_guard_value guard.new).core.log.popped }
+        ensures err { OnErr result (mutex_guard_value guard.new ≡ mutex_guard_value guard.old) }
+    {
+        match guard.shut(error) {
+            Ok(()) => {
+                self.wake_writer(guard);
+                self.wake_callers(guard, Change::Ends);
+                Ok(())
+            }
+            Err(refusal) => Err(refusal),
+        }
+    }
+
+    /// The octets ended, as `Conn::lost`.
+    pub fn lost(&self, guard: &mut MutexGuard<'_, Locked<N>>)
+        ensures { mutex_guard_value guard.new ≡ connection (in_phase Phase.Closed (mutex_guard_value guard.old).core) [] }
+    {
+        guard.lost();
+        self.wake_writer(guard);
+        self.wake_callers(guard, Change::Ends);
+    }
+
+    /// MovesUnits units to the ring, as many as fit. It takes no memory.
+    pub fn move_units(&self, guard: &mut MutexGuard<'_, Locked<N>>)
+        ensures { MovesUnits (mutex_guard_value guard.old) (mutex_guard_value guard.new) }
+    {
+        guard.move_units();
+    }
+
+    /// As `call`, but where credit, a window, a delivery or an outcome is wanting it waits for a change and tries again. The guard that it gives
+    /// back is of the session after the operation, or of the one that refused it.
+    pub fn call_wait<'b, R: Wait>(
+        &self,
+        rt: &R,
+        guard: MutexGuard<'b, Locked<N>>,
+        pass: &mut Pass<N>,
+        op: &Op,
+    ) -> (MutexGuard<'b, Locked<N>>, Result<(Receipt, Given), Refusal>)
+        ensures fits { IfOk result.1 (λ r. Fits op.now r.1) }
+        ensures receipt { IfOk result.1 (λ r. IsReceipt (mutex_guard_value result.0).core.log op.now r.1 r.0) }
+        ensures place { IfOk result.1 (λ r. pass.old.made ≤ r.0.place) }
+        ensures pass { OnOk result.1 (pass.new ≡ raised pass.old) }
+        ensures done { IfOk result.1 (λ r. IsDone op.now r.1 (mutex_guard_value result.0)) }
+        ensures refusal { IfErr result.1 (λ e. IsRefused (mutex_guard_value result.0) op.now e × EndsWait e) }
+        ensures err { OnErr result.1 (pass.new ≡ pass.old) }
+        ensures at_once { IsDueAtOnce (due_in (mutex_guard_value guard.entry).core.phase (mutex_guard_value guard.entry).core.log op.now) → Calls (mutex_guard_value guard.entry) op.now result.1 (mutex_guard_value result.0) }
+    {
+        let mut guard = guard;
+        for _ in rt.forever() {
+            match self.call(&mut guard, pass, op) {
+                Err(Refusal::NoCredit | Refusal::NoWindow) => guard = self.wait_for(
+                    rt,
+                    guard,
+                    Want::Room,
+                ),
+                Err(Refusal::Nothing) => guard = self.wait_for(rt, guard, awaited_by(op)),
+                answer => return (guard, answer),
+            }
+        }
+        unreachable!()
+    }
+
+    /// MovesUnits units to the ring, and waits until more than `seen` units were put out or the connection has ended. It answers how many were put
+    /// out, and whether the phase is `Closed`. A writer passes what it has taken.
+    pub fn wait_units<R: Wait>(&self, rt: &R, seen: u64) -> (u64, bool)
+        ensures { (IsFalse result.1) → seen < result.0 }
+    {
+        let mut guard = self.locked.lock(rt);
+        for _ in rt.forever() {
+            self.move_units(&mut guard);
+            if let Some(news) = guard.news(seen) {
+                return news;
+            }
+            guard.await_units(seen);
+            guard = self.conditions.units.wait(rt, guard);
+        }
+        unreachable!()
+    }
+
+    /// Wakes those that wait for units, where there are some now.
+    fn wake_writer(&self, guard: &mut MutexGuard<'_, Locked<N>>)
+        ensures { mutex_guard_value guard.new ≡ mutex_guard_value guard.old }
+    {
+        if guard.end_await_units() {
+            self.conditions.units.notify_all();
+        }
+    }
+
+    /// Wakes callers who wait for what the change may have brought.
+    fn wake_callers(&self, guard: &mut MutexGuard<'_, Locked<N>>, change: Change)
+        ensures { mutex_guard_value guard.new ≡ mutex_guard_value guard.old }
+    {
+        match change {
+            Change::Nothing => {}
+            Change::Brings(want) => self.wake(guard, want),
+            Change::Ends => {
+                self.wake(guard, Want::Room);
+                self.wake(guard, Want::Delivery);
+                self.wake(guard, Want::Outcome);
+            }
+        }
+    }
+
+    fn wake(&self, guard: &mut MutexGuard<'_, Locked<N>>, want: Want)
+        ensures { mutex_guard_value guard.new ≡ mutex_guard_value guard.old }
+    {
+        if guard.end_wait_for(want) {
+            self.conditions.of(want).notify_all();
+        }
+    }
+
+    /// Gives the lock back until a change may have brought what is wanted.
+    fn wait_for<'b, R: Wait>(
+        &self,
+        rt: &R,
+        guard: MutexGuard<'b, Locked<N>>,
+        want: Want,
+    ) -> MutexGuard<'b, Locked<N>> {
+        let mut guard = guard;
+        guard.wait_for(want);
+        self.conditions.of(want).wait(rt, guard)
+    }
+}

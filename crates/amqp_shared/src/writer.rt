@@ -1,0 +1,54 @@
+//! The end from which units are written to a socket.
+ghost use Rattle.std.specs.Prelude.{◌≡◌, ◌<◌, ◌≤◌, ◌+◌, ◌++◌, ◌∷◌, [], length, IfSome, IfNone};
+
+use crate::name::{Name, Numbered};
+use amqp_journal::unit::Unit;
+use rtrb::Consumer;
+use std::alloc::Global;
+use std::marker::{Model, PhantomData};
+
+/// The writer's end of the ring. Contracts see it as the units that were taken. It needs neither the lock nor memory, so a writer is never held
+/// up by the threads that use the session.
+#[derive(Drop)]
+pub struct WriterEnd<N: Name> {
+    pub(crate) consumer: Consumer<Unit, Global, Numbered>,
+    pub(crate) taken: u64,
+    pub(crate) of: PhantomData<N>,
+}
+
+impl<N: Name> Model for WriterEnd<N> {
+    ghost use Rattle.std.specs.Prelude.{◌≡◌, List, length};
+    ghost use Rattle.rtrb.specs.Ring.{received};
+    ghost use Rattle.amqp_journal.specs.declared.unit.Unit as frame;
+    ghost use Rattle.amqp_shared.specs.Ring.{pops_from};
+
+    ghost Value = { List frame.Unit };
+
+    ghost view = { λ w. received w.consumer };
+
+    ghost invariant = { λ w. (w.taken ≡ length (received w.consumer)) × (pops_from w.consumer ≡ N.ring) };
+}
+
+impl<N: Name> WriterEnd<N> {
+    /// The next unit of the ring: its octets are to be written whole, and in this order. `None` says nothing of what the ring holds; more may
+    /// wait in the connection, which `Shared::wait_units` and `Shared::move_units` move to the ring.
+    pub fn take(&mut self) -> Option<Unit>
+        ensures some { IfSome result (λ unit. (self.new ≡ self.old ++ unit ∷ []) × (unit.number ≡ length self.old)) }
+        ensures none { IfNone result (self.new ≡ self.old) }
+    {
+        match self.consumer.pop() {
+            Ok(unit) => {
+                self.taken += 1;
+                Some(unit)
+            }
+            Err(_) => None,
+        }
+    }
+
+    /// How many units were taken.
+    pub fn taken(&self) -> u64
+        ensures { result ≡ length self.now }
+    {
+        self.taken
+    }
+}
