@@ -1,12 +1,11 @@
 -- What an operation that was done gives, and its receipt.
-use Rattle.std.proofs.Common.{◌≡◌, ℕ, zero, suc, ◌+◌, ◌++◌, List, [], ◌∷◌, length, Bool, true, false, cond, Option, Some, None, Result, Ok, Err, refl, sym, ap, ◌∙◌, subst, nat_le, add-one, length-append}
+use Rattle.std.proofs.Common.{◌≡◌, ℕ, ◌+◌, ◌++◌, List, [], ◌∷◌, length, Bool, true, false, cond, Option, Some, None, Ok, Err, refl, sym, ap, ◌∙◌, subst, nat_le, length-append}
 use Rattle.std.specs.Prelude.{slice_get, find, not}
 use Rattle.amqp_events.specs.Joined.{Delivery}
 use Rattle.amqp_rules.specs.declared.op.Op.{Op}
 use Rattle.amqp_rules.specs.declared.op.Op.TheVariants as op
 use Rattle.amqp_rules.specs.declared.reply.Reply.{Reply}
 use Rattle.amqp_rules.specs.declared.reply.Given.{Given}
-use Rattle.amqp_rules.specs.declared.refusal.Refusal.{Refusal}
 use Rattle.amqp_rules.specs.declared.refusal.Refusal.TheVariants as refusal
 use Rattle.amqp_rules.specs.View.{View, LinkView, has_number, same_role}
 use Rattle.amqp_rules.specs.Refusing.{if_there, unless}
@@ -18,7 +17,7 @@ use Rattle.amqp_laws.specs.Past.{past}
 use Rattle.amqp_laws.specs.At.{at}
 use Rattle.amqp_journal.specs.declared.receipt.Receipt.{Receipt}
 use Rattle.amqp_journal.specs.Log.{Log, own_due}
-use Rattle.amqp_journal.specs.Units.{Stands, given_link, given_id}
+use Rattle.amqp_journal.specs.Units.{given_link, given_id}
 use Rattle.amqp_conn.specs.declared.phase.Phase.{Phase}
 use Rattle.amqp_conn.specs.declared.phase.Phase.TheVariants as phase
 use Rattle.amqp_conn.specs.Connection.{Core}

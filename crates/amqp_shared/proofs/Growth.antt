@@ -1,5 +1,5 @@
 -- What each call adds to a connection.
-use Rattle.std.proofs.Common.{◌≡◌, ℕ, ◌+◌, ◌≤◌, List, [], ◌∷◌, ◌++◌, length, take, Bool, true, false, cond, Option, Some, None, Result, Ok, Err, refl, sym, ap, ◌∙◌, subst, arith, append-nil, add-zero, length-append}
+use Rattle.std.proofs.Common.{◌≡◌, ℕ, ◌+◌, ◌≤◌, List, [], ◌∷◌, length, take, Bool, true, false, cond, Option, Some, None, Result, Ok, Err, refl, sym, ap, ◌∙◌, subst, append-nil, add-zero, length-append}
 use Rattle.std.specs.Prelude.{OnOk}
 use Rattle.amqp_rules.specs.declared.op.Op.{Op}
 use Rattle.amqp_rules.specs.declared.refusal.Refusal.{Refusal}
@@ -9,7 +9,7 @@ use Rattle.amqp_rules.specs.declared.violation.Violation.{Violation}
 use Rattle.amqp_laws.specs.declared.entry.Entry.{Entry}
 use Rattle.amqp_laws.specs.declared.entry.Step.{Step}
 use Rattle.amqp_laws.specs.declared.entry.Step.TheVariants.{Own}
-use Rattle.amqp_journal.specs.Units.{units, octets_sent, PutWithin}
+use Rattle.amqp_journal.specs.Units.{units, octets_sent}
 use Rattle.amqp_journal.proofs.UnitLaws.{logged-behind, put-behind}
 use Rattle.amqp_conn.specs.declared.fault.ConnFault.{ConnFault}
 use Rattle.amqp_conn.specs.declared.fault.ConnFault.TheVariants as fault
@@ -23,9 +23,9 @@ use Rattle.amqp_rules.specs.Sending.{octets_of}
 use Rattle.amqp_conn.specs.Connection.{Core, Connection, more, in_phase, sending, stepping}
 use Rattle.amqp_conn.specs.Octets.{close_frame}
 use Rattle.amqp_conn.specs.Treating.{ending}
-use Rattle.amqp_conn.specs.Feeding.{IsFed, AddsEntry, Takes, Ends, Feeds}
+use Rattle.amqp_conn.specs.Feeding.{AddsEntry, Takes, Ends, Feeds}
 use Rattle.amqp_conn.specs.Calling.{Does, Closes}
-use Rattle.amqp_conn.proofs.Onward.{Onward, Behind, Within, fed-onward, ends-onward}
+use Rattle.amqp_conn.proofs.Onward.{Onward, Within, fed-onward, ends-onward}
 use Rattle.amqp_conn.proofs.Calls.{closes-once}
 use Rattle.amqp_shared.specs.Growing.{Grows}
 use Rattle.amqp_shared.specs.Passes.{steps_fed}

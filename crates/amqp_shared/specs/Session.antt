@@ -1,5 +1,5 @@
 -- What the calls on a lent session do.
-use Rattle.std.specs.Prelude.{ℕ, ◌≡◌, ◌≢◌, ◌≤◌, ◌<◌, ◌+◌, Some, Result, Ok, Err, List, length, take, slice_get}
+use Rattle.std.specs.Prelude.{ℕ, ◌≡◌, ◌≢◌, ◌≤◌, ◌<◌, ◌+◌, Some, Result, Ok, Err, List, length, slice_get}
 use Rattle.amqp_rules.specs.declared.op.Op.{Op}
 use Rattle.amqp_rules.specs.declared.op.Op.TheVariants as op
 use Rattle.amqp_rules.specs.declared.reply.Given.{Given}
@@ -12,7 +12,7 @@ use Rattle.amqp_journal.specs.declared.unit.Unit as frame
 use Rattle.amqp_journal.specs.declared.receipt.Receipt.{Receipt}
 use Rattle.amqp_journal.specs.Log.{Log, IsRefusal}
 use Rattle.amqp_journal.specs.Units.{units, Stands}
-use Rattle.amqp_conn.specs.Connection.{Core, Connection}
+use Rattle.amqp_conn.specs.Connection.{Connection}
 use Rattle.amqp_conn.specs.Calling.{Does, due_in}
 use Rattle.amqp_shared.specs.Ring.{Ring}
 use Rattle.amqp_shared.specs.Units.{moved_of, unmoved}

@@ -1,5 +1,5 @@
 -- The units of a connection with their numbers, and what is moved of them to the writer's ring.
-use Rattle.std.specs.Prelude.{ℕ, ◌≡◌, ◌≤◌, ◌+◌, List, [], ◌∷◌, length, take, drop}
+use Rattle.std.specs.Prelude.{ℕ, ◌≡◌, ◌≤◌, ◌+◌, List, [], ◌∷◌, take, drop}
 use Rattle.amqp_journal.specs.declared.unit.Unit as frame
 use Rattle.amqp_journal.specs.Units.{units}
 use Rattle.amqp_conn.specs.Connection.{Connection}

@@ -1,4 +1,4 @@
-use Rattle.std.proofs.Common.{◌≡◌, ◌+◌, ◌-◌, ◌≤◌, vec_len, vec_capacity, [], ◌∷◌, ◌++◌, take, drop, length, arith, sym, ap, ◌∙◌, refl, subst, append_assoc, rules, length-append}
+use Rattle.std.proofs.Common.{◌≡◌, vec_len, ◌++◌, take, length, arith, sym, ap, ◌∙◌, subst, append_assoc, rules, length-append}
 use Rattle.std.proofs.lemmas.List.{take-append-drop}
 use Rattle.rtrb.specs.Ring.{known_items, received}
 use Rattle.amqp_journal.specs.Units.{units}

@@ -1,4 +1,4 @@
-use Rattle.std.proofs.Common.{◌≡◌, ◌+◌, ◌≤◌, ◌++◌, length, arith, sym, ap, ◌∙◌, append-nil}
+use Rattle.std.proofs.Common.{◌++◌, arith, sym, ap, ◌∙◌, append-nil}
 use Rattle.amqp_journal.specs.Units.{units}
 use Rattle.amqp_shared.proofs.Numbering.{waiting-none}
 use Rattle.amqp_shared.proofs.closing.empty_backlog.Goals as goal

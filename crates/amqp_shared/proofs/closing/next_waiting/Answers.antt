@@ -1,4 +1,4 @@
-use Rattle.std.proofs.Common.{◌≡◌, ◌<◌, ◌≤◌, length, arith, refl, ◌∙◌, sym, ap}
+use Rattle.std.proofs.Common.{arith, refl}
 use Rattle.amqp_journal.specs.Units.{units}
 use Rattle.amqp_shared.proofs.Numbering.{next-waiting, none-waits}
 use Rattle.amqp_shared.proofs.closing.next_waiting.Goals as goal

@@ -1,4 +1,4 @@
-use Rattle.std.proofs.Common.{◌≡◌, ◌++◌, [], length, map, sym, ap, ◌∙◌, append-nil, rules}
+use Rattle.std.proofs.Common.{◌≡◌, ◌++◌, length, map, sym, ap, ◌∙◌, append-nil, rules}
 use Rattle.std.proofs.lemmas.List.{nil_from_length}
 use Rattle.amqp_shared.proofs.consumers.jobs_of.Goals as goal
 

@@ -1,5 +1,5 @@
-use Rattle.std.proofs.Common.{◌≡◌, ◌<◌, length, map, slice_index_or, vec_len, sym, ap, subst, ◌∙◌, arith, rules}
-use Rattle.amqp_shared.specs.Passes.{Tally, Raised}
+use Rattle.std.proofs.Common.{◌≡◌, length, slice_index_or, vec_len, sym, ap, subst, ◌∙◌, arith, rules}
+use Rattle.amqp_shared.specs.Passes.{Raised}
 use Rattle.amqp_shared.proofs.Found.{found, as-many, if_ok-map}
 use Rattle.amqp_shared.proofs.consumers.run_consumers.Goals as goal
 

@@ -1,4 +1,4 @@
-use Rattle.std.proofs.Common.{◌≡◌, ◌<◌, length, vec_len, slice_index_or, sym, subst, arith, rules}
+use Rattle.std.proofs.Common.{◌≡◌, length, vec_len, slice_index_or, sym, subst, arith, rules}
 use Rattle.amqp_shared.specs.Passes.{Raised}
 use denote.Param.{param}
 use Rattle.amqp_shared.proofs.Crossing.{shared_sync}

@@ -1,4 +1,4 @@
-use Rattle.std.proofs.Common.{◌≡◌, sym, ap, ◌∙◌, length}
+use Rattle.std.proofs.Common.{sym, ap, ◌∙◌, length}
 use Rattle.amqp_journal.specs.Log.{Log}
 use Rattle.amqp_journal.specs.declared.receipt.Receipt.{Receipt}
 use Rattle.amqp_conn.specs.Connection.{Connection}

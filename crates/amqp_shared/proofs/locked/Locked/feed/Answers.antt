@@ -1,4 +1,4 @@
-use Rattle.std.proofs.Common.{◌≡◌, sym, ◌∙◌}
+use Rattle.std.proofs.Common.{sym, ◌∙◌}
 use Rattle.amqp_shared.proofs.Growth.{pushed-stands}
 use Rattle.amqp_shared.specs.Passes.{steps_fed}
 use Rattle.amqp_shared.proofs.locked.Locked.feed.Goals as goal
