@@ -1,4 +1,5 @@
 //! One AMQP 1.0 connection shared by threads.
+#![tactic(auto)]
 //!
 //! | module | what it has |
 //! |---|---|
@@ -43,7 +44,6 @@
 //! - **What a socket carried.** That the octets of a unit were written whole, and that what was read is what the peer wrote, is the program's to see to.
 //! - **What a call that takes the lock by itself did to the session**, but what its clauses say of the guard that it gives back: `lock` lends
 //!   a session whose journal is as long as the passes' steps, and that it goes on from what was there before is shown by tests.
-#![tactic(auto)]
 
 mod close;
 mod closing;
