@@ -5,7 +5,6 @@ use Rattle.std.proofs.lemmas.List.Elements.{All-head, All-tail, filter_map-appen
 use Rattle.std.proofs.lemmas.List.Edits.{between_more}
 use Rattle.amqp_flow.specs.Serial.{is_inside}
 use Rattle.amqp_performatives.specs.declared.state.DeliveryState.{DeliveryState}
-use Rattle.amqp_performatives.specs.declared.state.DeliveryState.TheVariants.{Received, Accepted, Rejected, Released, Modified, Other}
 use Rattle.amqp_performatives.specs.Outcome.{is_outcome}
 use Rattle.amqp_events.specs.Event.{Item, Disposition, Event, Begins, Continues, Says, Hears, Leaves}
 use Rattle.amqp_events.specs.Since.{or_earlier}

@@ -1,6 +1,9 @@
 //! The unsettled deliveries of one role.
-ghost use Rattle.std.specs.Prelude.{◌≡◌, ◌==◌, ◌++◌, ◌∷◌, [], false, IsTrue, ◌↔◌, length, find, option_map, slice_get, IfErr, OnOk, OnErr};
+ghost use Rattle.std.specs.Prelude.{List, ◌<◌, ◌≡◌, ◌==◌, ◌++◌, ◌∷◌, [], false, IsTrue, ◌↔◌, length, find, option_map, slice_get, IfErr, OnOk, OnErr};
 ghost use Rattle.std.specs.List.{list_any};
+ghost use Rattle.std.specs.VecDeque.{deque_len, deque_capacity};
+ghost use Rattle.amqp_events.specs.Told.{SentItem};
+ghost use Rattle.amqp_deliveries.specs.Tags.{IsIndex};
 ghost use Rattle.amqp_events.specs.Laws.{AreInOrder, IsPast};
 ghost use Rattle.amqp_events.specs.Tags.{AreApart, is_tagged};
 ghost use Rattle.amqp_deliveries.specs.Held.{IsHeld, items_of, untold, has_tag};
@@ -18,6 +21,22 @@ use std::marker::Model;
 mod edits;
 mod lists;
 mod loops;
+
+/// Room for a delivery more, and its tag in use.
+#[inline(never)]
+fn make_room(
+    items: &mut VecDeque<Entry>,
+    tags: &mut TagIndex,
+    entry: &Entry,
+) -> Result<(), AllocError>
+    ensures items { items.new.items ≡ items.old.items }
+    ensures room { OnOk result (deque_len items.new < deque_capacity items.new) }
+    ensures ok { (held : List SentItem) → IsIndex tags.old held → OnOk result (IsIndex tags.new (held ++ entry.now ∷ [])) }
+    ensures err { (held : List SentItem) → IsIndex tags.old held → OnErr result (IsIndex tags.new held) }
+{
+    items.reserve(1)?;
+    tags.put(entry)
+}
 
 /// The unsettled deliveries of one role, in serial order of their ids, which lie less than 2^31 apart. On a link each has a tag of its own.
 /// Contracts see it as the list of its deliveries, each with a mark whether what became of it was told.
@@ -131,11 +150,18 @@ impl Held {
         ensures ok { OnOk result (self.new ≡ self.old ++ untold item ∷ []) }
         ensures err { OnErr result (self.new ≡ self.old) }
     {
-        self.items.reserve(1)?;
+        let _id = item.id();
         let entry = Entry::new(item);
-        self.tags.put(&entry)?;
-        self.items.push_back_reserved(entry);
-        Ok(())
+        match make_room(&mut self.items, &mut self.tags, &entry) {
+            Ok(()) => {
+                self.items.push_back_reserved(entry);
+                Ok(())
+            }
+            Err(e) => {
+                drop(entry);
+                Err(e)
+            }
+        }
     }
 
     /// The places of the deliveries that the ids `first` to `last` cover; none where those are 2^31 or more apart.

@@ -1,5 +1,5 @@
 -- The plan of an attach of the peer's that answers ours.
-use Rattle.std.proofs.Common.{◌≡◌, ℕ, ◌+◌, ◌≤◌, not, Bool, true, false, cond, Option, Some, None, Ok, List, [], ◌∷◌, refl, ap, sym, subst, find, is_some, is_none}
+use Rattle.std.proofs.Common.{◌≡◌, ℕ, ◌+◌, not, Bool, true, false, cond, Option, Some, None, [], ◌∷◌, refl, ap, sym, subst, find, is_some, is_none}
 use Rattle.std.specs.Prelude.{◌&&◌}
 use Rattle.amqp_performatives.specs.declared.bodies.AttachBody.{AttachBody}
 use Rattle.amqp_deliveries.specs.declared.change.Change.TheVariants as change

@@ -1,18 +1,17 @@
 -- A link that we attach.
-use Rattle.std.proofs.Common.{◌≡◌, ◌≤◌, ℕ, ◌+◌, ◌*◌, ◌^◌, ◌&&◌, Bool, true, false, Option, Some, None, List, [], refl, ap, sym, ◌∙◌, find, is_some, arith, subst}
+use Rattle.std.proofs.Common.{◌≡◌, ℕ, ◌+◌, true, Option, Some, None, [], refl, ap, sym, ◌∙◌, is_some, arith, subst}
 use Rattle.std.specs.Prelude.{is_none}
 use Rattle.std.specs.Cmp.{second_so}
 use Rattle.amqp_performatives.specs.declared.bodies.AttachBody.{AttachBody}
 use Rattle.amqp_performatives.specs.declared.performative.Performative.TheVariants.{Attach}
 use Rattle.amqp_links.specs.declared.fate.Fate.{Fate}
 use Rattle.amqp_links.specs.declared.marks.Marks.{Marks}
-use Rattle.amqp_links.specs.Fate.{with_ours, IsFit}
+use Rattle.amqp_links.specs.Fate.{with_ours}
 use Rattle.amqp_links.specs.Marks.{with_marks}
 use Rattle.amqp_rules.specs.declared.reply.Given.TheVariants.{Link}
 use Rattle.amqp_rules.specs.Carry.{size_so_far}
-use Rattle.amqp_rules.specs.View.{View, LinkView, EndView, SendingView, has_name, has_number, is_offered, is_offered_as, new_link, free_handle, change_first}
+use Rattle.amqp_rules.specs.View.{LinkView, EndView, SendingView, has_name, has_number, is_offered, is_offered_as, new_link, free_handle}
 use Rattle.amqp_rules.specs.Attach.{Wanted, own_attach, end_of, attached_by_us, attach_answer, next_attach}
-use Rattle.amqp_rules.specs.Sending.{frame_of}
 use Rattle.amqp_endpoint.specs.declared.endpoint.attach.Place.{Place}
 use Rattle.amqp_endpoint.specs.declared.endpoint.attach.Meeting.{Meeting}
 use Rattle.amqp_endpoint.specs.declared.plan.Plan.{Plan}

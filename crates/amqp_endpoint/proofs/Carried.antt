@@ -1,30 +1,25 @@
 -- A further transfer of ours, and a delivery that is given up.
-use Rattle.std.proofs.Common.{◌≡◌, ◌<◌, ◌≤◌, ℕ, ◌+◌, ◌*◌, ◌^◌, Bool, true, false, cond, Option, Some, None, Result, Ok, Err, List, [], ◌∷◌, refl, ap, sym, find, MatchResult, ⊎_elim, inl, inr, ◌⊎◌, arith, subst, ◌∙◌}
+use Rattle.std.proofs.Common.{◌≡◌, ◌<◌, ◌≤◌, ℕ, ◌+◌, ◌*◌, ◌^◌, Bool, true, false, Option, Some, None, Result, Ok, Err, List, [], refl, ap, sym, find, MatchResult, ⊎_elim, inl, inr, ◌⊎◌, arith, subst, ◌∙◌}
 use Rattle.amqp_performatives.specs.declared.performative.Performative.{Performative}
 use Rattle.amqp_performatives.specs.declared.bodies.Role.TheVariants.{Sender}
 use Rattle.amqp_flow.specs.Windows.{windows_sent}
 use Rattle.amqp_links.specs.declared.fate.Fate.TheVariants.{Marked}
 use Rattle.amqp_links.specs.Marks.{with_marks}
-use Rattle.amqp_rules.specs.declared.reply.Given.{Given}
 use Rattle.amqp_rules.specs.declared.reply.Given.TheVariants.{Nothing}
 use Rattle.amqp_rules.specs.declared.refusal.Refusal.{Refusal}
 use Rattle.amqp_rules.specs.declared.refusal.Refusal.TheVariants.{NoMemory}
-use Rattle.amqp_rules.specs.Abort.{abort_answer, abort_refusals, aborted, next_abort}
+use Rattle.amqp_rules.specs.Abort.{abort_answer, aborted, next_abort}
 use Rattle.amqp_rules.specs.Carry.{size_so_far, carried, later_body}
-use Rattle.amqp_rules.specs.View.{View, LinkView, SendingView, has_number, handle_of, change_first}
-use Rattle.amqp_rules.specs.OnLink.{on_link}
-use Rattle.amqp_rules.specs.Refusing.{first_refusal}
-use Rattle.amqp_rules.specs.Sending.{sends, frame_refused}
+use Rattle.amqp_rules.specs.View.{LinkView, SendingView, has_number, handle_of}
+use Rattle.amqp_rules.specs.Sending.{frame_refused}
 use Rattle.amqp_endpoint.specs.declared.endpoint.abort.Aborted.{Aborted}
-use Rattle.amqp_endpoint.specs.declared.endpoint.onlink.OnLink.{OnLink}
 use Rattle.amqp_endpoint.specs.declared.plan.Plan.{Plan}
 use Rattle.amqp_endpoint.specs.declared.plan.Session.{Session}
 use Rattle.amqp_deliveries.specs.declared.change.Change.{Change}
-use Rattle.amqp_deliveries.specs.declared.change.Change.TheVariants.{Stay, Continues}
+use Rattle.amqp_deliveries.specs.declared.change.Change.TheVariants.{Continues}
 use Rattle.amqp_endpoint.specs.Aborting.{IsAborted}
 use Rattle.amqp_endpoint.specs.Stores.{StoresView}
-use Rattle.amqp_endpoint.specs.Plan.{IsBegun, IsCounted, IsExpectedNext, IsKept, IsShort, AreShortOn, Plans, links_in, stores_in, view_of, next_id, sending_plan}
-use Rattle.amqp_endpoint.specs.Taking.{IsTaken}
+use Rattle.amqp_endpoint.specs.Plan.{IsBegun, IsCounted, IsExpectedNext, IsKept, IsShort, AreShortOn, Plans, view_of, sending_plan}
 use Rattle.amqp_endpoint.proofs.Plans.{change-alike, short-found}
 
 same-link : {x y : LinkView} → ◌≡◌ {A = Option LinkView} (Some x) (Some y) → x ≡ y

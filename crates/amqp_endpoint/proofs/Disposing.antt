@@ -1,7 +1,7 @@
 -- Dispose: what the deliveries of a table refuse, and the plan.
-use Rattle.std.proofs.Common.{◌≡◌, ◌<◌, ◌≤◌, ◌-◌, ◌∙◌, ℕ, Bool, true, false, not, ◌&&◌, ◌||◌, Option, Some, None, Result, Ok, Err, List, [], ◌∷◌, length, take, drop, filter, refl, sym, ap, subst, arith, inl, inr, ◌⊎◌, ⊎_elim}
+use Rattle.std.proofs.Common.{◌≡◌, ◌<◌, ◌≤◌, ◌-◌, ◌∙◌, ℕ, Bool, true, false, Option, Some, None, Err, List, [], ◌∷◌, length, take, drop, filter, refl, sym, ap, arith, ⊎_elim}
 use Rattle.std.specs.Prelude.{IsOk, IsTrue, ◌↔◌}
-use Rattle.std.specs.List.{list_any, between}
+use Rattle.std.specs.List.{list_any}
 use Rattle.std.proofs.lemmas.Bool.{cases_lt}
 use Rattle.std.proofs.lemmas.List.Edits.{length-between}
 use Rattle.amqp_performatives.specs.declared.bodies.Role.{Role}

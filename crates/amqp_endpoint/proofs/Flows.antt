@@ -1,5 +1,5 @@
 -- The plan of a flow that is heard.
-use Rattle.std.proofs.Common.{◌≡◌, ◌∙◌, ℕ, ◌+◌, ◌<◌, ◌≤◌, ◌&&◌, not, Bool, true, false, cond, Option, Some, None, Result, Ok, Err, List, [], inl, inr, refl, ap, arith, find, is_some, ◌∷◌, MatchResult}
+use Rattle.std.proofs.Common.{◌≡◌, ◌∙◌, ℕ, ◌+◌, ◌&&◌, not, Bool, true, false, cond, Option, Some, None, Result, Ok, Err, List, [], inl, inr, refl, ap, arith, is_some, ◌∷◌, MatchResult}
 use Rattle.std.specs.Option.{option_map}
 use Rattle.amqp_performatives.specs.declared.bodies.FlowBody.{FlowBody}
 use Rattle.amqp_performatives.specs.declared.performative.Performative.TheVariants.{Flow}
@@ -7,8 +7,8 @@ use Rattle.amqp_flow.specs.Windows.{WindowsView, windows_renewed}
 use Rattle.amqp_links.specs.declared.fate.Fate.{Fate}
 use Rattle.amqp_links.specs.declared.fate.Fate.TheVariants.{Stay, Marked}
 use Rattle.amqp_links.specs.declared.marks.Marks.{Marks}
-use Rattle.amqp_links.specs.Fate.{IsFit, links_after, changed}
-use Rattle.amqp_links.specs.Links.{LinksView, IsFirst}
+use Rattle.amqp_links.specs.Fate.{IsFit, links_after}
+use Rattle.amqp_links.specs.Links.{IsFirst}
 use Rattle.amqp_links.specs.Marks.{with_marks}
 use Rattle.amqp_deliveries.specs.declared.change.Change.TheVariants as change
 use Rattle.amqp_rules.specs.declared.reply.Given.TheVariants as given
@@ -22,7 +22,7 @@ use Rattle.amqp_endpoint.specs.declared.plan.Session.{Session}
 use Rattle.amqp_endpoint.specs.declared.plan.Plan.{Plan}
 use Rattle.amqp_endpoint.specs.Stores.{StoresView}
 use Rattle.amqp_endpoint.specs.Flowing.{session_ahead, session_after, windows_told_by, sends_echo, echo_plan}
-use Rattle.amqp_endpoint.specs.Plan.{AreShort, IsCounted, IsKept, IsPlan, IsShort, Plans, flags_of, plan_reply, view_of}
+use Rattle.amqp_endpoint.specs.Plan.{AreShort, IsCounted, IsKept, Plans, flags_of, plan_reply, view_of}
 use Rattle.amqp_endpoint.proofs.Plans.{change-alike, short-found, shorter}
 use Rattle.amqp_endpoint.proofs.Rows.{expects-same}
 

@@ -1,11 +1,10 @@
 -- What always holds of an endpoint holds after each sound plan.
-use Rattle.std.proofs.Common.{◌≡◌, ◌<◌, ◌≤◌, ℕ, ◌+◌, ◌*◌, ◌^◌, ◌&&◌, not, nat_lt, Bool, true, false, cond, Option, Some, None, List, [], ◌∷◌, ◌++◌, map, arith, refl, ap, ⊎_elim}
+use Rattle.std.proofs.Common.{◌≡◌, ◌<◌, ◌≤◌, ℕ, ◌+◌, ◌*◌, ◌^◌, ◌&&◌, not, nat_lt, Bool, true, Option, Some, None, List, [], ◌∷◌, ◌++◌, map, arith, refl, ⊎_elim}
 use Rattle.std.proofs.lemmas.Bool.{cases_Bool}
-use Rattle.std.proofs.lemmas.List.{map-append, append-nil}
+use Rattle.std.proofs.lemmas.List.{map-append}
 use Rattle.std.proofs.lemmas.List.Elements.{All-nil, All-cons}
-use Rattle.std.specs.List.{filter, list_any}
+use Rattle.std.specs.List.{filter}
 use Rattle.amqp_flow.specs.Serial.{wire, distance, is_before}
-use Rattle.amqp_performatives.specs.declared.bodies.Role.{Role}
 use Rattle.amqp_performatives.specs.declared.bodies.Role.TheVariants.{Sender, Receiver}
 use Rattle.amqp_events.specs.Event as event
 use Rattle.amqp_events.specs.Event.{Event, Item}
@@ -15,16 +14,16 @@ use Rattle.amqp_events.specs.Told.{SentItem, added_sent, next_sent, next_sent_he
 use Rattle.amqp_links.specs.declared.fate.Fate.{Fate}
 use Rattle.amqp_links.specs.declared.fate.Fate.TheVariants as fate
 use Rattle.amqp_links.specs.Links.{LinksView}
-use Rattle.amqp_links.specs.Fate.{links_after, with_more}
+use Rattle.amqp_links.specs.Fate.{links_after}
 use Rattle.amqp_rules.specs.View.{View, LinkView, change_first, remove_first}
 use Rattle.amqp_rules.specs.PeerDisposition.{told_more}
 use Rattle.amqp_endpoint.specs.declared.plan.Session.{Session}
 use Rattle.amqp_endpoint.specs.declared.plan.Plan.{Plan}
 use Rattle.amqp_deliveries.specs.declared.change.Change.{Change}
 use Rattle.amqp_deliveries.specs.declared.change.Change.TheVariants.{Stay, Begins, Continues, Says, Hears, Leaves, Over}
-use Rattle.amqp_deliveries.specs.Change.{TablesView, held_items, is_tagged_as, tables_after}
+use Rattle.amqp_deliveries.specs.Change.{TablesView, held_items, tables_after}
 use Rattle.amqp_endpoint.specs.Stores.{StoresView, IsApt, IsMet, told_after, stores_after}
-use Rattle.amqp_endpoint.specs.Plan.{AreBehind, AreBehindExpected, AreShort, AreShortOn, IsShort, IsAlone, IsAtMostNext, IsBegun, IsCounted, IsDue, IsExpectedNext, IsKept, IsSound, next_id, view_of}
+use Rattle.amqp_endpoint.specs.Plan.{AreBehind, AreBehindExpected, AreShort, AreShortOn, IsShort, IsAlone, IsAtMostNext, IsBegun, IsDue, IsExpectedNext, IsKept, IsSound, next_id, view_of}
 
 -- # Ids
 

@@ -1,18 +1,15 @@
 -- A link that we leave, and one that the peer leaves.
-use Rattle.std.proofs.Common.{◌≡◌, ℕ, ◌+◌, Bool, true, false, Option, Some, None, Result, Ok, Err, [], refl, ap, sym, ◌∙◌, find, inl, inr, MatchResult}
-use Rattle.std.specs.Prelude.{IsOk}
+use Rattle.std.proofs.Common.{◌≡◌, ℕ, true, false, Option, Some, None, Result, Ok, Err, [], refl, sym, ◌∙◌, inr, MatchResult}
 use Rattle.amqp_performatives.specs.declared.bodies.DetachBody.{DetachBody}
 use Rattle.amqp_performatives.specs.declared.error.AmqpError.{AmqpError}
 use Rattle.amqp_performatives.specs.declared.performative.Performative.{Performative}
-use Rattle.amqp_performatives.specs.declared.performative.Performative.TheVariants.{Detach}
 use Rattle.amqp_links.specs.declared.fate.Fate.TheVariants as fate
 use Rattle.amqp_rules.specs.declared.reply.Given.TheVariants as given
 use Rattle.amqp_rules.specs.declared.violation.Violation.{Violation}
-use Rattle.amqp_rules.specs.View.{View, LinkView, takes_frames, is_attached, has_peer_handle, handle_of}
+use Rattle.amqp_rules.specs.View.{is_attached}
 use Rattle.amqp_rules.specs.Detach.{detach_answer, detach_body, next_detach}
 use Rattle.amqp_rules.specs.PeerDetach.{detach_heard_answer, next_detach_heard}
 use Rattle.amqp_rules.specs.Refusing.{no_memory}
-use Rattle.amqp_rules.specs.Sending.{frame_of, frame_refused}
 use Rattle.amqp_endpoint.specs.declared.endpoint.detach.Leaving.{Leaving}
 use Rattle.amqp_endpoint.specs.declared.plan.Plan.{Plan}
 use Rattle.amqp_endpoint.specs.declared.plan.Session.{Session}
@@ -21,7 +18,7 @@ use Rattle.amqp_endpoint.specs.Leaving.{IsLeft}
 use Rattle.amqp_endpoint.specs.Parting.{IsParting}
 use Rattle.amqp_endpoint.specs.declared.endpoint.peer_detach.Parting.{Parting}
 use Rattle.amqp_endpoint.specs.Stores.{StoresView}
-use Rattle.amqp_endpoint.specs.Plan.{IsPlan, IsKept, Plans, view_of, flags_of, quiet_plan, sending_plan}
+use Rattle.amqp_endpoint.specs.Plan.{IsPlan, IsKept, Plans, view_of, quiet_plan, sending_plan}
 use Rattle.amqp_endpoint.proofs.Plans.{counted-still}
 
 abbrev left_plan : Session → Leaving → ℕ → Option AmqpError → Plan

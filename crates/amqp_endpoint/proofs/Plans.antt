@@ -1,24 +1,14 @@
 -- From what a check promises to a plan.
-use Rattle.std.proofs.Common.{◌≡◌, ◌≤◌, ℕ, ◌+◌, ◌*◌, ◌^◌, not, Bool, true, false, cond, Option, Some, None, Result, Ok, Err, List, [], ◌∷◌, refl, ap, sym, find, MatchResult, ⊎_elim, inl, inr, ◌⊎◌, arith, subst, ◌∙◌}
+use Rattle.std.proofs.Common.{◌≡◌, ◌≤◌, ℕ, ◌+◌, ◌*◌, ◌^◌, Bool, true, Option, Some, None, List, [], ◌∷◌, refl, ap, sym, find, ⊎_elim, inl, arith, subst, ◌∙◌}
 use Rattle.std.proofs.lemmas.Bool.{cases_Bool}
-use Rattle.amqp_performatives.specs.declared.performative.Performative.{Performative}
-use Rattle.amqp_links.specs.declared.fate.Fate.TheVariants.{Marked}
-use Rattle.amqp_links.specs.Marks.{with_marks}
-use Rattle.amqp_rules.specs.declared.reply.Given.{Given}
 use Rattle.amqp_rules.specs.declared.refusal.Refusal.{Refusal}
-use Rattle.amqp_rules.specs.declared.refusal.Refusal.TheVariants.{NoMemory}
 use Rattle.amqp_rules.specs.Carry.{size_so_far}
-use Rattle.amqp_rules.specs.View.{View, LinkView, SendingView, next_delivery, has_number, handle_of, change_first}
-use Rattle.amqp_rules.specs.OnLink.{on_link}
-use Rattle.amqp_rules.specs.Refusing.{first_refusal}
-use Rattle.amqp_rules.specs.Sending.{sends, frame_refused}
+use Rattle.amqp_rules.specs.View.{LinkView, SendingView, has_number, change_first}
 use Rattle.amqp_endpoint.specs.declared.endpoint.onlink.OnLink.{OnLink}
-use Rattle.amqp_endpoint.specs.declared.plan.Plan.{Plan}
 use Rattle.amqp_endpoint.specs.declared.plan.Session.{Session}
 use Rattle.amqp_deliveries.specs.declared.change.Change.{Change}
-use Rattle.amqp_deliveries.specs.declared.change.Change.TheVariants.{Stay}
 use Rattle.amqp_endpoint.specs.Stores.{StoresView}
-use Rattle.amqp_endpoint.specs.Plan.{IsPlan, IsSound, IsBegun, IsCounted, IsKept, IsShort, AreShortOn, IsExpectedNext, Plans, links_in, stores_in, view_of, next_id, sending_plan}
+use Rattle.amqp_endpoint.specs.Plan.{IsBegun, IsCounted, IsKept, IsShort, AreShortOn, IsExpectedNext, view_of, next_id}
 use Rattle.amqp_endpoint.specs.Taking.{IsTaken}
 
 same : {x y : LinkView} → ◌≡◌ {A = Option LinkView} (Some x) (Some y) → x ≡ y

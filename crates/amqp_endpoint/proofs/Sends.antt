@@ -1,9 +1,7 @@
 -- From what a check promises to a plan.
-use Rattle.std.proofs.Common.{◌≡◌, ℕ, ◌+◌, ◌⊎◌, inl, inr, not, Bool, true, false, cond, Option, Some, None, Result, Ok, Err, IsOk, List, [], ◌∷◌, refl, ap, find, MatchResult, ⊎_elim}
+use Rattle.std.proofs.Common.{◌≡◌, ℕ, ◌+◌, ◌⊎◌, inl, inr, Bool, Option, Some, None, Result, Ok, Err, List, refl, find, MatchResult, ⊎_elim}
 use Rattle.std.specs.Option.{option_or}
-use Rattle.std.proofs.lemmas.Bool.{cases_Bool}
 use Rattle.amqp_performatives.specs.declared.performative.Performative.{Performative}
-use Rattle.amqp_performatives.specs.declared.bodies.Role.{Role}
 use Rattle.amqp_links.specs.declared.fate.Fate.{Fate}
 use Rattle.amqp_links.specs.declared.fate.Fate.TheVariants.{Marked}
 use Rattle.amqp_links.specs.Fate.{changed}
@@ -22,7 +20,7 @@ use Rattle.amqp_endpoint.specs.declared.plan.Session.{Session}
 use Rattle.amqp_endpoint.specs.declared.plan.Plan.{Plan}
 use Rattle.amqp_endpoint.specs.declared.endpoint.onlink.OnLink.{OnLink}
 use Rattle.amqp_endpoint.specs.Stores.{told_after}
-use Rattle.amqp_endpoint.specs.Plan.{IsAlone, IsCounted, IsPlan, IsShort, IsSound, Plans, links_in, sending_plan, stores_in, tables_in, view_of}
+use Rattle.amqp_endpoint.specs.Plan.{IsAlone, IsCounted, IsShort, Plans, links_in, sending_plan, stores_in, tables_in, view_of}
 use Rattle.amqp_endpoint.specs.Taking.{IsTaken}
 use Rattle.amqp_endpoint.proofs.Plans.{change-alike}
 

@@ -1,9 +1,8 @@
 -- The plan of a delivery that begins.
-use Rattle.std.proofs.Common.{Ok, sym, ◌∙◌, ◌≡◌, ◌<◌, ◌≤◌, ℕ, ◌+◌, ◌*◌, ◌^◌, ◌==◌, ◌++◌, not, Bool, true, false, cond, Option, Some, None, Result, List, [], ◌∷◌, inl, inr, arith, refl, ap, find, is_some, length, map, ⊎_elim}
+use Rattle.std.proofs.Common.{Ok, sym, ◌∙◌, ◌≡◌, ◌<◌, ℕ, ◌+◌, ◌^◌, ◌==◌, not, Bool, true, false, Some, None, Result, List, [], ◌∷◌, inr, arith, refl, ap, find, is_some, length, map}
 use Rattle.std.proofs.lemmas.List.{append-nil}
-use Rattle.std.specs.List.{filter, list_any}
+use Rattle.std.specs.List.{filter}
 use Rattle.amqp_flow.specs.Serial.{wire}
-use Rattle.amqp_flow.specs.Windows.{windows_sent}
 use Rattle.amqp_events.specs.Event as event
 use Rattle.amqp_events.specs.Event.{Item}
 use Rattle.amqp_events.specs.Told.{SentItem, next_sent, next_sent_held}
@@ -12,19 +11,17 @@ use Rattle.amqp_deliveries.specs.Change.{is_tagged_as, tables_after}
 use Rattle.amqp_links.specs.Fate.{changed}
 use Rattle.amqp_performatives.specs.declared.bodies.Role.TheVariants.{Sender}
 use Rattle.amqp_links.specs.declared.fate.Fate.TheVariants.{Marked}
-use Rattle.amqp_links.specs.Marks.{with_marks}
 use Rattle.amqp_rules.specs.declared.refusal.Refusal.{Refusal}
 use Rattle.amqp_rules.specs.declared.refusal.Refusal.TheVariants.{NoMemory, NotAttached, WrongRole, InDelivery, TagHeld, SettleMode, NoCredit, NoWindow, MessageTooLong}
 use Rattle.amqp_rules.specs.declared.reply.Given.TheVariants.{Delivery}
 use Rattle.amqp_rules.specs.View.{View, LinkView, next_delivery, has_number, handle_of, rcv_mode, is_attached, is_too_long, max_of, same_role, snd_mode}
 use Rattle.amqp_rules.specs.Refusing.{first_refusal}
 use Rattle.amqp_rules.specs.Start.{begin_delivery, mode_forbids, next_start, sending_after, start_answer, start_body, start_refusals, tag_is_held}
-use Rattle.amqp_rules.specs.Deliveries.{begun_on}
 use Rattle.amqp_endpoint.specs.declared.plan.Session.{Session}
 use Rattle.amqp_endpoint.specs.declared.plan.Plan.{Plan}
 use Rattle.amqp_endpoint.specs.declared.endpoint.onlink.OnLink.{OnLink}
 use Rattle.amqp_endpoint.specs.Stores.{StoresView}
-use Rattle.amqp_endpoint.specs.Plan.{IsCounted, IsKept, IsPlan, IsShort, Plans, next_id, planned, tables_in, view_of}
+use Rattle.amqp_endpoint.specs.Plan.{IsCounted, IsKept, IsPlan, IsShort, Plans, planned, tables_in, view_of}
 use Rattle.amqp_endpoint.specs.Starting.{change_begun, item_begun, second_on, start_plan, started}
 use Rattle.amqp_endpoint.specs.declared.endpoint.start.Starting.{Starting}
 use Rattle.amqp_endpoint.specs.declared.done.Done.{Done}

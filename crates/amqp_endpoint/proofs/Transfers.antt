@@ -1,26 +1,22 @@
 -- The plan of a transfer that is heard.
-use Rattle.std.proofs.Common.{◌≡◌, ◌∙◌, sym, ℕ, ◌+◌, ◌<◌, ◌≤◌, ◌==◌, ◌&&◌, ◌||◌, ◌++◌, not, Bool, true, false, cond, Option, Some, None, Ok, List, [], ◌∷◌, inl, inr, arith, refl, ap, find, is_none, is_some, length, map, unwrap_or, ⊎_elim}
+use Rattle.std.proofs.Common.{◌≡◌, ◌∙◌, sym, ℕ, ◌+◌, ◌<◌, ◌==◌, ◌&&◌, ◌||◌, ◌++◌, not, Bool, true, false, cond, Option, Some, None, List, [], ◌∷◌, inl, inr, arith, refl, ap, find, is_none, is_some, map, unwrap_or, ⊎_elim}
 use Rattle.std.proofs.lemmas.Bool.{cases_Bool, eq-eqb, eqb-true, eqb-false}
 use Rattle.std.proofs.lemmas.List.{append-nil}
-use Rattle.std.specs.List.{filter, list_any}
 use Rattle.amqp_flow.specs.Serial.{wire}
 use Rattle.amqp_flow.specs.Credit.{delivery_begun}
 use Rattle.amqp_flow.specs.Windows.{windows_received}
-use Rattle.amqp_performatives.specs.declared.bodies.Role.{Role}
-use Rattle.amqp_performatives.specs.declared.bodies.Role.TheVariants.{Sender, Receiver}
+use Rattle.amqp_performatives.specs.declared.bodies.Role.TheVariants.{Receiver}
 use Rattle.amqp_performatives.specs.declared.bodies.TransferBody.{TransferBody}
-use Rattle.amqp_performatives.specs.declared.performative.Performative.TheVariants.{Transfer}
-use Rattle.amqp_performatives.specs.declared.state.DeliveryState.{DeliveryState}
 use Rattle.amqp_events.specs.Event as event
 use Rattle.amqp_events.specs.Event.{Event, Item}
-use Rattle.amqp_events.specs.Joined.{Delivery, Transferred, Open, Complete, Aborted, and_more, completed, first_of, next_delivery, next_unfinished}
-use Rattle.amqp_events.specs.Named.{has_id, ids_gone, ids_of}
-use Rattle.amqp_events.specs.Numbers.{id_used, is_expected, one_past}
-use Rattle.amqp_events.specs.Told.{SentItem, next_sent, next_sent_held}
-use Rattle.amqp_events.specs.Unsettled.{ends, next_held, said_to}
+use Rattle.amqp_events.specs.Joined.{Delivery, Open, Complete, Aborted, and_more, completed, first_of, next_delivery, next_unfinished}
+use Rattle.amqp_events.specs.Named.{has_id, ids_gone}
+use Rattle.amqp_events.specs.Numbers.{id_used, one_past}
+use Rattle.amqp_events.specs.Told.{SentItem, next_sent_held}
+use Rattle.amqp_events.specs.Unsettled.{next_held}
 use Rattle.amqp_deliveries.specs.declared.change.Change.{Change}
 use Rattle.amqp_deliveries.specs.declared.change.Change.TheVariants.{Stay, Begins, Continues}
-use Rattle.amqp_deliveries.specs.Change.{TablesView, ended_in, tables_after}
+use Rattle.amqp_deliveries.specs.Change.{ended_in}
 use Rattle.amqp_links.specs.declared.fate.Fate.{Fate}
 use Rattle.amqp_links.specs.declared.fate.Fate.TheVariants as fate
 use Rattle.amqp_links.specs.declared.marks.Marks.{Marks}
@@ -32,15 +28,18 @@ use Rattle.amqp_rules.specs.declared.reply.Given.{Given}
 use Rattle.amqp_rules.specs.declared.reply.Given.TheVariants.{Nothing, Ready}
 use Rattle.amqp_rules.specs.declared.violation.Violation.{Violation}
 use Rattle.amqp_rules.specs.View.{View, LinkView, takes_frames, has_number, has_peer_handle, change_first, rcv_mode, is_sender, same_role}
-use Rattle.amqp_rules.specs.Deliveries.{belongs_to, ended_by, item_of, transfer_on, transferred}
-use Rattle.amqp_rules.specs.PeerTransfer.{breaks_mode, breaks_size, credit_used, delivery_violations, given_by, heard_on, is_nameless, is_other, is_unexpected, name_violations, next_transfer, received_on, receives, tag_is_taken, transfer_answer, transfer_given, transfer_violations}
+use Rattle.amqp_rules.specs.Deliveries.{ended_by, item_of, transfer_on, transferred}
+use Rattle.amqp_rules.specs.PeerTransfer.{breaks_mode, breaks_size, credit_used, delivery_violations, given_by, heard_on, is_nameless, is_unexpected, name_violations, next_transfer, received_on, receives, tag_is_taken, transfer_answer, transfer_given, transfer_violations}
 use Rattle.amqp_rules.specs.Refusing.{first_refusal, of_link, unlinked}
 use Rattle.amqp_rules.specs.declared.violation.ViolationKind.TheVariants.{BadHandle, Window, MissingField, IdOrder, TagHeld, Mode, Credit, TooLong}
 use Rattle.amqp_endpoint.specs.declared.plan.Session.{Session}
 use Rattle.amqp_endpoint.specs.Stores.{StoresView, stores_after}
-use Rattle.amqp_endpoint.specs.Plan.{IsBegun, IsCounted, IsDue, IsExpectedNext, IsKept, IsPlan, IsShort, IsSound, flags_of, quiet_plan, view_of}
+use Rattle.amqp_endpoint.specs.Plan.{IsBegun, IsCounted, IsDue, IsExpectedNext, IsKept, IsPlan, IsSound, flags_of, quiet_plan, view_of}
+use Rattle.amqp_endpoint.specs.declared.endpoint.peer_transfer.Arriving.{Arriving}
+use Rattle.amqp_endpoint.specs.Arriving.{arriving_plan, begun_plan, change_by, heard_session}
+use Rattle.amqp_endpoint.specs.Doing.{session_in}
 use Rattle.amqp_endpoint.specs.Transferring.{change_heard, delivery_rows, first_rows, given_heard}
-use Rattle.amqp_endpoint.proofs.Plans.{change-alike, counted-still, short-found, shorter}
+use Rattle.amqp_endpoint.proofs.Plans.{change-alike, short-found, shorter}
 use Rattle.amqp_endpoint.proofs.Rows.{expects-same}
 use Rattle.amqp_endpoint.proofs.Flows.{stays-first}
 
@@ -363,3 +362,15 @@ later-plan k key id s st b payload l d m over i takes first left some same free 
     (rw same (later-given b l d left some))
     (rw (first.alone (heard_on b payload), change-alike (has_number l.number) (heard_on b payload) (with_heard m (transferred (rcv_mode l) b payload)) st.links.list l first.numbered (later-heard b payload l d m left some (marks-same l m marks))) refl)
     (record { fit = tt; short = rw marks.sending (shorter k _ (short-found k (has_peer_handle b.handle) st.links.list l i.short first.found)); counted = moved-on k s st s.expected (Continues Receiver id b.state over) i (expects-same s.expected) tt; alone = tt })
+
+-- # A first transfer that leaves its delivery unsettled
+
+pub begun-so : (v : View) (b : TransferBody) (payload : List ℕ) (a : Arriving) → a.first ≡ true → (unwrap_or b.settled false || unwrap_or b.aborted false) ≡ false → arriving_plan v b payload a ≡ begun_plan v b payload a
+begun-so v b payload a first over =
+    let g : ◌≡◌ {A = Change} (change_by a.first a.number a.mode a.id b) (Begins Receiver (item_of a.number (transferred a.mode b []) b.state)) = by a.first (unwrap_or b.settled false || unwrap_or b.aborted false) first over in
+    ap (λ (c : Change). quiet_plan (heard_session (session_in v) a.expected) (fate.Heard a.key a.number a.marks (transferred a.mode b payload)) c (given_heard a.number a.id b)) g
+  where
+    by : (x o : Bool) → x ≡ true → o ≡ false → cond x (change_heard o (item_of a.number (transferred a.mode b []) b.state)) (Continues Receiver a.id b.state o) ≡ Begins Receiver (item_of a.number (transferred a.mode b []) b.state)
+    by true false e f = refl
+    by true true e f = absurd (cc)
+    by false o e f = absurd (cc)

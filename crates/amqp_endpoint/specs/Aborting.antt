@@ -1,6 +1,6 @@
 -- An unfinished delivery that is given up (part 2, 2.7.5).
 use Rattle.std.specs.Prelude.{ℕ, ◌≡◌, Some}
-use Rattle.amqp_rules.specs.View.{View, SendingView}
+use Rattle.amqp_rules.specs.View.{View}
 use Rattle.amqp_rules.specs.Abort.{aborted, abort_refusals}
 use Rattle.amqp_endpoint.specs.declared.endpoint.abort.Aborted.{Aborted}
 use Rattle.amqp_endpoint.specs.Taking.{IsTaken}

@@ -1,5 +1,5 @@
 -- What the private checks of an attach promise.
-use Rattle.std.specs.Prelude.{ℕ, ◌≡◌, nat_lt, Bool, true, false, Option, Some, None, List, [], cond, find, is_some}
+use Rattle.std.specs.Prelude.{ℕ, ◌≡◌, nat_lt, true, false, Option, Some, None, List, [], cond, find, is_some}
 use Rattle.amqp_flow.specs.Credit.{count_given}
 use Rattle.amqp_performatives.specs.declared.performative.Performative.TheVariants.{Attach}
 use Rattle.amqp_links.specs.declared.fate.Fate.{Fate}
@@ -9,7 +9,7 @@ use Rattle.amqp_links.specs.Credits.{role_of}
 use Rattle.amqp_links.specs.Links.{IsFirst}
 use Rattle.amqp_links.specs.Marks.{with_marks}
 use Rattle.amqp_rules.specs.View.{View, LinkView, EndView, is_mapped, is_ours, is_offered_as, is_sender, free_handle, new_link}
-use Rattle.amqp_rules.specs.Attach.{own_attach, attach_sent, count_of, number_met, Wanted as Asked_for}
+use Rattle.amqp_rules.specs.Attach.{own_attach, attach_sent, count_of, Wanted as Asked_for}
 use Rattle.amqp_rules.specs.Sending.{frame_refused}
 use Rattle.amqp_endpoint.specs.declared.endpoint.attach.Wanted.{Wanted}
 use Rattle.amqp_endpoint.specs.declared.endpoint.attach.Place.{Place}

@@ -1,5 +1,5 @@
 -- A step that is done at once: what it gives, and what it leaves.
-use Rattle.std.specs.Prelude.{ℕ, ◌≡◌, Result, Ok, Err, List, map, option_to_list}
+use Rattle.std.specs.Prelude.{ℕ, ◌≡◌, Option, Result, Ok, Err, List, map, option_to_list}
 use Rattle.amqp_rules.specs.declared.reply.Reply.{Reply}
 use Rattle.amqp_rules.specs.declared.reply.Taken.{Taken}
 use Rattle.amqp_rules.specs.declared.reply.Learned.{Learned}
@@ -23,6 +23,16 @@ pub record IsDone {E : Type 0} (answer : Result Reply E) (after new : View) (d :
 abbrev pub Does : {E : Type 0} → E → Result Reply E → View → View → Result Done E → Type 0
 Does no_memory answer after new (Ok d) = IsDone answer after new d
 Does no_memory answer after new (Err e) = IsRefused no_memory answer e
+
+-- the same of a step that tells the application by its reply alone
+pub record IsDoneOnce {E : Type 0} (answer : Result Reply E) (after new : View) (reply : Reply) (octets : Option (List ℕ)) : Type 0 where
+  pub due : answer ≡ Ok reply
+  pub leaves : new ≡ after
+  pub sends : option_to_list octets ≡ map (λ s. s.bytes) reply.sent
+
+abbrev pub DoesOnce : {E : Type 0} → E → Result Reply E → View → View → Result (Reply × Option (List ℕ)) E → Type 0
+DoesOnce no_memory answer after new (Ok both) = IsDoneOnce answer after new both.0 both.1
+DoesOnce no_memory answer after new (Err e) = IsRefused no_memory answer e
 
 -- the session of a view
 abbrev pub session_in : View → Session

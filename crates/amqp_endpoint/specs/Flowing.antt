@@ -1,5 +1,5 @@
 -- Parts of what a heard flow leaves, as the private calls of the endpoint compute them.
-use Rattle.std.specs.Prelude.{ℕ, ◌≡◌, ◌&&◌, Bool, true, false, cond, Option, Some, None, []}
+use Rattle.std.specs.Prelude.{◌≡◌, ◌&&◌, Bool, true, false, cond, Option, Some, None, []}
 use Rattle.amqp_performatives.specs.declared.bodies.FlowBody.{FlowBody}
 use Rattle.amqp_flow.specs.Windows.{WindowsView, session_is_ahead, windows_begun, windows_heard, windows_renewed}
 use Rattle.amqp_performatives.specs.declared.performative.Performative.TheVariants.{Flow}

@@ -1,10 +1,9 @@
 -- A step as it is planned: its reply, and what it leaves.
-use Rattle.std.specs.Prelude.{ℕ, ◌≡◌, ◌≤◌, ◌+◌, ◌*◌, ◌^◌, ◌⊎◌, Bool, Option, Some, None, Result, Ok, Err, IsOk, MatchResult, List, [], ◌∷◌, option_to_list}
+use Rattle.std.specs.Prelude.{ℕ, ◌≡◌, ◌≤◌, ◌+◌, ◌*◌, ◌^◌, ◌⊎◌, Option, Some, None, Result, Ok, Err, IsOk, List, [], ◌∷◌, option_to_list}
 use Rattle.amqp_flow.specs.Serial.{wire, distance}
 use Rattle.amqp_events.specs.Event.{Item}
 use Rattle.amqp_performatives.specs.declared.performative.Performative.{Performative}
 use Rattle.amqp_performatives.specs.declared.bodies.Role.TheVariants.{Sender, Receiver}
-use Rattle.amqp_links.specs.declared.marks.Marks.{Marks}
 use Rattle.amqp_links.specs.declared.fate.Fate.{Fate}
 use Rattle.amqp_links.specs.declared.fate.Fate.TheVariants as fate
 use Rattle.amqp_rules.specs.declared.reply.Reply.{Reply}
@@ -16,7 +15,7 @@ use Rattle.amqp_rules.specs.Sending.{sent_of}
 use Rattle.amqp_endpoint.specs.declared.plan.Session.{Session}
 use Rattle.amqp_endpoint.specs.declared.plan.Plan.{Plan}
 use Rattle.amqp_deliveries.specs.declared.change.Change.{Change}
-use Rattle.amqp_deliveries.specs.declared.change.Change.TheVariants.{Stay, Begins, Continues, Says, Hears, Leaves, Over}
+use Rattle.amqp_deliveries.specs.declared.change.Change.TheVariants.{Begins, Says, Hears}
 use Rattle.amqp_deliveries.specs.Change.{TablesView, ended_in, held_items, is_tagged_as}
 use Rattle.amqp_endpoint.specs.Stores.{StoresView, stores_after}
 use Rattle.amqp_links.specs.Fate.{IsFit}

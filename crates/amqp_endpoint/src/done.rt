@@ -14,16 +14,39 @@ pub struct Done {
     pub given: Given,
 }
 
+impl Done {
+    /// Its reply and its octets, without what it tells once more.
+    pub(crate) fn once(self) -> (Reply, Option<Bytes>)
+        ensures reply { result.0 ≡ self.reply }
+        ensures octets { result.1 ≡ self.octets }
+    {
+        let Done {
+            reply,
+            octets,
+            given,
+        } = self;
+        drop(given);
+        (reply, octets)
+    }
+}
+
+/// A reply that sends nothing and ends nothing.
+pub(crate) fn quiet_reply(alloc: Global, given: Given) -> Reply
+    ensures { result ≡ record { sent = []; ended = []; given = given } }
+{
+    Reply {
+        sent: Items::new(alloc),
+        ended: Items::new(alloc),
+        given,
+    }
+}
+
 /// A step that sends nothing and ends nothing.
 pub(crate) fn quiet_done(alloc: Global, given: Given, once_more: Given) -> Done
     ensures { result ≡ record { reply = record { sent = []; ended = []; given = given }; octets = None; given = once_more } }
 {
     Done {
-        reply: Reply {
-            sent: Items::new(alloc),
-            ended: Items::new(alloc),
-            given,
-        },
+        reply: quiet_reply(alloc, given),
         octets: None,
         given: once_more,
     }

@@ -156,7 +156,7 @@ impl Stores {
     }
 
     /// A transfer is heard on the link, which has these marks, and begins a delivery. Where the link cannot follow, it is taken back.
-    fn arrive_first(
+    pub(crate) fn arrive_first(
         &mut self,
         key: usize,
         number: u32,

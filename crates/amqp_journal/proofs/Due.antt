@@ -15,13 +15,13 @@ use Rattle.amqp_rules.specs.Refusing.{unlinked, no_memory}
 use Rattle.amqp_rules.specs.View.{View}
 use Rattle.amqp_rules.specs.Answer.{own_answer, heard_answer, next_own, next_heard}
 use Rattle.amqp_endpoint.specs.declared.done.Done.{Done}
-use Rattle.amqp_endpoint.specs.Doing.{IsDone}
+use Rattle.amqp_endpoint.specs.Doing.{IsDone, IsDoneOnce}
 use Rattle.amqp_laws.specs.Lawful.{Answers, next}
 use Rattle.amqp_laws.specs.declared.entry.Step.{Step}
 use Rattle.amqp_laws.specs.declared.entry.Step.TheVariants.{Own, Heard}
 use Rattle.amqp_laws.specs.Past.{past}
 use Rattle.amqp_laws.specs.At.{at}
-use Rattle.amqp_journal.specs.Log.{Log, opened_due, own_due, heard_due, logging, Appends, IsRefusal}
+use Rattle.amqp_journal.specs.Log.{Log, opened_due, own_due, heard_due, logging, Appends, Extends, IsRefusal}
 use Rattle.amqp_journal.specs.Kept.{IsKept}
 
 not-full : (n limit : ℕ) → n < limit → nat_le limit n ≡ false
@@ -84,6 +84,13 @@ pub own-appends : (l new : Log) (v later : View) (queue : List (List ℕ)) (op :
     → IsDone (own_answer v op) (next_own v op) later d → step ≡ Own op → new ≡ logging l step d.reply → Appends l (Own op) (own_due l op) d.given new
 own-appends l new v later queue op step d k room done same n =
     appends l new (Own op) (own_due l op) d.reply d.given (own-open l v queue op k room ∙ done.due) (n ∙ (λ i. logging l (same i) d.reply)) done.given
+
+extends : {E : Type 0} (old new : Log) (step : Step) (due : Result Reply E) (reply : Reply) → due ≡ Ok reply → new ≡ logging old step reply → Extends old step due new
+extends {E} old new step due reply same log = subst (λ (x : Result Reply E). Extends old step x new) (sym same) log
+
+pub own-extends : (l new : Log) (v later : View) (queue : List (List ℕ)) (op : Op) (reply : Reply) (octets : Option (List ℕ)) → IsKept l v queue → length l.journal < l.config.journal_limit
+    → IsDoneOnce (own_answer v op) (next_own v op) later reply octets → new ≡ logging l (Own op) reply → Extends l (Own op) (own_due l op) new
+own-extends l new v later queue op reply octets k room done n = extends l new (Own op) (own_due l op) reply (own-open l v queue op k room ∙ done.due) n
 
 pub own-refused : (l : Log) (v : View) (queue : List (List ℕ)) (op : Op) (e : Refusal) → IsKept l v queue → length l.journal < l.config.journal_limit
     → (own_answer v op ≡ Err e) ⊎ (IsOk (own_answer v op) × (e ≡ NoMemory)) → IsRefusal NoMemory (own_due l op) e

@@ -56,6 +56,11 @@ abbrev pub Appends : {E : Type 0} → Log → Step → Result Reply E → Given 
 Appends old step (Ok reply) given new = (new ≡ logging old step reply) × (given ≡ reply.given)
 Appends old step (Err e) given new = ⊥
 
+-- the same where what it gives is told by the entry alone
+abbrev pub Extends : {E : Type 0} → Log → Step → Result Reply E → Log → Type 0
+Extends old step (Ok reply) new = new ≡ logging old step reply
+Extends old step (Err e) new = ⊥
+
 -- this refusal is due, or memory was refused where a reply is due
 abbrev pub IsRefusal : {E : Type 0} → E → Result Reply E → E → Type 0
 IsRefusal refused_memory answer e = (answer ≡ Err e) ⊎ (IsOk answer × (e ≡ refused_memory))

@@ -12,7 +12,7 @@ ghost use Rattle.amqp_laws.specs.At.{at};
 ghost use Rattle.amqp_laws.specs.Lawful.{IsLawful, NeverWithoutCredit};
 ghost use Rattle.amqp_laws.specs.DeliveryLaws.{AreLeft, NeverTwice, SendsSerials};
 ghost use Rattle.amqp_laws.specs.declared.entry.Step.TheVariants as step;
-ghost use Rattle.amqp_journal.specs.Log.{Log, Appends, IsRefusal, opened_due, own_due, heard_due, new_log, logging, putting, popping};
+ghost use Rattle.amqp_journal.specs.Log.{Log, Appends, Extends, IsRefusal, opened_due, own_due, heard_due, new_log, logging, putting, popping};
 ghost use Rattle.amqp_journal.specs.Units.{units, waiting, Stands, PutWithin, given_link, given_id};
 
 use crate::receipt::Receipt;
@@ -166,6 +166,43 @@ impl Logged {
         }
     }
 
+    /// Does an operation, which its entry keeps: one entry more, or a refusal that leaves all as it was. What it gives stands in the reply of
+    /// the entry, the journal's last. It costs what the endpoint's step costs: nothing is copied.
+    pub fn perform(&mut self, op: Op) -> Result<(), Refusal>
+        ensures step { OnOk result (Extends self.old (step.Own op) (own_due self.old op) self.new) }
+        ensures refusal { IfErr result (IsRefusal Refusal.NoMemory (own_due self.old op)) }
+        ensures err { OnErr result (self.new ≡ self.old) }
+    {
+        if self.journal.len() >= self.config.journal_limit as usize {
+            drop(op);
+            return Err(Refusal::JournalFull);
+        }
+        match room_for_one(&mut self.journal, &mut self.waiting) {
+            Ok(()) => {}
+            Err(_) => {
+                let refusal = own_refused(&self.endpoint, &op);
+                drop(op);
+                return Err(refusal);
+            }
+        }
+        laws();
+        match self.endpoint.own_once(&op) {
+            Ok(both) => {
+                let (reply, octets) = both;
+                self.journal.push_reserved(Entry {
+                    step: Step::Own(op),
+                    reply,
+                });
+                queue(&mut self.waiting, octets);
+                Ok(())
+            }
+            Err(refusal) => {
+                drop(op);
+                Err(refusal)
+            }
+        }
+    }
+
     /// Takes a frame that is heard: one entry more, or a violation that leaves all as it was. A full journal is told first, and want of
     /// memory last. Its cost is as that of `apply`.
     pub fn receive(&mut self, frame: &Frame) -> Result<Given, Violation>
@@ -285,6 +322,17 @@ fn heard_refused(endpoint: &Endpoint, frame: &Frame) -> Violation
         }
         Err(violation) => violation,
     }
+}
+
+/// Room for one entry and one unit more.
+fn room_for_one(journal: &mut Vec<Entry>, waiting: &mut VecDeque<Bytes>) -> Result<(), AllocError>
+    ensures journal { journal.new.items ≡ journal.old.items }
+    ensures waiting { waiting.new.items ≡ waiting.old.items }
+    ensures room { OnOk result (vec_len journal.new < vec_capacity journal.new) }
+    ensures place { OnOk result (deque_len waiting.new < deque_capacity waiting.new) }
+{
+    journal.reserve(1)?;
+    waiting.reserve(1)
 }
 
 /// Room for one entry and one unit more, and the step with its copy of the operation.

@@ -3,7 +3,7 @@ ghost use Rattle.std.specs.Prelude.{◌≡◌, ◌<◌, ◌^◌, Some, IfOk, OnE
 ghost use Rattle.amqp_rules.specs.Answer.{own_answer, next_own, heard_answer, next_heard};
 ghost use Rattle.amqp_performatives.specs.declared.performative.Performative.TheVariants.{Transfer};
 ghost use Rattle.amqp_rules.specs.Refusing.{no_memory};
-ghost use Rattle.amqp_endpoint.specs.Doing.{Does};
+ghost use Rattle.amqp_endpoint.specs.Doing.{Does, DoesOnce};
 ghost use Rattle.amqp_endpoint.specs.Plan.{IsRefused, IsSound, octets_sent, plan_reply, planned};
 
 use crate::done::Done;
@@ -11,8 +11,10 @@ use crate::endpoint::Endpoint;
 use crate::op::Op;
 use crate::plan::Plan;
 use crate::refusal::Refusal;
+use crate::reply::Reply;
 use crate::violation::{Violation, ViolationKind};
 use amqp_frames::{Frame, Performative, TransferBody};
+use bytes::Bytes;
 use std::alloc::AllocError;
 
 impl Endpoint {
@@ -99,6 +101,22 @@ impl Endpoint {
             Op::Learn { link } => self.learn(*link),
             Op::Take { link } => self.take(*link),
             _ => self.own_planned(op),
+        }
+    }
+
+    /// The same, where what it tells is wanted once: in the reply.
+    pub fn own_once(&mut self, op: &Op) -> Result<(Reply, Option<Bytes>), Refusal>
+        requires { self.old.steps < 2 ^ 30 }
+        ensures done { DoesOnce Refusal.NoMemory (own_answer self.old op.now) (next_own self.old op.now) self.new result }
+        ensures err { OnErr result (self.new ≡ self.old) }
+    {
+        match op {
+            Op::Learn { link } => self.learn_once(*link),
+            Op::Take { link } => self.take_once(*link),
+            _ => match self.own(op) {
+                Ok(done) => Ok(done.once()),
+                Err(refusal) => Err(refusal),
+            },
         }
     }
 

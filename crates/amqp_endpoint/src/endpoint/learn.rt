@@ -1,20 +1,21 @@
 //! Learn: the first thing that was told of a delivery on a link on which we send is given.
 ghost use Rattle.std.specs.Prelude.{◌≡◌, ◌<◌, ◌^◌, IfOk, MatchResult, OnErr};
 ghost use Rattle.amqp_rules.specs.Learn.{learn_answer, learned_of, next_learn};
-ghost use Rattle.amqp_endpoint.specs.Doing.{Does, learn_plan};
+ghost use Rattle.amqp_endpoint.specs.Doing.{Does, DoesOnce, learn_plan};
 ghost use Rattle.amqp_endpoint.specs.Plan.{IsPlan, IsRefused, Plans};
 
-use crate::done::{Done, quiet_done};
+use crate::done::{Done, quiet_done, quiet_reply};
 use crate::endpoint::Endpoint;
 use crate::endpoint::dispose::copy_state;
 use crate::plan::{Plan, plan_quiet};
 use crate::refusal::Refusal;
-use crate::reply::{Given, Learned};
+use crate::reply::{Given, Learned, Reply};
 use amqp_deliveries::{Change, Telling};
 use amqp_frames::Role;
 use amqp_links::credit::same_role;
 use amqp_links::fate::Fate;
 use amqp_types::Boxed;
+use bytes::Bytes;
 use std::alloc::AllocError;
 
 /// What is given of a thing that was told.
@@ -91,5 +92,20 @@ impl Endpoint {
             Given::Learned(learned),
             Given::Learned(once_more),
         ))
+    }
+
+    /// The same at once, where what it tells is wanted once.
+    pub(crate) fn learn_once(&mut self, link: u32) -> Result<(Reply, Option<Bytes>), Refusal>
+        requires { self.old.steps < 2 ^ 30 }
+        ensures done { DoesOnce Refusal.NoMemory (learn_answer self.old link) (next_learn self.old link) self.new result }
+        ensures err { OnErr result (self.new ≡ self.old) }
+    {
+        let (key, learned) = match self.first_learned(link) {
+            Ok(both) => both,
+            Err(refusal) => return Err(refusal),
+        };
+        self.stores.learn(key, link);
+        self.steps += 1;
+        Ok((quiet_reply(self.alloc, Given::Learned(learned)), None))
     }
 }

@@ -1,5 +1,5 @@
 //! A transfer that is heard (part 2, 2.6.12, 2.6.14 and 2.7.5).
-ghost use Rattle.std.specs.Prelude.{◌≡◌, ◌<◌, ◌&&◌, ◌||◌, ◌+◌, ◌^◌, ◌==◌, [], ◌∷◌, List, ℕ, true, false, None, Some, cond, is_none, length, unwrap_or, IfOk, MatchResult, OnErr};
+ghost use Rattle.std.specs.Prelude.{◌≡◌, ◌<◌, Err, ◌&&◌, ◌||◌, ◌+◌, ◌^◌, ◌==◌, [], ◌∷◌, List, ℕ, true, false, None, Some, cond, is_none, length, unwrap_or, IfOk, MatchResult, OnErr};
 ghost use Rattle.amqp_events.specs.Event.{PassesOver};
 ghost use Rattle.amqp_events.specs.Joined.{next_delivery};
 ghost use Rattle.amqp_events.specs.Numbers.{id_used, one_past};
@@ -14,7 +14,7 @@ ghost use Rattle.amqp_deliveries.specs.Change.{ended_in};
 ghost use Rattle.amqp_endpoint.specs.Doing.{Does};
 ghost use Rattle.amqp_endpoint.specs.Plan.{IsPlan, IsRefused, IsSound, Plans, plan_reply, planned};
 ghost use Rattle.amqp_rules.specs.declared.violation.Violation.{Violation};
-ghost use Rattle.amqp_endpoint.specs.Arriving.{arrival_plan, arrived_plan, arriving_plan, passed_plan};
+ghost use Rattle.amqp_endpoint.specs.Arriving.{arrival_plan, arrived_plan, arriving_plan, change_arriving, passed_plan};
 ghost use Rattle.amqp_endpoint.specs.Transferring.{IsGoing, breaks_snd, change_heard, given_heard, later_rows, first_rows, delivery_rows};
 ghost use Rattle.amqp_rules.specs.Deliveries.{item_of, transferred};
 ghost use Rattle.amqp_rules.specs.PeerTransfer.{breaks_mode, breaks_rcv_mode, breaks_size, delivery_violations, is_nameless, is_other, is_unexpected, name_violations, next_transfer, receives, tag_is_taken, transfer_answer, transfer_violations};
@@ -39,23 +39,23 @@ use amqp_links::link::Link;
 use amqp_links::marks::Marks;
 use amqp_types::{Items, Tag};
 use bytes::Bytes;
-use std::alloc::AllocError;
+use std::alloc::{AllocError, Global};
 
-/// A transfer that comes: its link and that link's marks after it, how it is kept, what it makes of the unsettled deliveries, the id that is
-/// expected next, and what the application is told.
-#[derive(Drop)]
+/// A transfer that comes: its link, that link's mode and its marks after it, whether a delivery begins and which id it has, and the id that is
+/// expected next. What owns memory is made of the transfer where it is used.
+#[derive(Clone, Copy)]
 pub(crate) struct Arriving {
     pub(crate) key: usize,
     pub(crate) number: u32,
-    pub(crate) marks: Marks,
-    pub(crate) piece: Piece,
-    pub(crate) change: Change,
+    pub(crate) mode: u8,
+    pub(crate) first: bool,
+    pub(crate) id: u32,
     pub(crate) expected: Option<u32>,
-    pub(crate) given: Given,
+    pub(crate) marks: Marks,
 }
 
 /// How a transfer comes.
-#[derive(Drop)]
+#[derive(Clone, Copy)]
 pub(crate) enum Arrival {
     /// It is passed over; this id is expected next.
     Passed(Option<u32>),
@@ -399,41 +399,26 @@ impl Endpoint {
     }
 
     /// The first transfer of a delivery.
-    fn make_first(
-        &self,
-        b: &TransferBody,
-        key: usize,
-        l: &Link,
-        payload: &Bytes,
-    ) -> Result<Arriving, Violation>
+    fn make_first(&self, b: &TransferBody, key: usize, l: &Link, payload: &Bytes) -> Arriving
         requires takes { takes_frames self.now.session ≡ true }
         requires found { IsFirst (has_peer_handle b.now.handle) self.now.links l.now }
         requires left { l.now.left ≡ false }
         requires none { l.now.receiving ≡ None }
         requires free { first_refusal (transfer_violations self.now b.now payload.now l.now) ≡ None }
-        ensures { MatchResult result (λ a. IsPlan {E = Violation} self.now (transfer_answer self.now b.now payload.now) (next_transfer self.now b.now payload.now) (arriving_plan self.now a)) (λ e. IsRefused no_memory (transfer_answer self.now b.now payload.now) e) }
+        ensures { IsPlan {E = Violation} self.now (transfer_answer self.now b.now payload.now) (next_transfer self.now b.now payload.now) (arriving_plan self.now b.now payload.now result) }
     {
         let _session = &self.session;
-        let Ok(payload) = payload.clone() else {
-            return Err(Violation::unlinked(ViolationKind::NoMemory));
-        };
-        let Ok(state) = copy_state(&b.state) else {
-            return Err(Violation::unlinked(ViolationKind::NoMemory));
-        };
-        let mode = l.rcv_mode();
-        let number = l.number();
+        let _size = payload.len();
         let id = b.delivery_id.unwrap_or(0);
-        let over = is_over(b);
-        let change = change_heard(over, item_of(number, mode, b, state));
-        Ok(Arriving {
+        Arriving {
             key,
-            number,
-            marks: marks_first(l),
-            piece: piece_of(mode, b, payload),
-            change,
+            number: l.number(),
+            mode: l.rcv_mode(),
+            first: true,
+            id,
             expected: one_past(id),
-            given: given_heard(number, id, b),
-        })
+            marks: marks_first(l),
+        }
     }
 
     /// A further transfer of the unfinished delivery.
@@ -444,37 +429,31 @@ impl Endpoint {
         l: &Link,
         id: u32,
         payload: &Bytes,
-    ) -> Result<Arriving, Violation>
+    ) -> Arriving
         requires takes { takes_frames self.now.session ≡ true }
         requires found { IsFirst (has_peer_handle b.now.handle) self.now.links l.now }
         requires left { l.now.left ≡ false }
         requires going { IsGoing id l.now.receiving }
         requires free { first_refusal (transfer_violations self.now b.now payload.now l.now) ≡ None }
-        ensures { MatchResult result (λ a. IsPlan {E = Violation} self.now (transfer_answer self.now b.now payload.now) (next_transfer self.now b.now payload.now) (arriving_plan self.now a)) (λ e. IsRefused no_memory (transfer_answer self.now b.now payload.now) e) }
+        ensures { IsPlan {E = Violation} self.now (transfer_answer self.now b.now payload.now) (next_transfer self.now b.now payload.now) (arriving_plan self.now b.now payload.now result) }
     {
-        let Ok(payload) = payload.clone() else {
-            return Err(Violation::unlinked(ViolationKind::NoMemory));
-        };
-        let Ok(state) = copy_state(&b.state) else {
-            return Err(Violation::unlinked(ViolationKind::NoMemory));
-        };
-        let number = l.number();
-        let over = is_over(b);
-        Ok(Arriving {
+        let _handle = b.handle;
+        let _size = payload.len();
+        Arriving {
             key,
-            number,
-            marks: l.marks(),
-            piece: piece_of(l.rcv_mode(), b, payload),
-            change: Change::Continues(Role::Receiver, id, state, over),
+            number: l.number(),
+            mode: l.rcv_mode(),
+            first: false,
+            id,
             expected: self.session.expected,
-            given: given_heard(number, id, b),
-        })
+            marks: l.marks(),
+        }
     }
 
     /// What a transfer violates, or how it comes. O(log n) for n links, beside the table of unsettled deliveries.
     fn arrival(&self, b: &TransferBody, payload: &Bytes) -> Result<Arrival, Violation>
         ensures window { IfOk result (λ a. 0 < self.now.windows.incoming) }
-        ensures plan { MatchResult result (λ a. IsPlan {E = Violation} self.now (transfer_answer self.now b.now payload.now) (next_transfer self.now b.now payload.now) (arrival_plan self.now a)) (λ e. IsRefused no_memory (transfer_answer self.now b.now payload.now) e) }
+        ensures plan { MatchResult result (λ a. IsPlan {E = Violation} self.now (transfer_answer self.now b.now payload.now) (next_transfer self.now b.now payload.now) (arrival_plan self.now b.now payload.now a)) (λ e. transfer_answer self.now b.now payload.now ≡ Err e) }
     {
         if !self.session.takes_frames() {
             return Err(Violation::unlinked(ViolationKind::OutOfSession));
@@ -489,14 +468,11 @@ impl Endpoint {
         if l.has_left() {
             return Ok(Arrival::Passed(self.make_passed(b, l, payload)));
         }
-        let made = match l.progress() {
+        let arriving = match l.progress() {
             Some(progress) => self.make_later(b, found.key, l, progress.id, payload),
             None => self.make_first(b, found.key, l, payload),
         };
-        match made {
-            Ok(arriving) => Ok(Arrival::Comes(arriving)),
-            Err(violation) => Err(violation),
-        }
+        Ok(Arrival::Comes(arriving))
     }
 
     /// A transfer that is heard.
@@ -508,7 +484,10 @@ impl Endpoint {
         ensures { Plans no_memory self.now (transfer_answer self.now b.now payload.now) (next_transfer self.now b.now payload.now) result }
     {
         match self.arrival(b, payload) {
-            Ok(arrival) => Ok(plan_arrival(self.session, arrival)),
+            Ok(arrival) => match plan_arrival(self.session, b, payload, arrival) {
+                Ok(plan) => Ok(plan),
+                Err(_) => Err(Violation::unlinked(ViolationKind::NoMemory)),
+            },
             Err(violation) => Err(violation),
         }
     }
@@ -527,53 +506,109 @@ impl Endpoint {
         quiet_done(self.alloc, Given::Nothing, Given::Nothing)
     }
 
-    /// The transfer comes.
-    fn come(&mut self, arriving: Arriving) -> Result<Done, AllocError>
+    /// The transfer comes, and an unsettled delivery begins.
+    fn come_first(
+        &mut self,
+        b: &TransferBody,
+        payload: &Bytes,
+        arriving: &Arriving,
+    ) -> Result<Done, AllocError>
+        requires begins { arriving.now.first ≡ true }
+        requires unsettled { (unwrap_or b.now.settled false || unwrap_or b.now.aborted false) ≡ false }
         requires steps { self.old.steps < 2 ^ 30 }
         requires window { 0 < self.old.windows.incoming }
-        requires sound { IsSound self.old (arriving_plan self.old arriving) }
-        ensures reply { IfOk result (λ d. d.reply ≡ plan_reply (arriving_plan self.old arriving) self.old) }
+        requires sound { IsSound self.old (arriving_plan self.old b.now payload.now arriving.now) }
+        ensures reply { IfOk result (λ d. d.reply ≡ plan_reply (arriving_plan self.old b.now payload.now arriving.now) self.old) }
         ensures octets { IfOk result (λ d. d.octets ≡ None) }
-        ensures given { IfOk result (λ d. d.given ≡ arriving.given) }
-        ensures next { IfOk result (λ d. self.new ≡ planned self.old (arriving_plan self.old arriving)) }
+        ensures given { IfOk result (λ d. d.given ≡ d.reply.given) }
+        ensures next { IfOk result (λ d. self.new ≡ planned self.old (arriving_plan self.old b.now payload.now arriving.now)) }
         ensures err { OnErr result (self.new ≡ self.old) }
     {
-        let Arriving {
-            key,
-            number,
-            marks,
+        let payload = payload.clone()?;
+        let state = copy_state(&b.state)?;
+        let piece = piece_of(arriving.mode, b, payload);
+        let item = item_of(arriving.number, arriving.mode, b, state);
+        match self.stores.arrive_first(
+            arriving.key,
+            arriving.number,
+            &arriving.marks,
             piece,
-            change,
-            expected,
-            given,
-        } = arriving;
-        let (ended, once_more) = match ending(&self.stores, &change, &given) {
+            Role::Receiver,
+            item,
+        ) {
+            Ok(()) => {}
+            Err(e) => return Err(e),
+        }
+        self.steps += 1;
+        self.session = session_heard(self.session, arriving.expected);
+        let ended = Items::new(self.alloc);
+        Ok(arrived_done(self.alloc, b, arriving, ended))
+    }
+
+    /// The transfer comes, and no unsettled delivery begins.
+    #[inline(never)]
+    fn come_on(
+        &mut self,
+        b: &TransferBody,
+        payload: &Bytes,
+        arriving: &Arriving,
+    ) -> Result<Done, AllocError>
+        requires steps { self.old.steps < 2 ^ 30 }
+        requires window { 0 < self.old.windows.incoming }
+        requires sound { IsSound self.old (arriving_plan self.old b.now payload.now arriving.now) }
+        ensures reply { IfOk result (λ d. d.reply ≡ plan_reply (arriving_plan self.old b.now payload.now arriving.now) self.old) }
+        ensures octets { IfOk result (λ d. d.octets ≡ None) }
+        ensures given { IfOk result (λ d. d.given ≡ d.reply.given) }
+        ensures next { IfOk result (λ d. self.new ≡ planned self.old (arriving_plan self.old b.now payload.now arriving.now)) }
+        ensures err { OnErr result (self.new ≡ self.old) }
+    {
+        let change = change_of(b, arriving)?;
+        let (ended, piece) = match pieces(&self.stores, b, payload, arriving, &change) {
             Ok(both) => both,
             Err(e) => {
-                drop(given);
                 drop(change);
-                drop(piece);
                 return Err(e);
             }
         };
-        match self.stores.arrive(key, number, &marks, piece, change) {
+        match self.stores.arrive(
+            arriving.key,
+            arriving.number,
+            &arriving.marks,
+            piece,
+            change,
+        ) {
             Ok(()) => {}
             Err(e) => {
                 drop(ended);
-                drop(once_more);
-                drop(given);
                 return Err(e);
             }
         }
         self.steps += 1;
-        self.session = session_heard(self.session, expected);
-        let sent = Items::new(self.alloc);
-        let reply = Reply { sent, ended, given };
-        Ok(Done {
-            reply,
-            octets: None,
-            given: once_more,
-        })
+        self.session = session_heard(self.session, arriving.expected);
+        Ok(arrived_done(self.alloc, b, arriving, ended))
+    }
+
+    /// The transfer comes.
+    fn come(
+        &mut self,
+        b: &TransferBody,
+        payload: &Bytes,
+        arriving: &Arriving,
+    ) -> Result<Done, AllocError>
+        requires steps { self.old.steps < 2 ^ 30 }
+        requires window { 0 < self.old.windows.incoming }
+        requires sound { IsSound self.old (arriving_plan self.old b.now payload.now arriving.now) }
+        ensures reply { IfOk result (λ d. d.reply ≡ plan_reply (arriving_plan self.old b.now payload.now arriving.now) self.old) }
+        ensures octets { IfOk result (λ d. d.octets ≡ None) }
+        ensures given { IfOk result (λ d. d.given ≡ d.reply.given) }
+        ensures next { IfOk result (λ d. self.new ≡ planned self.old (arriving_plan self.old b.now payload.now arriving.now)) }
+        ensures err { OnErr result (self.new ≡ self.old) }
+    {
+        if arriving.first && !is_over(b) {
+            self.come_first(b, payload, arriving)
+        } else {
+            self.come_on(b, payload, arriving)
+        }
     }
 
     /// A transfer that is heard, at once.
@@ -584,7 +619,7 @@ impl Endpoint {
     {
         match self.arrival(b, payload) {
             Ok(Arrival::Passed(expected)) => Ok(self.pass(expected)),
-            Ok(Arrival::Comes(arriving)) => match self.come(arriving) {
+            Ok(Arrival::Comes(arriving)) => match self.come(b, payload, &arriving) {
                 Ok(done) => Ok(done),
                 Err(_) => Err(Violation::unlinked(ViolationKind::NoMemory)),
             },
@@ -593,48 +628,81 @@ impl Endpoint {
     }
 }
 
-/// What a change ends, and once more what is given.
-fn ending(
-    stores: &Stores,
-    change: &Change,
-    given: &Given,
-) -> Result<(Items<(Role, u32)>, Given), AllocError>
-    ensures ended { IfOk result (λ both. both.0 ≡ ended_in change.now stores.now.tables) }
-    ensures given { IfOk result (λ both. both.1 ≡ given.now) }
+/// What a transfer gives that comes.
+fn arrived_done(
+    alloc: Global,
+    b: &TransferBody,
+    arriving: &Arriving,
+    ended: Items<(Role, u32)>,
+) -> Done
+    ensures { result ≡ record { reply = record { sent = []; ended = ended; given = given_heard arriving.now.number arriving.now.id b.now }; octets = None; given = given_heard arriving.now.number arriving.now.id b.now } }
 {
-    let once_more = given.clone()?;
+    Done {
+        reply: Reply {
+            sent: Items::new(alloc),
+            ended,
+            given: given_heard(arriving.number, arriving.id, b),
+        },
+        octets: None,
+        given: given_heard(arriving.number, arriving.id, b),
+    }
+}
+
+/// What the transfer makes of the unsettled deliveries.
+fn change_of(b: &TransferBody, arriving: &Arriving) -> Result<Change, AllocError>
+    ensures { IfOk result (λ c. c ≡ change_arriving b.now arriving.now) }
+{
+    let state = copy_state(&b.state)?;
+    let over = is_over(b);
+    match arriving.first {
+        true => Ok(change_heard(over, item_of(arriving.number, arriving.mode, b, state))),
+        false => Ok(Change::Continues(Role::Receiver, arriving.id, state, over)),
+    }
+}
+
+/// What a change ends, and the transfer as it is kept.
+fn pieces(
+    stores: &Stores,
+    b: &TransferBody,
+    payload: &Bytes,
+    arriving: &Arriving,
+    change: &Change,
+) -> Result<(Items<(Role, u32)>, Piece), AllocError>
+    ensures ended { IfOk result (λ both. both.0 ≡ ended_in change.now stores.now.tables) }
+    ensures piece { IfOk result (λ both. both.1 ≡ transferred arriving.now.mode b.now payload.now) }
+{
+    let payload = payload.clone()?;
     let ended = stores.tables.ended(change)?;
-    Ok((ended, once_more))
+    Ok((ended, piece_of(arriving.mode, b, payload)))
 }
 
 /// The plan of a transfer that comes so.
-fn plan_arrival(session: Session, arrival: Arrival) -> Plan
+fn plan_arrival(
+    session: Session,
+    b: &TransferBody,
+    payload: &Bytes,
+    arrival: Arrival,
+) -> Result<Plan, AllocError>
     requires { 0 < session.windows.incoming }
-    ensures { result ≡ arrived_plan session arrival }
+    ensures { IfOk result (λ p. p ≡ arrived_plan session b.now payload.now arrival) }
 {
     match arrival {
         Arrival::Passed(expected) => {
             let session = session_heard(session, expected);
-            plan_quiet(session, Fate::Stay, Change::Stay, Given::Nothing)
+            Ok(plan_quiet(session, Fate::Stay, Change::Stay, Given::Nothing))
         }
         Arrival::Comes(arriving) => {
-            let Arriving {
-                key,
-                number,
-                marks,
-                piece,
-                change,
-                expected,
-                given,
-            } = arriving;
-            let session = session_heard(session, expected);
+            let payload = payload.clone()?;
+            let change = change_of(b, &arriving)?;
             let fate = Fate::Heard {
-                key,
-                number,
-                marks,
-                piece,
+                key: arriving.key,
+                number: arriving.number,
+                marks: arriving.marks,
+                piece: piece_of(arriving.mode, b, payload),
             };
-            plan_quiet(session, fate, change, given)
+            let session = session_heard(session, arriving.expected);
+            let given = given_heard(arriving.number, arriving.id, b);
+            Ok(plan_quiet(session, fate, change, given))
         }
     }
 }

@@ -1,20 +1,21 @@
 //! Take: the first delivery that waits on a link on which we receive is given.
 ghost use Rattle.std.specs.Prelude.{◌≡◌, ◌<◌, ◌^◌, IfOk, MatchResult, OnErr};
 ghost use Rattle.amqp_rules.specs.Take.{take_answer, taken_of, next_take};
-ghost use Rattle.amqp_endpoint.specs.Doing.{Does, take_plan};
+ghost use Rattle.amqp_endpoint.specs.Doing.{Does, DoesOnce, take_plan};
 ghost use Rattle.amqp_endpoint.specs.Plan.{IsPlan, IsRefused, Plans};
 
-use crate::done::{Done, quiet_done};
+use crate::done::{Done, quiet_done, quiet_reply};
 use crate::endpoint::Endpoint;
 use crate::plan::{Plan, plan_quiet};
 use crate::refusal::Refusal;
-use crate::reply::{Given, Taken};
+use crate::reply::{Given, Reply, Taken};
 use amqp_deliveries::Change;
 use amqp_frames::Role;
 use amqp_links::arrival::Waiting;
 use amqp_links::credit::same_role;
 use amqp_links::fate::Fate;
 use amqp_types::Boxed;
+use bytes::Bytes;
 use std::alloc::AllocError;
 
 /// What is given of a delivery that waits on this link. A payload that came in one transfer is shared, else it is copied once.
@@ -89,5 +90,20 @@ impl Endpoint {
         self.stores.take(key, link);
         self.steps += 1;
         Ok(quiet_done(self.alloc, Given::Taken(taken), Given::Taken(once_more)))
+    }
+
+    /// The same at once, where what it tells is wanted once.
+    pub(crate) fn take_once(&mut self, link: u32) -> Result<(Reply, Option<Bytes>), Refusal>
+        requires { self.old.steps < 2 ^ 30 }
+        ensures done { DoesOnce Refusal.NoMemory (take_answer self.old link) (next_take self.old link) self.new result }
+        ensures err { OnErr result (self.new ≡ self.old) }
+    {
+        let (key, taken) = match self.first_taken(link) {
+            Ok(both) => both,
+            Err(refusal) => return Err(refusal),
+        };
+        self.stores.take(key, link);
+        self.steps += 1;
+        Ok((quiet_reply(self.alloc, Given::Taken(taken)), None))
     }
 }

@@ -1,4 +1,4 @@
-use Rattle.std.proofs.Common.{ap, inl, inr, refl, ◌∙◌}
+use Rattle.std.proofs.Common.{ap, inr, refl, ◌∙◌}
 use Rattle.amqp_rules.specs.Sending.{frame_of}
 use Rattle.amqp_endpoint.proofs.Sent.{refused-so, sent-so}
 use Rattle.amqp_endpoint.proofs.sending.write.Goals as goal

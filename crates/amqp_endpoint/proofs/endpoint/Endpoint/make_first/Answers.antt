@@ -1,3 +1,4 @@
+use Rattle.std.proofs.Common.{refl}
 use Rattle.amqp_endpoint.specs.Plan.{view_of}
 use Rattle.amqp_endpoint.proofs.Transfers.{first-free, first-plan, free-at}
 use Rattle.amqp_endpoint.proofs.endpoint.Endpoint.make_first.Goals as goal
@@ -10,16 +11,10 @@ returns c =
     rw (
       ← c.self.view_is,
       c.one_past.ensures,
-      c.given_heard.ensures,
-      c.change_heard-change.ensures,
-      c.item_of.ensures,
-      c.piece_of.ensures,
       c.unwrap_or-id.ensures,
-      c.number-number.ensures,
-      c.rcv_mode-mode.ensures,
-      c.in-Ok.ensures.cases,
-      c.in-Ok-copy_state.ensures,
+      c.number.ensures,
+      c.rcv_mode.ensures,
     )
-    (first-plan c.self.inside.steps c.args.key c.self.inside.session c.self.inside.stores c.args.b.now c.args.payload.now c.args.l.now c.marks_first.result c.is_over-over.result c.self.invariant
+    (first-plan c.self.inside.steps c.args.key c.self.inside.session c.self.inside.stores c.args.b.now c.args.payload.now c.args.l.now c.marks_first.result _ c.self.invariant
     (rw (← c.self.view_is) at c.requires.takes) (rw (← c.self.view_is) at c.requires.found) c.requires.left c.requires.none free
-    c.is_over-over.ensures (c.marks_first.ensures.marks f.receiver f.credit) c.marks_first.ensures.sending)
+    refl (c.marks_first.ensures.marks f.receiver f.credit) c.marks_first.ensures.sending)

@@ -1,3 +1,4 @@
+use Rattle.std.proofs.Common.{refl}
 use Rattle.amqp_endpoint.specs.Plan.{view_of}
 use Rattle.amqp_endpoint.proofs.Transfers.{later-plan, free-at}
 use Rattle.amqp_endpoint.proofs.endpoint.Endpoint.make_later.Goals as goal
@@ -8,13 +9,9 @@ returns c =
     let free = free-at v c.args.self.now c.args.b.now c.args.payload.now c.args.l.now c.self.view_is c.requires.free in
     rw (
       ← c.self.view_is,
-      c.given_heard.ensures,
-      c.piece_of.ensures,
-      c.number-number.ensures,
+      c.number.ensures,
       c.rcv_mode.ensures,
-      c.in-Ok.ensures.cases,
-      c.in-Ok-copy_state.ensures,
     )
-    (later-plan c.self.inside.steps c.args.key c.args.id c.self.inside.session c.self.inside.stores c.args.b.now c.args.payload.now c.args.l.now c.requires.going.of c.marks.result c.is_over-over.result c.self.invariant
+    (later-plan c.self.inside.steps c.args.key c.args.id c.self.inside.session c.self.inside.stores c.args.b.now c.args.payload.now c.args.l.now c.requires.going.of c.marks.result _ c.self.invariant
     (rw (← c.self.view_is) at c.requires.takes) (rw (← c.self.view_is) at c.requires.found) c.requires.left c.requires.going.is c.requires.going.id_is free
-    c.is_over-over.ensures c.marks.ensures)
+    refl c.marks.ensures)

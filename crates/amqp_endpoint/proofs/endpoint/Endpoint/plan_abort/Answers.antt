@@ -1,4 +1,3 @@
-use Rattle.std.proofs.Common.{sym}
 use Rattle.amqp_endpoint.proofs.Carried.{plan_aborted}
 use Rattle.amqp_endpoint.proofs.endpoint.Endpoint.plan_abort.Goals as goal
 

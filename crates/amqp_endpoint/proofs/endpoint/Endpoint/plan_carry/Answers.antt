@@ -1,4 +1,4 @@
-use Rattle.std.proofs.Common.{Ok, Err, refl, length, None, ap, ◌∙◌}
+use Rattle.std.proofs.Common.{Ok, Err, refl, length, None, ◌∙◌}
 use Rattle.amqp_rules.specs.Carry.{carry_on, carry_refusals, later_body}
 use Rattle.amqp_rules.specs.Telling.{flag}
 use Rattle.amqp_rules.specs.View.{handle_of}

@@ -1,8 +1,3 @@
-use Rattle.std.proofs.Common.{◌≡◌, None, [], ap, ◌∙◌}
-use Rattle.amqp_rules.specs.Dispose.{dispose_body, dispose_refusals}
-use Rattle.amqp_rules.specs.Refusing.{first_refusal}
-use Rattle.amqp_rules.specs.Sending.{frame_refused}
-use Rattle.amqp_rules.specs.View.{View}
 use Rattle.amqp_endpoint.specs.Saying.{said_in}
 use Rattle.amqp_endpoint.proofs.Disposing.{plan_said}
 use Rattle.amqp_endpoint.proofs.endpoint.Endpoint.plan_dispose.Goals as goal
