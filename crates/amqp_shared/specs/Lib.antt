@@ -3,3 +3,4 @@ pub mod Units
 pub mod Session
 pub mod Passes
 pub mod Growing
+pub mod Consuming

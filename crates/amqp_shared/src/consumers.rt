@@ -1,5 +1,7 @@
 //! Threads that take deliveries and settle them.
 ghost use Rattle.std.specs.Prelude.{◌≡◌, ℕ, ◌<◌, ◌^◌, map, slice_index_or, vec_len, IfOk, OnOk, OnErr};
+ghost use Rattle.std.specs.Sync.Mutex.{mutex_guard_value};
+ghost use Rattle.amqp_shared.specs.Consuming.{Tells, Disposes, Settles};
 ghost use Rattle.amqp_shared.specs.Passes.{Tally, Raised, StepsUpTo, raised};
 
 use crate::locked::Locked;
@@ -69,6 +71,7 @@ fn apply<N: Name>(
     pass: &mut Pass<N>,
     op: Op,
 ) -> Result<(), Refusal>
+    ensures tells { Tells (mutex_guard_value guard.old) op result (mutex_guard_value guard.new) }
     ensures ok { OnOk result (pass.new ≡ raised pass.old) }
     ensures err { OnErr result (pass.new ≡ pass.old) }
 {
@@ -83,8 +86,7 @@ fn apply<N: Name>(
     }
 }
 
-/// Tells the delivery's state, and settles it unless the sender is to settle first (part 2, 2.7.3); one that came settled is not told of. One
-/// that is no longer held was settled by the peer meanwhile.
+/// Tells the delivery's state, and settles it unless the sender is to settle first (part 2, 2.7.3); one that came settled is not told of.
 fn dispose<N: Name>(
     shared: &Shared<N>,
     guard: &mut MutexGuard<'_, Locked<N>>,
@@ -92,7 +94,8 @@ fn dispose<N: Name>(
     item: &Taken,
     state: DeliveryState,
 ) -> Result<(), Refusal>
-    ensures { StepsUpTo 1 pass.old pass.new }
+    ensures disposes { Disposes (mutex_guard_value guard.old) item.now state result (mutex_guard_value guard.new) }
+    ensures pass { StepsUpTo 1 pass.old pass.new }
 {
     if item.settled {
         drop(state);
@@ -105,13 +108,36 @@ fn dispose<N: Name>(
         settled: !item.second,
         state: Some(state),
     };
-    match apply(shared, guard, pass, op) {
-        Ok(()) | Err(Refusal::NothingHeld) => Ok(()),
+    apply(shared, guard, pass, op)
+}
+
+/// Disposes the delivery, unless it came settled, and grants the credit again. One that is no longer held was settled by the peer meanwhile.
+fn dispose_and_grant<N: Name>(
+    shared: &Shared<N>,
+    guard: &mut MutexGuard<'_, Locked<N>>,
+    pass: &mut Pass<N>,
+    item: &Taken,
+    state: DeliveryState,
+    credit: u32,
+) -> Result<(), Refusal>
+    ensures settles { Settles (mutex_guard_value guard.old) item.now state credit result (mutex_guard_value guard.new) }
+    ensures pass { StepsUpTo 2 pass.old pass.new }
+{
+    match dispose(shared, guard, pass, item, state) {
+        Ok(()) | Err(Refusal::NothingHeld) => {
+            let grant = Op::Grant {
+                link: item.link,
+                credit,
+                drain: false,
+                echo: false,
+            };
+            apply(shared, guard, pass, grant)
+        }
         Err(refusal) => Err(refusal),
     }
 }
 
-/// Disposes the delivery, unless it came settled, and grants the credit again.
+/// The same on the session that the lock lends.
 fn settle<N: Name, R: Wait>(
     rt: &R,
     shared: &Shared<N>,
@@ -123,18 +149,7 @@ fn settle<N: Name, R: Wait>(
     ensures { StepsUpTo 2 pass.old pass.new }
 {
     let mut guard = shared.lock(rt);
-    match dispose(shared, &mut guard, pass, item, state) {
-        Ok(()) => {
-            let grant = Op::Grant {
-                link: item.link,
-                credit,
-                drain: false,
-                echo: false,
-            };
-            apply(shared, &mut guard, pass, grant)
-        }
-        Err(refusal) => Err(refusal),
-    }
+    dispose_and_grant(shared, &mut guard, pass, item, state, credit)
 }
 
 /// Takes, consumes, disposes and grants, until an operation is refused.

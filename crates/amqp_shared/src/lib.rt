@@ -56,8 +56,6 @@ mod receipt;
 mod refused;
 mod seed;
 mod shared;
-#[cfg(test)]
-mod tests;
 mod waiting;
 mod writer;
 

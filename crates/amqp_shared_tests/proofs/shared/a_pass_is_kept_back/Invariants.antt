@@ -1,4 +1,4 @@
-use Rattle.amqp_shared.proofs.tests.a_pass_is_kept_back.Given as goal
+use Rattle.amqp_shared_tests.proofs.shared.a_pass_is_kept_back.Given as goal
 
 abbrev pub ghosts-kept_back-N-Ledger : goal.ghosts-kept_back-N-Ledger
 ghosts-kept_back-N-Ledger g a = record { name = a.seed.name; parts = a.seed.parts }

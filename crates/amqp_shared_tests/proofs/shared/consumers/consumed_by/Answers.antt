@@ -2,7 +2,7 @@ use denote.Param.{param}
 use denote.Param.Send.{sendable}
 use Rattle.std.proofs.Crossing.{crosses}
 use Rattle.amqp_shared.proofs.Crossing.{shared_sync}
-use Rattle.amqp_shared.proofs.tests.consumed_by.Goals as goal
+use Rattle.amqp_shared_tests.proofs.shared.consumers.consumed_by.Goals as goal
 
 pub run_consumers-requires-send-W : goal.run_consumers-requires-send-W
 run_consumers-requires-send-W g c κs within =

@@ -1,4 +1,4 @@
-use Rattle.amqp_shared.proofs.tests.two_consumers_at_once.Given as goal
+use Rattle.amqp_shared_tests.proofs.shared.consumers.two_consumers_at_once.Given as goal
 
 abbrev pub ghosts-two_at_once-N-Ledger : goal.ghosts-two_at_once-N-Ledger
 ghosts-two_at_once-N-Ledger g a = record { name = a.seed.name; parts = a.seed.parts }

@@ -1,4 +1,4 @@
-use Rattle.amqp_shared.proofs.tests.calls_wait_for_what_comes.Given as goal
+use Rattle.amqp_shared_tests.proofs.shared.calls_wait_for_what_comes.Given as goal
 
 abbrev pub ghosts-waits-N-Ledger : goal.ghosts-waits-N-Ledger
 ghosts-waits-N-Ledger g a = record { name = a.seed.name; parts = a.seed.parts }

@@ -1,0 +1,236 @@
+//! What no clause says of consumers: what ends them, what they do with each delivery, and that they run at once.
+ghost use Rattle.std.specs.Prelude.{◌≡◌, vec_len};
+ghost use Rattle.amqp_shared.specs.Passes.{IsNamed};
+
+use super::{GREETING, comes_to, does, hear, left_and_taken, seed};
+use amqp_frames::{DeliveryState, Role};
+use amqp_journal::receipt::Receipt;
+use amqp_rules::op::Op;
+use amqp_rules::refusal::Refusal;
+use amqp_rules::reply::Taken;
+use amqp_shared::{Closed, Consumed, Name, Pass, Seed, Shared, Work, open_shared, run_consumers};
+use amqp_types::Text;
+use std::alloc::{AllocError, Global};
+use std::marker::Brand;
+use std::process::Abort;
+use std::sync::Wait;
+use std::test::Fail;
+use std::thread::Threads;
+
+/// The peer's begin, and its attach of a link on which it sends.
+const SESSION: [u8; 56] = [
+    0, 0, 0, 0x1c, 2, 0, 0, 0, 0, 0x53, 0x11, 0xc0, 0x0f, 4, 0x60, 0, 0, 0x43, 0x70, 0, 0, 8, 0,
+    0x70, 0x7f, 0xff, 0xff, 0xff, 0, 0, 0, 0x1c, 2, 0, 0, 0, 0, 0x53, 0x12, 0xc0, 0x0f, 0x0a, 0xa1,
+    1, 0x71, 0x43, 0x42, 0x50, 2, 0x50, 0, 0x40, 0x40, 0x40, 0x40, 0x43,
+];
+
+/// A delivery that does not come settled, and one that does.
+const DELIVERIES: [u8; 44] = [
+    0, 0, 0, 0x15, 2, 0, 0, 0, 0, 0x53, 0x14, 0xc0, 7, 4, 0x43, 0x43, 0xa0, 1, 1, 0x43, 0x78, 0, 0,
+    0, 0x17, 2, 0, 0, 0, 0, 0x53, 0x14, 0xc0, 9, 5, 0x43, 0x52, 1, 0xa0, 1, 2, 0x43, 0x41, 0x78,
+];
+
+/// An end that receives on link 1, where a delivery of receiving mode second and one that came settled are ready.
+fn with_deliveries<N: Name, R: Wait + Abort>(
+    rt: &R,
+    alloc: Global,
+    shared: &Shared<N>,
+    pass: &mut Pass<N>,
+) -> Result<(), Fail> {
+    hear(rt, shared, pass, &GREETING);
+    assert!(rt; does(rt, shared, pass, &Op::Begin).is_some());
+    hear(rt, shared, pass, &SESSION[..28]);
+    assert!(rt; does(rt, shared, pass, &attach(alloc, "p")?).is_some());
+    hear(rt, shared, pass, &SESSION[28..]);
+    assert!(rt; does(rt, shared, pass, &attach(alloc, "q")?).is_some());
+    assert!(rt; does(rt, shared, pass, &grant()).is_some());
+    hear(rt, shared, pass, &DELIVERIES);
+    Ok(())
+}
+
+fn attach(alloc: Global, name: &str) -> Result<Op, AllocError> {
+    Ok(Op::Attach {
+        name: Text::new(alloc, name)?,
+        role: Role::Receiver,
+        snd: 2,
+        rcv: 1,
+        source: None,
+        target: None,
+        count: 0,
+        max_message: 0,
+    })
+}
+
+/// Two deliveries may begin on link 1.
+fn grant() -> Op {
+    Op::Grant {
+        link: 1,
+        credit: 2,
+        drain: false,
+        echo: false,
+    }
+}
+
+/// Accepts all, and ends the connection once it has had two.
+struct Ending<'a, N: Name, R: Wait> {
+    rt: &'a R,
+    shared: &'a Shared<N>,
+    had: u64,
+}
+
+impl<'a, N: Name, R: Wait> Drop for Ending<'a, N, R> {
+    fn drop(self) {
+        let Ending {
+            rt: _,
+            shared: _,
+            had: _,
+        } = self;
+    }
+}
+
+impl<'a, N: Name, R: Wait> Work for Ending<'a, N, R> {
+    fn consume(&mut self, _item: &Taken) -> DeliveryState {
+        self.had = self.had.saturating_add(1);
+        if self.had == 2 {
+            let mut guard = self.shared.lock(self.rt);
+            self.shared.lost(&mut guard);
+        }
+        DeliveryState::Accepted
+    }
+}
+
+#[test]
+fn one_of_mode_second_and_a_settled_one(rt: HostRuntime) -> Result<(), Fail> {
+    settled_and_second::<Brand, HostRuntime>(&rt, rt.alloc(), seed(rt.alloc(), 4)?)
+}
+
+fn settled_and_second<N: Name + Send + Sync, R: Threads + Wait + Abort + Sync>(
+    rt: &R,
+    alloc: Global,
+    seed: Seed,
+) -> Result<(), Fail>
+    requires { IsNamed seed N.name N.parts N.ring }
+{
+    let (shared, mut pass, writer) = open_shared::<N>(seed);
+    with_deliveries(rt, alloc, &shared, &mut pass)?;
+    let own = pass.split().ok_or("no part")?;
+    let (own, count, stopped) = ended_by_two(rt, alloc, &shared, own)?;
+    assert_eq!(rt; (count, stopped), (2, Refusal::NotRunning));
+    assert_eq!(rt; own.made(), 4);
+    let mut passes = Vec::new(alloc);
+    passes.push(pass)?;
+    passes.push(own)?;
+    let closed = left_and_taken(shared, passes, writer).ok_or("not closed")?;
+    assert_eq!(rt; closed.conn.logged().journal().len(), 13);
+    let accepted = Op::Dispose {
+        role: Role::Receiver,
+        first: 0,
+        last: 0,
+        settled: false,
+        state: Some(DeliveryState::Accepted),
+    };
+    assert!(rt; stands_at(&closed, &accepted, 10));
+    assert!(rt; stands_at(&closed, &grant(), 11));
+    Ok(())
+}
+
+/// The journal has this operation at this place, and it gave neither a link nor a delivery.
+fn stands_at(closed: &Closed, op: &Op, place: u64) -> bool {
+    let receipt = Receipt {
+        place,
+        link: None,
+        id: None,
+    };
+    closed.conn.logged().stands(op, &receipt)
+}
+
+/// One consumer that ends the connection once it has had two: its pass, how many it consumed, and what stopped it.
+fn ended_by_two<N: Name + Send + Sync, R: Threads + Wait + Abort + Sync>(
+    rt: &R,
+    alloc: Global,
+    shared: &Shared<N>,
+    pass: Pass<N>,
+) -> Result<(Pass<N>, u64, Refusal), Fail> {
+    let mut passes = Vec::new(alloc);
+    passes.push(pass)?;
+    let mut works = Vec::new(alloc);
+    works.push(Ending { rt, shared, had: 0 })?;
+    let mut done = run_consumers(rt, shared, passes, works, 1, 2)?;
+    let consumed = done.pop().ok_or("nothing consumed")?;
+    Ok((consumed.pass, consumed.count, consumed.stopped))
+}
+
+/// Holds the first delivery until the journal has the step that follows the second's answer.
+struct Meeting<'a, N: Name, R: Wait> {
+    rt: &'a R,
+    shared: &'a Shared<N>,
+    met: bool,
+}
+
+impl<'a, N: Name, R: Wait> Drop for Meeting<'a, N, R> {
+    fn drop(self) {
+        let Meeting {
+            rt: _,
+            shared: _,
+            met: _,
+        } = self;
+    }
+}
+
+impl<'a, N: Name, R: Wait> Work for Meeting<'a, N, R> {
+    fn consume(&mut self, item: &Taken) -> DeliveryState {
+        if item.id > 0 {
+            self.met = true;
+            return DeliveryState::Accepted;
+        }
+        self.met = comes_to(self.rt, self.shared, 12);
+        let mut guard = self.shared.lock(self.rt);
+        self.shared.lost(&mut guard);
+        DeliveryState::Accepted
+    }
+}
+
+#[test]
+fn two_consumers_at_once(rt: HostRuntime) -> Result<(), Fail> {
+    two_at_once::<Brand, HostRuntime>(&rt, rt.alloc(), seed(rt.alloc(), 4)?)
+}
+
+fn two_at_once<N: Name + Send + Sync, R: Threads + Wait + Abort + Sync>(
+    rt: &R,
+    alloc: Global,
+    seed: Seed,
+) -> Result<(), Fail>
+    requires { IsNamed seed N.name N.parts N.ring }
+{
+    let (shared, mut pass, _) = open_shared::<N>(seed);
+    with_deliveries(rt, alloc, &shared, &mut pass)?;
+    let mut passes = Vec::new(alloc);
+    let mut works = Vec::new(alloc);
+    for _ in 0..2u8 {
+        passes.push(pass.split().ok_or("no part")?)?;
+        works.push(Meeting {
+            rt,
+            shared: &shared,
+            met: false,
+        })?;
+    }
+    let mut count = 0u64;
+    for consumed in consumed_by(rt, &shared, passes, works)? {
+        assert!(rt; consumed.work.met);
+        assert_eq!(rt; consumed.stopped, Refusal::NotRunning);
+        count = count.saturating_add(consumed.count);
+    }
+    assert_eq!(rt; count, 2);
+    Ok(())
+}
+
+fn consumed_by<'a, N: Name + Send + Sync, R: Threads + Wait + Abort + Sync>(
+    rt: &'a R,
+    shared: &'a Shared<N>,
+    passes: Vec<Pass<N>>,
+    works: Vec<Meeting<'a, N, R>>,
+) -> Result<Vec<Consumed<N, Meeting<'a, N, R>>>, AllocError>
+    requires { vec_len passes ≡ vec_len works }
+{
+    run_consumers(rt, shared, passes, works, 1, 2)
+}
