@@ -1,3 +1,4 @@
 pub mod Cuts
 pub mod Decimal
+pub mod Entries
 pub mod KnownOctets

@@ -1,15 +1,23 @@
-//! `amqp_script`: lines of text that drive one end of a connection, and the text of its answers.
+//! `amqp_script`: lines of text that drive one end of a connection, and the text of its answers; and the commands of programs that do so.
 //!
 //! | module | what it holds |
 //! |---|---|
 //! | `lines` | the lines of an input, one after the other |
 //! | `line`, `words` | what a line says |
 //! | `answer` | the text of an answer |
+//! | `script` | the command `script`: an endpoint with its journal that lines drive |
+//! | `frames` | the command `frames`: octets in hexadecimal, framed and named |
+//! | `driven` | the command `conn`: a whole connection that lines drive, with its options |
+//! | `feeding` | one feed of a loop of feeds |
 #![tactic(auto)]
 
 pub mod answer;
+pub mod driven;
+pub mod feeding;
+pub mod frames;
 pub mod line;
 pub mod lines;
+pub mod script;
 pub mod words;
 
 pub use answer::Answer;

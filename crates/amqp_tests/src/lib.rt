@@ -10,6 +10,7 @@
 //! | `frames` | frames written and read, however they are cut |
 //! | `deliveries` | unsettled deliveries, and deliveries that are cut over transfers |
 //! | `conn` | a whole connection |
+//! | `script`, `driven` | an endpoint and a connection that lines drive |
 #![tactic(auto)]
 
 #[cfg(test)]
@@ -19,10 +20,14 @@ mod decoder;
 #[cfg(test)]
 mod deliveries;
 #[cfg(test)]
+mod driven;
+#[cfg(test)]
 mod flow;
 #[cfg(test)]
 mod frames;
 #[cfg(test)]
 mod performatives;
+#[cfg(test)]
+mod script;
 #[cfg(test)]
 mod types;
