@@ -3,6 +3,7 @@ ghost use Rattle.std.specs.Prelude.{IfOk};
 ghost use Rattle.amqp_peer.specs.Requests.{IsAllowed};
 
 use amqp_endpoint::config::{Config, MAX_JOURNAL_LIMIT};
+use amqp_pair::{MAX_CONSUMERS, MAX_COUNT, MAX_CREDIT, MAX_SIZE, Options};
 use clap::error::ErrorKind;
 use clap::{Arg, ArgMatches, Command, Error, value_parser};
 use std::alloc::{AllocError, Global};
@@ -15,6 +16,8 @@ pub enum Request {
     Script(Config),
     /// A run of `frames`.
     Frames,
+    /// A run of `pair`.
+    Pair(Options),
 }
 
 /// What the words ask for, the first of which is the program's name. The error holds what is to be told: a fault of
@@ -27,9 +30,16 @@ pub fn read_request<'a, S: AsStr>(alloc: Global, words: &'a [S]) -> Result<Reque
     if matches.subcommand_matches("frames").is_some() {
         return Ok(Request::Frames);
     }
-    let config = script_config(&matches);
-    if config.is_within_limits() {
-        return Ok(Request::Script(config));
+    if let Some(options) = matches.subcommand_matches("pair") {
+        let options = pair_options(options);
+        if options.are_in_range() {
+            return Ok(Request::Pair(options));
+        }
+    } else {
+        let config = script_config(&matches);
+        if config.is_within_limits() {
+            return Ok(Request::Script(config));
+        }
     }
     Err(command.error(ErrorKind::ValueValidation, "an option is out of its range")?)
 }
@@ -47,7 +57,64 @@ fn program<'a>(alloc: Global) -> Result<Command<'a>, AllocError> {
         .about("One end of an AMQP 1.0 connection")
         .subcommand_required(true)
         .subcommand(script)?
-        .subcommand(frames)
+        .subcommand(frames)?
+        .subcommand(pair(alloc)?)
+}
+
+fn pair<'a>(alloc: Global) -> Result<Command<'a>, AllocError> {
+    Command::new(alloc, "pair")
+        .about("Sends messages from one end of a connection to another, over the loopback")
+        .arg(number(alloc, "count", "How many messages", 1, MAX_COUNT)?)?
+        .arg(number(
+            alloc,
+            "consumers",
+            "How many threads consume them",
+            1,
+            MAX_CONSUMERS,
+        )?)?
+        .arg(number(
+            alloc,
+            "credit",
+            "How many messages may come at a time",
+            1,
+            MAX_CREDIT,
+        )?)?
+        .arg(number(alloc, "size", "The octets of a message", 0, MAX_SIZE)?)?
+        .arg(number(
+            alloc,
+            "first-id",
+            "The first transfer id and delivery id",
+            0,
+            u32::MAX,
+        )?)
+}
+
+/// An option that has to be there: a number between these.
+fn number<'a>(
+    alloc: Global,
+    name: &'static str,
+    help: &'static str,
+    least: u32,
+    most: u32,
+) -> Result<Arg<'a>, AllocError> {
+    Ok(
+        Arg::new(alloc, name)
+            .long(name)
+            .value_name("N")
+            .value_parser(value_parser!(u32).range(i64::from(least)..=i64::from(most)))
+            .required(true)
+            .help(help),
+    )
+}
+
+fn pair_options(options: &ArgMatches<'_>) -> Options {
+    Options {
+        count: options.get_one::<u32>("count").unwrap_or(1),
+        consumers: options.get_one::<u32>("consumers").unwrap_or(1),
+        credit: options.get_one::<u32>("credit").unwrap_or(1),
+        size: options.get_one::<u32>("size").unwrap_or(0),
+        first_id: options.get_one::<u32>("first-id").unwrap_or(0),
+    }
 }
 
 fn first_id<'a>(alloc: Global) -> Result<Arg<'a>, AllocError> {

@@ -3,8 +3,9 @@
 //! | module | what it holds |
 //! |---|---|
 //! | `command_line` | the commands and their options |
-//! | `frames` | the command `frames`: octets in hexadecimal, framed and named |
-//! | `script` | the command `script`: lines of text on one journal, one answer each |
+//! | `amqp_script::frames` | the command `frames`: octets in hexadecimal, framed and named |
+//! | `amqp_script::script` | the command `script`: lines of text on one journal, one answer each |
+//! | `amqp_pair` | the command `pair`: two ends of a connection over the loopback |
 //!
 //! | exit status | where |
 //! |---|---|
@@ -14,18 +15,20 @@
 #![tactic(auto)]
 
 pub mod command_line;
-pub mod frames;
-pub mod script;
 #[cfg(test)]
 mod tests;
 
+use amqp_pair::run_pair;
 use amqp_script::Outcome;
+use amqp_script::frames::{Framed, Octets, run_frames};
+use amqp_script::script::run_script;
 use command_line::{Request, read_request};
-use frames::{Framed, Octets, run_frames};
-use script::run_script;
 use std::env::Env;
 use std::io::{BufReader, BufWriter};
+use std::net::{Net, TcpStream};
 use std::process::ExitCode;
+use std::sync::Wait;
+use std::thread::Threads;
 use std::{env, io};
 
 const FAULT: u8 = 1;
@@ -47,7 +50,7 @@ fn main(rt: HostRuntime) -> ExitCode {
 
 fn run<R>(rt: &R) -> anyhow::Result<ExitCode>
 where
-    R: AllocGlobal + Env + Input + Print + Eprint,
+    R: AllocGlobal + Env + Input + Print + Eprint + Net<Stream = TcpStream> + Threads + Wait + Sync,
 {
     let words: Vec<String> = env::args(rt)?.collect(rt.alloc())?;
     match read_request(rt.alloc(), words.as_slice()) {
@@ -62,6 +65,11 @@ where
             let mut writer = BufWriter::new(rt.alloc(), io::writer(rt))?;
             let outcome = run_frames(rt.alloc(), &mut reader, &mut writer)?;
             Ok(status_of_frames(outcome))
+        }
+        Ok(Request::Pair(options)) => {
+            let mut writer = BufWriter::new(rt.alloc(), io::writer(rt))?;
+            run_pair(rt, rt.alloc(), &options, &mut writer)?;
+            Ok(ExitCode::SUCCESS)
         }
         Err(error) => {
             error.print(rt)?;

@@ -2,6 +2,7 @@
 
 use crate::command_line::{Request, read_request};
 use amqp_endpoint::config::Config;
+use amqp_pair::Options;
 use std::test::Fail;
 
 #[test]
@@ -24,7 +25,11 @@ fn command_lines(rt: HostRuntime) -> Result<(), Fail> {
         assert_eq!(rt; error.exit_code(), 2);
         assert!(rt; error.use_stderr());
     }
-    let helps: [&[&str]; 2] = [&["amqp_peer", "--help"], &["amqp_peer", "script", "-h"]];
+    let helps: [&[&str]; 3] = [
+        &["amqp_peer", "--help"],
+        &["amqp_peer", "script", "-h"],
+        &["amqp_peer", "pair", "--help"],
+    ];
     for words in helps {
         let Err(error) = read_request(alloc, words) else {
             return Err(Fail::new("help was read"));
@@ -74,5 +79,73 @@ fn settings(rt: HostRuntime) -> Result<(), Fail> {
         };
         assert_eq!(rt; request, Request::Script(config));
     }
+    Ok(())
+}
+
+/// The words of a run of `pair`, with one option and its value in place of that option's.
+fn pair_words<'a>(option: &'a str, value: &'a str) -> [&'a str; 12] {
+    let mut words = [
+        "amqp_peer",
+        "pair",
+        "--count",
+        "100000",
+        "--consumers",
+        "16",
+        "--credit",
+        "1000",
+        "--size",
+        "1000000",
+        "--first-id",
+        "4294967295",
+    ];
+    for place in [2, 4, 6, 8, 10] {
+        if words[place] == option {
+            words[place + 1] = value;
+        }
+    }
+    words
+}
+
+#[test]
+fn pair_settings(rt: HostRuntime) -> Result<(), Fail> {
+    let request = read_request(rt.alloc(), &pair_words("--size", "0"))?;
+    let options = Options {
+        count: 100000,
+        consumers: 16,
+        credit: 1000,
+        size: 0,
+        first_id: 4294967295,
+    };
+    assert_eq!(rt; request, Request::Pair(options));
+    Ok(())
+}
+
+#[test]
+fn pair_faults(rt: HostRuntime) -> Result<(), Fail> {
+    let faults = [
+        ("--count", "0"),
+        ("--count", "100001"),
+        ("--consumers", "0"),
+        ("--consumers", "17"),
+        ("--credit", "0"),
+        ("--credit", "1001"),
+        ("--size", "1000001"),
+        ("--size", "-1"),
+        ("--first-id", "4294967296"),
+        ("--first-id", "many"),
+    ];
+    for (option, value) in faults {
+        let Err(error) = read_request(rt.alloc(), &pair_words(option, value)) else {
+            return Err(Fail::new("a fault was read"));
+        };
+        assert_eq!(rt; error.exit_code(), 2);
+        assert!(rt; error.use_stderr());
+    }
+    // each option has to be there
+    let words = pair_words("--size", "0");
+    let Err(error) = read_request(rt.alloc(), &words[..10]) else {
+        return Err(Fail::new("an option is not there"));
+    };
+    assert_eq!(rt; error.exit_code(), 2);
     Ok(())
 }

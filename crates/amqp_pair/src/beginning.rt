@@ -1,0 +1,35 @@
+//! A connection as each end begins it.
+ghost use Rattle.std.specs.Prelude.{◌≡◌, IfOk};
+
+use crate::fault::PairFault;
+use crate::options::{MAX_FRAME, Options};
+use crate::reading::WINDOW;
+use amqp_conn::Config;
+use amqp_shared::Seed;
+use amqp_types::Text;
+use std::alloc::Global;
+
+/// How many units wait for a writer without the lock.
+const RING: usize = 16;
+
+/// A connection that is not shared yet, with the settings of both ends and this name.
+pub fn seed(alloc: Global, name: &str, options: &Options) -> Result<Seed, PairFault>
+    ensures { IfOk result (λ s. s.parts ≡ 65536) }
+{
+    let Ok(container_id) = Text::new(alloc, name) else {
+        return Err(PairFault::NoMemory);
+    };
+    let config = Config {
+        container_id,
+        hostname: None,
+        max_frame: MAX_FRAME,
+        idle_time_out: None,
+        first_id: options.first_id,
+        window: WINDOW,
+        journal_limit: 1073741824,
+    };
+    match Seed::new(alloc, config, RING) {
+        Ok(seed) => Ok(seed),
+        Err(fault) => Err(PairFault::Start(fault)),
+    }
+}

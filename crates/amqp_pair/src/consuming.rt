@@ -1,0 +1,147 @@
+//! The threads that accept messages.
+use crate::ending::{lose, put};
+use crate::fault::PairFault;
+use crate::gate::Gate;
+use crate::reading::LINK;
+use amqp_frames::DeliveryState;
+use amqp_rules::refusal::Refusal;
+use amqp_rules::reply::Taken;
+use amqp_shared::{Consumed, Name, Pass, Shared, Work, run_consumers};
+use std::alloc::{AllocError, Global};
+use std::sync::Wait;
+use std::thread;
+use std::thread::Threads;
+
+/// Accepts each delivery.
+#[derive(Drop)]
+pub struct Accepting;
+
+impl Work for Accepting {
+    fn consume(&mut self, _item: &Taken) -> DeliveryState {
+        DeliveryState::Accepted
+    }
+}
+
+/// What the consumers hand back: their passes, and how many deliveries were consumed; or what stopped one before the connection had ended.
+pub type ConsumeOutcome<N> = Result<(Vec<Pass<N>>, u64), PairFault>;
+
+/// Consumers with a pass each, once the end is ready, until its connection has ended.
+pub fn consume_all<N: Name + Send + Sync, R: Threads + Wait + Sync>(
+    rt: &R,
+    alloc: Global,
+    shared: &Shared<N>,
+    passes: Vec<Pass<N>>,
+    credit: u32,
+    gate: &Gate,
+) -> ConsumeOutcome<N> {
+    if !gate.is_ready(rt) {
+        return Ok((passes, 0));
+    }
+    let done = match jobs_of(alloc, passes, credit) {
+        Ok(jobs) => consume_side_by_side(rt, shared, jobs),
+        Err(AllocError) => Err(AllocError),
+    };
+    match done {
+        Ok(done) => gather(alloc, done),
+        Err(AllocError) => {
+            lose(rt, shared);
+            Err(PairFault::NoMemory)
+        }
+    }
+}
+
+/// What a consumer's thread starts with.
+#[derive(Drop)]
+struct Job<N: Name> {
+    alloc: Global,
+    pass: Pass<N>,
+    credit: u32,
+}
+
+fn jobs_of<N: Name>(
+    alloc: Global,
+    passes: Vec<Pass<N>>,
+    credit: u32,
+) -> Result<Vec<Job<N>>, AllocError> {
+    let mut jobs = Vec::new(alloc);
+    for pass in passes {
+        jobs.push(Job {
+            alloc,
+            pass,
+            credit,
+        })?;
+    }
+    Ok(jobs)
+}
+
+fn consume_side_by_side<N: Name + Send + Sync, R: Threads + Wait + Sync>(
+    rt: &R,
+    shared: &Shared<N>,
+    jobs: Vec<Job<N>>,
+) -> Result<Vec<Result<Consumed<N, Accepting>, AllocError>>, AllocError> {
+    thread::map_vec(
+        rt,
+        jobs,
+        &|job: Job<N>| -> Result<Consumed<N, Accepting>, AllocError> { consume(rt, shared, job) },
+    )
+}
+
+/// Consumes until an operation is refused. Where that is not the connection's end, this consumer ends it, since nobody else will settle what it took.
+fn consume<N: Name + Send + Sync, R: Threads + Wait + Sync>(
+    rt: &R,
+    shared: &Shared<N>,
+    job: Job<N>,
+) -> Result<Consumed<N, Accepting>, AllocError> {
+    let consumed = consume_alone(rt, shared, job);
+    let is_at_end = match &consumed {
+        Ok(consumed) => consumed.stopped == Refusal::NotRunning,
+        Err(_) => false,
+    };
+    if !is_at_end {
+        lose(rt, shared);
+    }
+    consumed
+}
+
+fn consume_alone<N: Name + Send + Sync, R: Threads + Wait + Sync>(
+    rt: &R,
+    shared: &Shared<N>,
+    job: Job<N>,
+) -> Result<Consumed<N, Accepting>, AllocError> {
+    let Job {
+        alloc,
+        pass,
+        credit,
+    } = job;
+    let mut passes = Vec::new(alloc);
+    passes.push(pass)?;
+    let mut works = Vec::new(alloc);
+    works.push(Accepting)?;
+    let mut done = run_consumers(rt, shared, passes, works, LINK, credit)?;
+    match done.pop() {
+        Some(consumed) => Ok(consumed),
+        None => Err(AllocError),
+    }
+}
+
+/// All passes, with the count of all.
+fn gather<N: Name>(
+    alloc: Global,
+    done: Vec<Result<Consumed<N, Accepting>, AllocError>>,
+) -> ConsumeOutcome<N> {
+    let mut passes = Vec::new(alloc);
+    let mut count = 0u64;
+    for consumed in done {
+        let Ok(consumed) = consumed else {
+            return Err(PairFault::NoMemory);
+        };
+        if consumed.stopped != Refusal::NotRunning {
+            return Err(PairFault::Consume(consumed.stopped));
+        }
+        count = count.saturating_add(consumed.count);
+        let Ok(()) = put(&mut passes, consumed.pass) else {
+            return Err(PairFault::NoMemory);
+        };
+    }
+    Ok((passes, count))
+}

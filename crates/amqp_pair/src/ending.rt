@@ -1,0 +1,49 @@
+//! How an end comes to its close, and what is left of it.
+use crate::fault::PairFault;
+use amqp_frames::Role;
+use amqp_shared::{Closed, Name, Pass, Shared, WriterEnd};
+use std::alloc::AllocError;
+use std::sync::Wait;
+
+/// Ends the connection without a close: no more octets come. Whoever waits for it goes on.
+pub fn lose<N: Name, R: Wait>(rt: &R, shared: &Shared<N>) {
+    let mut guard = shared.lock(rt);
+    shared.lost(&mut guard);
+}
+
+/// Closes the connection, or ends it where it cannot close.
+pub fn shut<N: Name, R: Wait>(rt: &R, shared: &Shared<N>) {
+    let mut guard = shared.lock(rt);
+    if shared.shut(&mut guard, None).is_err() {
+        shared.lost(&mut guard);
+    }
+}
+
+/// Puts a pass behind the others.
+pub fn put<N: Name>(passes: &mut Vec<Pass<N>>, pass: Pass<N>) -> Result<(), AllocError> {
+    match passes.push(pass) {
+        Ok(()) => Ok(()),
+        Err(_) => Err(AllocError),
+    }
+}
+
+/// Takes an end apart.
+pub fn take_apart<N: Name>(
+    shared: Shared<N>,
+    passes: Vec<Pass<N>>,
+    writer: WriterEnd<N>,
+) -> Result<Closed, PairFault> {
+    match shared.close(passes, writer) {
+        Ok(closed) => Ok(closed),
+        Err(refusal) => Err(PairFault::Close(refusal.reason)),
+    }
+}
+
+/// How many deliveries an end that was taken apart still holds, and how many units nobody wrote.
+pub fn left_of(closed: &Closed) -> u64 {
+    let endpoint = closed.conn.logged().endpoint();
+    let held = endpoint
+        .unsettled_len(Role::Sender)
+        .saturating_add(endpoint.unsettled_len(Role::Receiver));
+    held.saturating_add(closed.left.len()) as u64
+}

@@ -1,0 +1,98 @@
+//! The octets that were read, cut into whole frames.
+//!
+//! A frame that a read brings in part stays where it was read until its rest has come behind it, so that its payload can be a slice of what was read.
+ghost use Rattle.std.specs.Prelude.{◌<◌, ◌≤◌, length, IfSome};
+
+use crate::options::MAX_FRAME;
+use crate::reading::ReadFault;
+use bytes::{Bytes, BytesMut};
+use std::alloc::Global;
+use std::io::{ErrorKind, Read};
+use std::sync::Wait;
+
+/// Room for what reads bring, made at once.
+const ROOM: usize = 524288;
+
+/// The least room that a read is given: that of a frame.
+const LEAST: usize = MAX_FRAME as usize;
+
+/// The octets that were read and not handed on.
+#[derive(Drop)]
+pub struct Inbox {
+    buffer: BytesMut,
+}
+
+impl Inbox {
+    pub fn new(alloc: Global) -> Inbox {
+        Inbox {
+            buffer: BytesMut::new(alloc),
+        }
+    }
+
+    /// Reads until there are whole frames, and hands them on. They share one buffer with those of other reads, until it is used up.
+    ///
+    /// # Errors
+    ///
+    /// `Read`; `EndOfInput`, with what there is of a frame given up; `NoMemory`.
+    pub fn read_frames<R: Wait, S: Read>(
+        &mut self,
+        rt: &R,
+        stream: &mut S,
+    ) -> Result<Bytes, ReadFault> {
+        for _ in rt.forever() {
+            self.read(stream)?;
+            let count = whole_frames(self.buffer.as_slice());
+            if count > 0 {
+                return self
+                    .buffer
+                    .freeze_to(count)
+                    .map_err(|_| ReadFault::NoMemory);
+            }
+        }
+        unreachable!()
+    }
+
+    /// One read, behind what is there.
+    fn read<S: Read>(&mut self, stream: &mut S) -> Result<(), ReadFault> {
+        if self.buffer.capacity().saturating_sub(self.buffer.len()) < LEAST {
+            let Ok(()) = self.buffer.reserve(ROOM) else {
+                return Err(ReadFault::NoMemory);
+            };
+        }
+        match self.buffer.read_from(stream) {
+            Ok(0) => Err(ReadFault::EndOfInput),
+            Ok(_) => Ok(()),
+            Err(error) if error.kind() == ErrorKind::Interrupted => Ok(()),
+            Err(error) => Err(ReadFault::Read(error)),
+        }
+    }
+}
+
+/// How many octets the whole frames at the front have.
+fn whole_frames(octets: &[u8]) -> usize
+    ensures { result ≤ length octets.now }
+{
+    let mut rest = octets;
+    while let Some(size) = front(rest) {
+        rest = &rest[size..];
+    }
+    octets.len() - rest.len()
+}
+
+/// The size of the frame at the front, if it is whole. Octets that are no frame, as the protocol header, or none that this end takes, are taken as
+/// they come: the connection says what they are.
+fn front(octets: &[u8]) -> Option<usize>
+    ensures { IfSome result (λ size. (0 < size) × (size ≤ length octets.now)) }
+{
+    let Some(head) = octets.first_chunk::<4>() else {
+        return None;
+    };
+    let size = u32::from_be_bytes(*head);
+    if size < 8 || MAX_FRAME < size {
+        return Some(octets.len());
+    }
+    if octets.len() < size as usize {
+        return None;
+    }
+    Some(size as usize)
+}

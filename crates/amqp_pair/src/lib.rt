@@ -1,0 +1,41 @@
+//! A run of two ends of one connection over a socket of the loopback, each shared by threads.
+//!
+//! | module | what it has |
+//! |---|---|
+//! | `pair` | `run_pair`: both ends, and what a run tells |
+//! | `options` | what a run is to do |
+//! | `sender`, `receiver` | the threads of each end |
+//! | `reading`, `writing` | the thread that reads an end's socket, and the one that writes it |
+//! | `inbox` | the octets that were read, cut into whole frames |
+//! | `sending` | the messages that one end sends, and what it learns of them |
+//! | `consuming` | the threads that accept them at the other |
+//! | `beginning` | the connection as each end begins it |
+//! | `ending` | how an end comes to its close, and what is left of it |
+//! | `gate` | what a thread waits for until its end is open |
+//! | `fault` | why a run fails |
+//!
+//! Each end has a reader, which reads the socket without the lock and feeds what came, and a writer, which takes units from the ring and
+//! writes as many at once as wait. A thread of the one end queues messages and learns of them; consumers of the other accept them.
+//!
+//! All threads end by themselves: where the connection has closed, or its octets ended, or a read, a write or memory failed. A thread that stops for a
+//! fault ends its end's connection, which ends the others of its end, and its socket, which ends the peer. Nothing of that is proved; runs show it.
+#![tactic(auto)]
+
+mod beginning;
+mod consuming;
+mod ending;
+mod fault;
+mod gate;
+mod inbox;
+mod options;
+mod pair;
+mod reading;
+mod receiver;
+mod sender;
+mod sending;
+mod writing;
+
+pub use fault::PairFault;
+pub use options::{MAX_CONSUMERS, MAX_COUNT, MAX_CREDIT, MAX_SIZE, Options};
+pub use pair::{Totals, connected, run_over, run_pair};
+pub use reading::ReadFault;

@@ -1,0 +1,152 @@
+//! The end that receives: its reader, its writer, and its consumers.
+ghost use Rattle.std.specs.Prelude.{◌≡◌};
+ghost use Rattle.amqp_shared.specs.Passes.{IsNamed};
+
+use crate::beginning::seed;
+use crate::consuming::{ConsumeOutcome, consume_all};
+use crate::ending::{left_of, put, take_apart};
+use crate::fault::PairFault;
+use crate::gate::Gate;
+use crate::options::Options;
+use crate::reading::{Beginning, ReadOutcome, Reader, read_end};
+use crate::writing::{WriteOutcome, Writer, write_end};
+use amqp_frames::Role;
+use amqp_shared::{Name, Pass, Seed, Shared, open_shared};
+use std::alloc::Global;
+use std::marker::Brand;
+use std::net::TcpStream;
+use std::sync::Wait;
+use std::thread;
+use std::thread::Threads;
+
+/// What the receiving end has done.
+#[derive(Clone, Copy)]
+pub struct Received {
+    pub consumed: u64,
+    /// Deliveries that it still holds, and units that nobody wrote.
+    pub left: u64,
+}
+
+/// Makes the end `b` and runs it, until its connection has ended.
+pub fn run_receiver<R>(
+    rt: &R,
+    alloc: Global,
+    options: &Options,
+    stream: TcpStream,
+) -> Result<Received, PairFault>
+where
+    R: Threads + Wait + Sync,
+{
+    let seed = seed(alloc, "b", options)?;
+    receive::<Brand, R>(rt, alloc, seed, options, stream)
+}
+
+fn receive<N, R>(
+    rt: &R,
+    alloc: Global,
+    seed: Seed,
+    options: &Options,
+    stream: TcpStream,
+) -> Result<Received, PairFault>
+where
+    N: Name + Send + Sync,
+    R: Threads + Wait + Sync,
+    requires { IsNamed seed N.name N.parts N.ring }
+{
+    let copy = stream.try_clone().map_err(PairFault::Socket)?;
+    let (shared, mut pass, end) = open_shared::<N>(seed);
+    let passes = split_off(alloc, &mut pass, options.consumers)?;
+    let (gate, told) = Gate::pair(alloc)?;
+    let beginning = Beginning {
+        role: Role::Receiver,
+        credit: options.credit,
+    };
+    let reader = Reader {
+        alloc,
+        pass,
+        stream: copy,
+        beginning,
+        gate: told,
+    };
+    let writer = Writer { alloc, end, stream };
+    let ((reading, read), ((writer, written), consumed)) = run_threads(
+        rt,
+        &shared,
+        reader,
+        writer,
+        passes,
+        options.credit,
+        &gate,
+    );
+    read.map_err(PairFault::Read)?;
+    written.map_err(PairFault::Write)?;
+    let (mut passes, consumed) = consumed?;
+    let Ok(()) = put(&mut passes, reading) else {
+        return Err(PairFault::NoMemory);
+    };
+    let closed = take_apart(shared, passes, writer)?;
+    Ok(Received {
+        consumed,
+        left: left_of(&closed),
+    })
+}
+
+/// The reader, beside the writer and the consumers.
+fn run_threads<N, R>(
+    rt: &R,
+    shared: &Shared<N>,
+    reader: Reader<N>,
+    writer: Writer<N>,
+    passes: Vec<Pass<N>>,
+    credit: u32,
+    gate: &Gate,
+) -> (ReadOutcome<N>, (WriteOutcome<N>, ConsumeOutcome<N>))
+where
+    N: Name + Send + Sync,
+    R: Threads + Wait + Sync,
+{
+    thread::join(
+        rt,
+        move || read_end(rt, shared, reader),
+        move || write_and_consume(rt, shared, writer, passes, credit, gate),
+    )
+}
+
+/// The writer, beside the consumers.
+fn write_and_consume<N, R>(
+    rt: &R,
+    shared: &Shared<N>,
+    writer: Writer<N>,
+    passes: Vec<Pass<N>>,
+    credit: u32,
+    gate: &Gate,
+) -> (WriteOutcome<N>, ConsumeOutcome<N>)
+where
+    N: Name + Send + Sync,
+    R: Threads + Wait + Sync,
+{
+    let alloc = writer.alloc;
+    thread::join(
+        rt,
+        move || write_end(rt, shared, writer),
+        move || consume_all(rt, alloc, shared, passes, credit, gate),
+    )
+}
+
+/// A pass for each consumer.
+fn split_off<N: Name>(
+    alloc: Global,
+    pass: &mut Pass<N>,
+    count: u32,
+) -> Result<Vec<Pass<N>>, PairFault> {
+    let mut passes = Vec::new(alloc);
+    for _ in 0..count {
+        let Some(part) = pass.split() else {
+            return Err(PairFault::Options);
+        };
+        let Ok(()) = put(&mut passes, part) else {
+            return Err(PairFault::NoMemory);
+        };
+    }
+    Ok(passes)
+}

@@ -1,0 +1,155 @@
+//! The end that sends: its reader, its writer, and its messages.
+ghost use Rattle.std.specs.Prelude.{◌≡◌};
+ghost use Rattle.amqp_shared.specs.Passes.{IsNamed};
+
+use crate::beginning::seed;
+use crate::ending::{left_of, put, take_apart};
+use crate::fault::PairFault;
+use crate::gate::Gate;
+use crate::options::Options;
+use crate::reading::{Beginning, ReadOutcome, Reader, read_end};
+use crate::sending::{Hand, Messages, SendOutcome, send_all};
+use crate::writing::{WriteOutcome, Writer, write_end};
+use amqp_frames::Role;
+use amqp_shared::{Closed, Name, Pass, Seed, Shared, WriterEnd, open_shared};
+use std::alloc::Global;
+use std::marker::Brand;
+use std::net::TcpStream;
+use std::sync::Wait;
+use std::thread;
+use std::thread::Threads;
+
+/// What the sending end has done.
+#[derive(Clone, Copy)]
+pub struct Sent {
+    pub queued: u64,
+    pub accepted: u64,
+    /// Deliveries that it still holds, and units that nobody wrote.
+    pub left: u64,
+}
+
+/// Makes the end `a` and runs it, until its connection has ended.
+pub fn run_sender<R>(
+    rt: &R,
+    alloc: Global,
+    options: &Options,
+    stream: TcpStream,
+) -> Result<Sent, PairFault>
+where
+    R: Threads + Wait + Sync,
+{
+    let messages = Messages::new(alloc, options.count, options.size)?;
+    let seed = seed(alloc, "a", options)?;
+    send::<Brand, R>(rt, alloc, seed, &messages, stream)
+}
+
+fn send<N, R>(
+    rt: &R,
+    alloc: Global,
+    seed: Seed,
+    messages: &Messages,
+    stream: TcpStream,
+) -> Result<Sent, PairFault>
+where
+    N: Name + Send + Sync,
+    R: Threads + Wait + Sync,
+    requires { IsNamed seed N.name N.parts N.ring }
+{
+    let copy = stream.try_clone().map_err(PairFault::Socket)?;
+    let (shared, mut pass, end) = open_shared::<N>(seed);
+    let Some(reading) = pass.split() else {
+        return Err(PairFault::Options);
+    };
+    let (gate, told) = Gate::pair(alloc)?;
+    let beginning = Beginning {
+        role: Role::Sender,
+        credit: 0,
+    };
+    let reader = Reader {
+        alloc,
+        pass: reading,
+        stream: copy,
+        beginning,
+        gate: told,
+    };
+    let writer = Writer { alloc, end, stream };
+    let hand = Hand {
+        pass,
+        receipts: Vec::new(alloc),
+    };
+    let ((reading, read), ((writer, written), (hand, sent))) = run_threads(
+        rt, &shared, reader, writer, hand, messages, &gate,
+    );
+    read.map_err(PairFault::Read)?;
+    written.map_err(PairFault::Write)?;
+    let done = sent.map_err(PairFault::Send)?;
+    let Hand { pass, receipts } = hand;
+    let closed = end_sender(alloc, shared, reading, pass, writer)?;
+    let stand = messages.stand(closed.conn.logged(), receipts.as_slice());
+    if !stand.map_err(PairFault::Send)? {
+        return Err(PairFault::Receipt);
+    }
+    Ok(Sent {
+        queued: done.queued,
+        accepted: done.accepted,
+        left: left_of(&closed),
+    })
+}
+
+/// The reader, beside the writer and the messages.
+fn run_threads<N, R>(
+    rt: &R,
+    shared: &Shared<N>,
+    reader: Reader<N>,
+    writer: Writer<N>,
+    hand: Hand<N>,
+    messages: &Messages,
+    gate: &Gate,
+) -> (ReadOutcome<N>, (WriteOutcome<N>, SendOutcome<N>))
+where
+    N: Name + Send + Sync,
+    R: Threads + Wait + Sync,
+{
+    thread::join(
+        rt,
+        move || read_end(rt, shared, reader),
+        move || write_and_send(rt, shared, writer, hand, messages, gate),
+    )
+}
+
+/// The writer, beside the messages.
+fn write_and_send<N, R>(
+    rt: &R,
+    shared: &Shared<N>,
+    writer: Writer<N>,
+    hand: Hand<N>,
+    messages: &Messages,
+    gate: &Gate,
+) -> (WriteOutcome<N>, SendOutcome<N>)
+where
+    N: Name + Send + Sync,
+    R: Threads + Wait + Sync,
+{
+    thread::join(
+        rt,
+        move || write_end(rt, shared, writer),
+        move || send_all(rt, shared, hand, messages, gate),
+    )
+}
+
+fn end_sender<N: Name>(
+    alloc: Global,
+    shared: Shared<N>,
+    reading: Pass<N>,
+    pass: Pass<N>,
+    writer: WriterEnd<N>,
+) -> Result<Closed, PairFault> {
+    let mut passes = Vec::new(alloc);
+    let Ok(()) = put(&mut passes, reading) else {
+        return Err(PairFault::NoMemory);
+    };
+    let Ok(()) = put(&mut passes, pass) else {
+        return Err(PairFault::NoMemory);
+    };
+    take_apart(shared, passes, writer)
+}

@@ -1,0 +1,269 @@
+//! One thread sends an end's messages, and learns what became of each.
+ghost use Rattle.std.specs.Prelude.{◌<◌};
+
+use crate::ending::shut;
+use crate::fault::PairFault;
+use crate::gate::Gate;
+use crate::options::MAX_FRAME;
+use crate::reading::LINK;
+use amqp_frames::DeliveryState;
+use amqp_journal::logged::Logged;
+use amqp_journal::receipt::Receipt;
+use amqp_rules::op::Op;
+use amqp_rules::refusal::Refusal;
+use amqp_rules::reply::Given;
+use amqp_shared::{Locked, Name, Pass, Shared};
+use amqp_types::Tag;
+use bytes::Bytes;
+use std::alloc::Global;
+use std::sync::{MutexGuard, Wait};
+
+/// The longest payload of one transfer: the rest of a frame is the transfer's own.
+const MAX_PAYLOAD: usize = (MAX_FRAME - 128) as usize;
+
+/// So many messages are begun, or learnt of, before others get the lock.
+const RUN: u32 = 32;
+
+/// So many octets are queued before others get the lock, but for the last message.
+const RUN_OCTETS: usize = 65536;
+
+/// What was sent and accepted.
+#[derive(Clone, Copy, Debug, PartialEq, Eq)]
+pub struct Done {
+    /// How many messages were begun.
+    pub queued: u64,
+    /// How many of them were told to be accepted.
+    pub accepted: u64,
+}
+
+/// What the sending thread starts with, and what it keeps.
+#[derive(Drop)]
+pub struct Hand<N: Name> {
+    pub pass: Pass<N>,
+    /// The receipt of each operation that was done, in their order.
+    pub receipts: Vec<Receipt>,
+}
+
+/// What the sending thread hands back.
+pub type SendOutcome<N> = (Hand<N>, Result<Done, Refusal>);
+
+/// Messages of one size.
+#[derive(Drop)]
+pub struct Messages {
+    count: u32,
+    payload: Bytes,
+}
+
+impl Messages {
+    /// So many messages of so many octets, each 78 hexadecimal.
+    pub fn new(alloc: Global, count: u32, size: u32) -> Result<Messages, PairFault> {
+        let Ok(octets) = vec![in alloc; 0x78u8; size as usize] else {
+            return Err(PairFault::NoMemory);
+        };
+        match Bytes::from_vec(octets) {
+            Ok(payload) => Ok(Messages { count, payload }),
+            Err(_) => Err(PairFault::NoMemory),
+        }
+    }
+
+    /// How many messages are begun under one lock.
+    fn in_a_run(&self) -> u32
+        ensures { 0 < result }
+    {
+        let few = RUN_OCTETS / self.payload.len().max(1);
+        few.min(RUN as usize).max(1) as u32
+    }
+
+    /// How many transfers a message goes in.
+    fn transfers(&self) -> usize
+        ensures { 0 < result }
+    {
+        self.payload.len().div_ceil(MAX_PAYLOAD).max(1)
+    }
+
+    /// The operation of this number: the transfers of all messages, and then learning of each.
+    fn operation(&self, number: usize) -> Result<Op, Refusal> {
+        let (message, part) = (number / self.transfers(), number % self.transfers());
+        if message >= self.count as usize {
+            Ok(Op::Learn { link: LINK })
+        } else if part == 0 {
+            self.start(message as u32)
+        } else {
+            self.carry(part.saturating_mul(MAX_PAYLOAD))
+        }
+    }
+
+    /// Each receipt stands in the journal for its operation, at a later place than the one before.
+    pub fn stand(&self, logged: &Logged, receipts: &[Receipt]) -> Result<bool, Refusal> {
+        let mut least = 0u64;
+        for (number, receipt) in receipts.iter().enumerate() {
+            let operation = self.operation(number)?;
+            if receipt.place < least || !logged.stands(&operation, receipt) {
+                return Ok(false);
+            }
+            least = receipt.place.saturating_add(1);
+        }
+        Ok(true)
+    }
+
+    /// The first transfer of the message of this number.
+    fn start(&self, number: u32) -> Result<Op, Refusal> {
+        let Some(tag) = Tag::new(&number.to_be_bytes()) else {
+            return Err(Refusal::NotWritable);
+        };
+        Ok(Op::Start {
+            link: LINK,
+            tag,
+            format: 0,
+            settled: false,
+            payload: self.part(0)?,
+            more: MAX_PAYLOAD < self.payload.len(),
+        })
+    }
+
+    /// The transfer of a message's payload from this place on.
+    fn carry(&self, from: usize) -> Result<Op, Refusal> {
+        Ok(Op::Carry {
+            link: LINK,
+            payload: self.part(from)?,
+            more: from.saturating_add(MAX_PAYLOAD) < self.payload.len(),
+        })
+    }
+
+    /// What one transfer takes of the payload from this place on. It shares the payload's octets.
+    fn part(&self, from: usize) -> Result<Bytes, Refusal> {
+        let size = self.payload.len();
+        let from = from.min(size);
+        let end = from.saturating_add(MAX_PAYLOAD).min(size);
+        match self.payload.slice(from..end) {
+            Ok(part) => Ok(part),
+            Err(_) => Err(Refusal::NoMemory),
+        }
+    }
+}
+
+/// Sends the messages once the end is ready, learns of as many, and closes the connection, also at a refusal that no wait can end.
+pub fn send_all<N: Name, R: Wait>(
+    rt: &R,
+    shared: &Shared<N>,
+    hand: Hand<N>,
+    messages: &Messages,
+    gate: &Gate,
+) -> SendOutcome<N> {
+    if !gate.is_ready(rt) {
+        return (hand, Err(Refusal::NotRunning));
+    }
+    let mut hand = hand;
+    let sent = send_and_learn(rt, shared, &mut hand, messages);
+    shut(rt, shared);
+    (hand, sent)
+}
+
+type Guard<'b, N> = MutexGuard<'b, Locked<N>>;
+
+fn send_and_learn<N: Name, R: Wait>(
+    rt: &R,
+    shared: &Shared<N>,
+    hand: &mut Hand<N>,
+    messages: &Messages,
+) -> Result<Done, Refusal> {
+    let mut done = Done {
+        queued: 0,
+        accepted: 0,
+    };
+    let run = messages.in_a_run();
+    for first in (0..messages.count).step_by(run as usize) {
+        let end = first.saturating_add(run).min(messages.count);
+        let queued = send_run(rt, shared, hand, messages, first, end)?;
+        done.queued = done.queued.saturating_add(queued);
+    }
+    for first in (0..messages.count).step_by(RUN as usize) {
+        let count = messages.count.saturating_sub(first).min(RUN);
+        let accepted = learn_run(rt, shared, hand, count)?;
+        done.accepted = done.accepted.saturating_add(accepted);
+    }
+    Ok(done)
+}
+
+/// Queues the messages of these numbers, under one lock but for where it waits: how many.
+fn send_run<N: Name, R: Wait>(
+    rt: &R,
+    shared: &Shared<N>,
+    hand: &mut Hand<N>,
+    messages: &Messages,
+    first: u32,
+    end: u32,
+) -> Result<u64, Refusal> {
+    let mut guard = shared.lock(rt);
+    let mut queued = 0u64;
+    for number in first..end {
+        guard = send_one(rt, shared, guard, hand, messages, number)?;
+        queued = queued.saturating_add(1);
+    }
+    Ok(queued)
+}
+
+/// The message of this number: its tag is the number in four octets, and its payload is cut where it is longer than a transfer's may be.
+fn send_one<'b, N: Name, R: Wait>(
+    rt: &R,
+    shared: &Shared<N>,
+    guard: Guard<'b, N>,
+    hand: &mut Hand<N>,
+    messages: &Messages,
+    number: u32,
+) -> Result<Guard<'b, N>, Refusal> {
+    let size = messages.payload.len();
+    let start = messages.start(number)?;
+    let (mut guard, _) = call(rt, shared, guard, hand, &start)?;
+    for from in (MAX_PAYLOAD..size).step_by(MAX_PAYLOAD) {
+        let carry = messages.carry(from)?;
+        (guard, _) = call(rt, shared, guard, hand, &carry)?;
+    }
+    Ok(guard)
+}
+
+/// Learns of so many messages, under one lock but for where it waits: how many were accepted.
+fn learn_run<N: Name, R: Wait>(
+    rt: &R,
+    shared: &Shared<N>,
+    hand: &mut Hand<N>,
+    count: u32,
+) -> Result<u64, Refusal> {
+    let mut guard = shared.lock(rt);
+    let mut accepted = 0u64;
+    for _ in 0..count {
+        let given;
+        (guard, given) = call(rt, shared, guard, hand, &Op::Learn { link: LINK })?;
+        if is_accepted(&given) {
+            accepted = accepted.saturating_add(1);
+        }
+    }
+    Ok(accepted)
+}
+
+fn call<'b, N: Name, R: Wait>(
+    rt: &R,
+    shared: &Shared<N>,
+    guard: Guard<'b, N>,
+    hand: &mut Hand<N>,
+    op: &Op,
+) -> Result<(Guard<'b, N>, Given), Refusal> {
+    let (guard, answer) = shared.call_wait(rt, guard, &mut hand.pass, op);
+    match answer {
+        Ok((receipt, given)) => match hand.receipts.push(receipt) {
+            Ok(()) => Ok((guard, given)),
+            Err(_) => Err(Refusal::NoMemory),
+        },
+        Err(refusal) => Err(refusal),
+    }
+}
+
+fn is_accepted(given: &Given) -> bool {
+    match given {
+        Given::Learned(learned) => match &learned.get().state {
+            Some(DeliveryState::Accepted) => true,
+            _ => false,
+        },
+        _ => false,
+    }
+}

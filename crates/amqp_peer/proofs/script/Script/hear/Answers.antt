@@ -1,5 +1,0 @@
-use Rattle.amqp_peer.proofs.Entries.{has_entry}
-use Rattle.amqp_peer.proofs.script.Script.hear.Goals as goal
-
-pub print_entry-requires : goal.print_entry-requires
-print_entry-requires g c = has_entry _ _ _ _ _ c.in-Ok.ensures.step

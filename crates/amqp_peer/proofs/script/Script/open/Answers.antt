@@ -1,5 +1,0 @@
-use Rattle.amqp_peer.proofs.Entries.{is_longer}
-use Rattle.amqp_peer.proofs.script.Script.open.Goals as goal
-
-pub print_entry-requires : goal.print_entry-requires
-print_entry-requires g c = is_longer _ _ _ _ c.in-Ok.ensures.step
