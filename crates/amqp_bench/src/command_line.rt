@@ -8,6 +8,18 @@ use std::convert::AsStr;
 /// How often each frame is written and read where nothing else is asked for.
 const ROUNDS: u32 = 100000;
 
+/// How often in a short run.
+const SHORT_ROUNDS: u32 = 1000;
+
+/// Long messages in two transfers each, more of them than there is credit for at a time.
+const SHORT_MESSAGES: Messages = Messages {
+    count: 3,
+    size: 70000,
+    settled: false,
+    credit: 2,
+    range: 1,
+};
+
 /// What is to be measured.
 #[derive(Clone, Copy, Debug)]
 pub enum Request {
@@ -15,6 +27,8 @@ pub enum Request {
     Codec { rounds: u32, part: Option<u32> },
     /// Messages over a session.
     Session(Messages),
+    /// The codec, and then messages.
+    Both { rounds: u32, messages: Messages },
 }
 
 /// What the words ask for, the first of which is the program's name.
@@ -24,19 +38,17 @@ pub fn read_request<'a, S: AsStr>(alloc: Global, words: &'a [S]) -> Result<Reque
     if let Some(options) = matches.subcommand_matches("session") {
         return Ok(Request::Session(read_messages(options)));
     }
-    match matches.subcommand_matches("codec") {
-        Some(options) => {
-            let rounds = options.get_one::<u32>("rounds");
-            Ok(Request::Codec {
-                rounds: rounds.unwrap_or(ROUNDS),
-                part: options.get_one::<u32>("part"),
-            })
-        }
-        None => Ok(Request::Codec {
-            rounds: ROUNDS,
-            part: None,
-        }),
-    }
+    let Some(options) = matches.subcommand_matches("codec") else {
+        return Ok(Request::Both {
+            rounds: SHORT_ROUNDS,
+            messages: SHORT_MESSAGES,
+        });
+    };
+    let rounds = options.get_one::<u32>("rounds");
+    Ok(Request::Codec {
+        rounds: rounds.unwrap_or(ROUNDS),
+        part: options.get_one::<u32>("part"),
+    })
 }
 
 /// The messages that the options ask for. Where no range is named, a disposition names all deliveries that were taken.
@@ -54,7 +66,6 @@ fn read_messages(options: &ArgMatches<'_>) -> Messages {
 fn program<'a>(alloc: Global) -> Result<Command<'a>, AllocError> {
     Command::new(alloc, "amqp_bench")
         .about("Measures one end of an AMQP 1.0 connection")
-        .subcommand_required(true)
         .subcommand(codec(alloc)?)?
         .subcommand(session(alloc)?)
 }

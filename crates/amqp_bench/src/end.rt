@@ -19,6 +19,14 @@ const PART: usize = 65472;
 /// More units than an end has waiting at any time.
 const UNITS: u32 = u32::MAX;
 
+/// Counts of what an end was given.
+#[derive(Clone, Copy, Debug)]
+struct Counts {
+    taken: u32,
+    octets: u64,
+    learnt: u32,
+}
+
 /// One end of the session, with the counts of what it did.
 #[derive(Drop)]
 pub struct End {
@@ -27,9 +35,7 @@ pub struct End {
     /// The frame that was heard last.
     heard: Frame,
     begun: u32,
-    taken: u32,
-    octets: u64,
-    learnt: u32,
+    counts: Counts,
     /// How many of the deliveries that were taken are settled.
     settled: u32,
 }
@@ -51,26 +57,28 @@ impl End {
                 payload: Bytes::new(),
             },
             begun: 0,
-            taken: 0,
-            octets: 0,
-            learnt: 0,
+            counts: Counts {
+                taken: 0,
+                octets: 0,
+                learnt: 0,
+            },
             settled: 0,
         })
     }
 
     /// How many deliveries were taken.
     pub fn taken(&self) -> u32 {
-        self.taken
+        self.counts.taken
     }
 
     /// How many octets the deliveries had that were taken.
     pub fn octets(&self) -> u64 {
-        self.octets
+        self.counts.octets
     }
 
     /// How many deliveries are known to be settled by the peer.
     pub fn learnt(&self) -> u32 {
-        self.learnt
+        self.counts.learnt
     }
 
     /// How many steps the journal has.
@@ -161,8 +169,8 @@ impl End {
 
     /// Accepts and settles all that was taken and is not settled, so many deliveries at a time.
     pub fn settle(&mut self, range: u32) -> anyhow::Result<()> {
-        for _ in self.settled..self.taken {
-            if self.settled == self.taken {
+        for _ in self.settled..self.counts.taken {
+            if self.settled == self.counts.taken {
                 break;
             }
             self.settle_range(range.max(1))?;
@@ -172,7 +180,7 @@ impl End {
 
     fn settle_range(&mut self, range: u32) -> anyhow::Result<()> {
         let first = self.settled;
-        let end = first.saturating_add(range).min(self.taken);
+        let end = first.saturating_add(range).min(self.counts.taken);
         self.settled = end;
         self.apply(Op::Dispose {
             role: Role::Receiver,
@@ -206,14 +214,23 @@ impl End {
 
     /// Does an operation, and counts what it gives.
     fn apply(&mut self, op: Op) -> anyhow::Result<()> {
-        let applied = self.logged.apply(&op);
-        drop(op);
-        let given = applied?;
-        self.count(&given);
-        drop(given);
+        self.logged.perform(op)?;
+        if let Some(entry) = self.logged.journal().last() {
+            self.counts.count(&entry.reply.given);
+        }
         Ok(())
     }
 
+    fn pop(&mut self) -> Option<Bytes> {
+        match self.logged.pop_unit() {
+            Some(unit) => Some(unit.bytes),
+            None => None,
+        }
+    }
+}
+
+impl Counts {
+    /// Counts what an operation gave.
     fn count(&mut self, given: &Given) {
         match given {
             Given::Taken(taken) => {
@@ -228,13 +245,6 @@ impl End {
                 }
             }
             _ => {}
-        }
-    }
-
-    fn pop(&mut self) -> Option<Bytes> {
-        match self.logged.pop_unit() {
-            Some(unit) => Some(unit.bytes),
-            None => None,
         }
     }
 }

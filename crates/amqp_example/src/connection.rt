@@ -1,10 +1,11 @@
 //! `amqp_conn`: two ends of a connection, over memory. Octets go in and octets come out; each end does operations while it is running.
 
-use crate::feeding::feed_front;
 use amqp_conn::{Config, Conn};
 use amqp_endpoint::op::Op;
 use amqp_endpoint::reply::Given;
 use amqp_frames::{DeliveryState, Role};
+use amqp_journal::unit::Unit;
+use amqp_script::feeding::feed_front;
 use amqp_types::{Tag, Text};
 use anyhow::Context;
 use bytes::Bytes;
@@ -57,13 +58,13 @@ fn send<R: AllocGlobal + Print>(
 
 /// One end, and its name.
 #[derive(Drop)]
-struct End {
+pub struct End {
     name: &'static str,
     conn: Conn,
 }
 
 impl End {
-    fn new(alloc: Global, name: &'static str) -> anyhow::Result<End> {
+    pub fn new(alloc: Global, name: &'static str) -> anyhow::Result<End> {
         let config = Config {
             container_id: Text::new(alloc, name)?,
             hostname: None,
@@ -77,13 +78,13 @@ impl End {
         Ok(End { name, conn })
     }
 
-    fn apply<R: Print>(&mut self, rt: &R, op: &Op) -> anyhow::Result<()> {
+    pub fn apply<R: Print>(&mut self, rt: &R, op: &Op) -> anyhow::Result<()> {
         let given = self.conn.apply(op)?;
         self.tell(rt, &given)
     }
 
     /// Feeds all of the octets. A frame that breaks the rules is answered, and the next feed reads it again.
-    fn hear<R: Print>(&mut self, rt: &R, octets: &[u8]) -> anyhow::Result<()> {
+    pub fn hear<R: Print>(&mut self, rt: &R, octets: &[u8]) -> anyhow::Result<()> {
         let mut rest = octets;
         while !rest.is_empty() {
             let fed = feed_front(&mut self.conn, rest)?;
@@ -91,6 +92,11 @@ impl End {
             self.tell(rt, &fed.given)?;
         }
         Ok(())
+    }
+
+    /// The first unit that waits.
+    pub fn pop_unit(&mut self) -> Option<Unit> {
+        self.conn.pop_unit()
     }
 
     fn tell<R: Print>(&self, rt: &R, given: &Given) -> anyhow::Result<()> {
@@ -135,13 +141,14 @@ fn exchange<R: Print>(rt: &R, one: &mut End, other: &mut End) -> anyhow::Result<
 
 /// The first unit that waits at the one end is heard at the other.
 fn hand_on<R: Print>(rt: &R, from: &mut End, to: &mut End) -> anyhow::Result<()> {
-    match from.conn.pop_unit() {
+    match from.pop_unit() {
         Some(unit) => to.hear(rt, unit.bytes.as_slice()),
         None => Ok(()),
     }
 }
 
-fn attach(alloc: Global, name: &str, role: Role) -> anyhow::Result<Op> {
+/// A link of this name.
+pub fn attach(alloc: Global, name: &str, role: Role) -> anyhow::Result<Op> {
     let name = Text::new(alloc, name)?;
     Ok(Op::Attach {
         name,
@@ -156,7 +163,7 @@ fn attach(alloc: Global, name: &str, role: Role) -> anyhow::Result<Op> {
 }
 
 /// Ten deliveries may begin.
-fn grant(link: u32) -> Op {
+pub fn grant(link: u32) -> Op {
     Op::Grant {
         link,
         credit: 10,

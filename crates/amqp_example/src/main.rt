@@ -5,9 +5,10 @@
 //! | `codec` | `amqp_frames`: frames written, and a stream read however it is cut |
 //! | `session` | `amqp_journal`: operations and heard frames in, frames to send out |
 //! | `connection` | `amqp_conn`: octets in, octets out |
+//! | `shared` | `amqp_shared`: two threads send on one connection |
 //! | `command_line` | the command and its options |
-//! | `feeding` | one feed of a loop of feeds |
-//! | `driven` | the command `conn`: a connection that lines drive |
+//!
+//! The command `conn`, a connection that lines drive, is `amqp_script::driven`.
 //!
 //! | exit status | where |
 //! |---|---|
@@ -19,17 +20,18 @@
 mod codec;
 mod command_line;
 mod connection;
-mod driven;
-mod feeding;
 mod session;
-#[cfg(test)]
-mod tests;
+mod shared;
 
 use amqp_script::Outcome;
-use command_line::{Request, Settings, read_request};
+use amqp_script::driven::options::Settings;
+use amqp_script::driven::{open, run_lines};
+use command_line::{Request, read_request};
 use std::env::Env;
 use std::io::{BufReader, BufWriter};
 use std::process::ExitCode;
+use std::sync::Wait;
+use std::thread::Threads;
 use std::{env, io};
 
 const FAULT: u8 = 1;
@@ -49,7 +51,7 @@ fn main(rt: HostRuntime) -> ExitCode {
 
 fn run<R>(rt: &R) -> anyhow::Result<ExitCode>
 where
-    R: AllocGlobal + Env + Input + Print + Eprint,
+    R: AllocGlobal + Env + Input + Print + Eprint + Threads + Wait + Sync,
 {
     let words: Vec<String> = env::args(rt)?.collect(rt.alloc())?;
     match read_request(rt.alloc(), words.as_slice()) {
@@ -57,6 +59,7 @@ where
             codec::run(rt)?;
             session::run(rt)?;
             connection::run(rt)?;
+            shared::run(rt)?;
             Ok(ExitCode::SUCCESS)
         }
         Ok(Request::Conn(settings)) => drive(rt, &settings),
@@ -68,10 +71,10 @@ where
 }
 
 fn drive<R: AllocGlobal + Input + Print>(rt: &R, settings: &Settings) -> anyhow::Result<ExitCode> {
-    let conn = driven::open(rt.alloc(), settings)?;
+    let conn = open(rt.alloc(), settings)?;
     let mut reader = BufReader::new(rt.alloc(), rt.reader())?;
     let mut writer = BufWriter::new(rt.alloc(), io::writer(rt))?;
-    match driven::run_lines(rt.alloc(), conn, &mut reader, &mut writer)? {
+    match run_lines(rt.alloc(), conn, &mut reader, &mut writer)? {
         Outcome::EachLineGood => Ok(ExitCode::SUCCESS),
         Outcome::SomeLineBad => Ok(ExitCode::from(BAD_LINE)),
     }

@@ -1,0 +1,205 @@
+//! `amqp_shared`: two threads send on one connection, each with a pass of its own, which counts its steps. The other end is in memory.
+ghost use Rattle.amqp_shared.specs.Passes.{IsNamed};
+
+use crate::connection::{End, attach, grant};
+use amqp_conn::Config;
+use amqp_endpoint::op::Op;
+use amqp_frames::Role;
+use amqp_shared::{Name, Pass, Seed, Shared, WriterEnd, open_shared};
+use amqp_types::{Tag, Text};
+use anyhow::{Context, anyhow, ensure};
+use bytes::Bytes;
+use std::marker::Brand;
+use std::sync::Wait;
+use std::thread;
+use std::thread::Threads;
+
+/// How many units the ring has room for; what is more waits in the connection.
+const RING: usize = 4;
+
+/// More units in turn than either end has to say here.
+const TURNS: u32 = 16;
+
+/// How many deliveries each thread sends.
+const DELIVERIES: u8 = 4;
+
+/// Two threads send; the connection is closed, and comes back with its journal.
+pub fn run<R: AllocGlobal + Print + Threads + Wait + Sync>(rt: &R) -> anyhow::Result<()> {
+    let config = Config {
+        container_id: Text::new(rt.alloc(), "shared")?,
+        hostname: None,
+        max_frame: 65536,
+        idle_time_out: None,
+        first_id: 0,
+        window: 2048,
+        journal_limit: 1000,
+    };
+    let seed = Seed::new(rt.alloc(), config, RING)?;
+    let mut peer = End::new(rt.alloc(), "peer")?;
+    talk::<Brand, R>(rt, seed, &mut peer)
+}
+
+fn talk<N: Name + Send + Sync, R: AllocGlobal + Print + Threads + Wait + Sync>(
+    rt: &R,
+    seed: Seed,
+    peer: &mut End,
+) -> anyhow::Result<()>
+    requires { IsNamed seed N.name N.parts N.ring }
+{
+    let (shared, mut pass, mut writer) = open_shared::<N>(seed);
+    begin(rt, &shared, &mut pass, &mut writer, peer)?;
+    let first = pass.split().context("a pass of 65536 parts can be split")?;
+    let second = pass.split().context("a pass of 65535 parts can be split")?;
+    let (first, second) = send_by_two(rt, &shared, first, second);
+    exchange(rt, &shared, &mut pass, &mut writer, peer)?;
+    close(rt, shared, writer, pass, first, second)
+}
+
+/// A session, and a link on which the peer has given credit for ten deliveries.
+fn begin<N: Name, R: AllocGlobal + Print + Wait>(
+    rt: &R,
+    shared: &Shared<N>,
+    pass: &mut Pass<N>,
+    writer: &mut WriterEnd<N>,
+    peer: &mut End,
+) -> anyhow::Result<()> {
+    exchange(rt, shared, pass, writer, peer)?;
+    apply(rt, shared, pass, &Op::Begin)?;
+    exchange(rt, shared, pass, writer, peer)?;
+    peer.apply(rt, &Op::Begin)?;
+    exchange(rt, shared, pass, writer, peer)?;
+    apply(
+        rt,
+        shared,
+        pass,
+        &attach(rt.alloc(), "there", Role::Sender)?,
+    )?;
+    exchange(rt, shared, pass, writer, peer)?;
+    peer.apply(rt, &attach(rt.alloc(), "there", Role::Receiver)?)?;
+    peer.apply(rt, &grant(0))?;
+    exchange(rt, shared, pass, writer, peer)
+}
+
+/// Each thread has a pass of its own, and takes the lock for one operation at a time.
+fn send_by_two<N: Name + Send + Sync, R: AllocGlobal + Threads + Wait + Sync>(
+    rt: &R,
+    shared: &Shared<N>,
+    first: Pass<N>,
+    second: Pass<N>,
+) -> (Pass<N>, Pass<N>) {
+    thread::join(
+        rt,
+        move || send_all(rt, shared, first, 1),
+        move || send_all(rt, shared, second, 2),
+    )
+}
+
+/// Sends until one is refused. The pass tells how many were not.
+fn send_all<N: Name, R: AllocGlobal + Wait>(
+    rt: &R,
+    shared: &Shared<N>,
+    pass: Pass<N>,
+    sender: u8,
+) -> Pass<N> {
+    let mut pass = pass;
+    for turn in 0..DELIVERIES {
+        if send(rt, shared, &mut pass, [sender, turn]).is_err() {
+            break;
+        }
+    }
+    pass
+}
+
+/// A delivery whose payload is its tag.
+fn send<N: Name, R: AllocGlobal + Wait>(
+    rt: &R,
+    shared: &Shared<N>,
+    pass: &mut Pass<N>,
+    tag: [u8; 2],
+) -> anyhow::Result<()> {
+    let start = Op::Start {
+        link: 0,
+        tag: Tag::new(&tag).context("a tag has at most 32 octets")?,
+        format: 0,
+        settled: false,
+        payload: Bytes::copy_from_slice(rt.alloc(), &tag)?,
+        more: false,
+    };
+    apply(rt, shared, pass, &start)
+}
+
+fn apply<N: Name, R: Wait>(
+    rt: &R,
+    shared: &Shared<N>,
+    pass: &mut Pass<N>,
+    op: &Op,
+) -> anyhow::Result<()> {
+    let mut guard = shared.lock(rt);
+    match shared.call(&mut guard, pass, op) {
+        Ok(_) => Ok(()),
+        Err(refusal) => Err(refusal.into()),
+    }
+}
+
+/// Each end hears what the other put out.
+fn exchange<N: Name, R: Print + Wait>(
+    rt: &R,
+    shared: &Shared<N>,
+    pass: &mut Pass<N>,
+    writer: &mut WriterEnd<N>,
+    peer: &mut End,
+) -> anyhow::Result<()> {
+    for _ in 0..TURNS {
+        shared.move_units(&mut shared.lock(rt));
+        if let Some(unit) = writer.take() {
+            peer.hear(rt, unit.bytes.as_slice())?;
+        }
+        if let Some(unit) = peer.pop_unit() {
+            hear(rt, shared, pass, unit.bytes.as_slice())?;
+        }
+    }
+    Ok(())
+}
+
+/// Feeds a header, or a frame.
+fn hear<N: Name, R: Wait>(
+    rt: &R,
+    shared: &Shared<N>,
+    pass: &mut Pass<N>,
+    octets: &[u8],
+) -> anyhow::Result<()> {
+    let mut guard = shared.lock(rt);
+    let fed = shared.feed(&mut guard, pass, octets)?;
+    ensure!(fed.used == octets.len(), "the peer breaks a rule");
+    Ok(())
+}
+
+/// All that belongs to the connection comes together again.
+fn close<N: Name, R: AllocGlobal + Print>(
+    rt: &R,
+    shared: Shared<N>,
+    writer: WriterEnd<N>,
+    pass: Pass<N>,
+    first: Pass<N>,
+    second: Pass<N>,
+) -> anyhow::Result<()> {
+    let made = [pass.made(), first.made(), second.made()];
+    let mut passes = Vec::new(rt.alloc());
+    passes.push(pass)?;
+    passes.push(first)?;
+    passes.push(second)?;
+    let closed = match shared.close(passes, writer) {
+        Ok(closed) => closed,
+        Err(refusal) => return Err(anyhow!("{}", refusal.reason)),
+    };
+    let steps = closed.conn.logged().journal().len();
+    println!(rt;
+        "shared: steps of the passes: {} + {} + {}, of the journal: {steps}",
+        made[0], made[1], made[2]
+    )?;
+    Ok(println!(rt;
+        "shared: units written: {}, left: {}",
+        closed.taken,
+        closed.left.len()
+    )?)
+}
