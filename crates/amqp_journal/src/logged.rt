@@ -166,8 +166,9 @@ impl Logged {
         }
     }
 
-    /// Does an operation, which its entry keeps: one entry more, or a refusal that leaves all as it was. What it gives stands in the reply of
-    /// the entry, the journal's last. It costs what the endpoint's step costs: nothing is copied.
+    /// Does an operation, which its entry keeps: one entry more, or a refusal that leaves all as it was and drops the operation, so `apply` is for
+    /// one that is to be tried again. What it gives stands in the reply of the entry, the journal's last. It costs what the endpoint's step costs:
+    /// nothing is copied.
     pub fn perform(&mut self, op: Op) -> Result<(), Refusal>
         ensures step { OnOk result (Extends self.old (step.Own op) (own_due self.old op) self.new) }
         ensures refusal { IfErr result (IsRefusal Refusal.NoMemory (own_due self.old op)) }
