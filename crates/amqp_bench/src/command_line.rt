@@ -25,8 +25,8 @@ const SHORT_MESSAGES: Messages = Messages {
 pub enum Request {
     /// Frames written and read, so often; one way alone where a part is named.
     Codec { rounds: u32, part: Option<u32> },
-    /// Messages over a session.
-    Session(Messages),
+    /// Messages over a session, and so many sessions one after the other.
+    Session { messages: Messages, sessions: u32 },
     /// The codec, and then messages.
     Both { rounds: u32, messages: Messages },
 }
@@ -36,7 +36,10 @@ pub fn read_request<'a, S: AsStr>(alloc: Global, words: &'a [S]) -> Result<Reque
     let mut command = program(alloc)?;
     let matches = command.try_get_matches_from_mut(words)?;
     if let Some(options) = matches.subcommand_matches("session") {
-        return Ok(Request::Session(read_messages(options)));
+        return Ok(Request::Session {
+            messages: read_messages(options),
+            sessions: options.get_one::<u32>("sessions").unwrap_or(1),
+        });
     }
     let Some(options) = matches.subcommand_matches("codec") else {
         return Ok(Request::Both {
@@ -116,11 +119,19 @@ fn session<'a>(alloc: Global) -> Result<Command<'a>, AllocError> {
         .help(
             "How many deliveries a disposition names at most; all that were taken where it is left off",
         );
+    let sessions = Arg::new(alloc, "sessions")
+        .long("sessions")
+        .value_name("N")
+        .value_parser(value_parser!(u32).range(1..=1000))
+        .help(
+            "How many sessions, one after the other: from the second on they find memory that was used before",
+        );
     Command::new(alloc, "session")
         .about("Sends messages over a session in memory, between two ends with their journals")
         .arg(count)?
         .arg(size)?
         .arg(settled)?
         .arg(credit)?
-        .arg(range)
+        .arg(range)?
+        .arg(sessions)
 }

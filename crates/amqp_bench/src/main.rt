@@ -1,5 +1,5 @@
 //! Measures the codec, `amqp_bench codec --rounds N --part K`, and messages over a session in memory, `amqp_bench session --count N --size S
-//! --settled 0|1 --credit C --range R`; with no command a short run of both. Standard output has counts, the same in each run; standard error has times.
+//! --settled 0|1 --credit C --range R --sessions N`; with no command a short run of both. Standard output has counts, the same in each run; standard error has times.
 #![tactic(auto)]
 
 mod codec;
@@ -9,7 +9,7 @@ mod session;
 
 use codec::run_codec;
 use command_line::{Request, read_request};
-use session::run_session;
+use session::run_sessions;
 use std::env;
 use std::env::Env;
 use std::process::ExitCode;
@@ -48,10 +48,10 @@ where
 {
     match request {
         Request::Codec { rounds, part } => run_codec(rt, rounds, part),
-        Request::Session(messages) => run_session(rt, messages),
+        Request::Session { messages, sessions } => run_sessions(rt, messages, sessions),
         Request::Both { rounds, messages } => {
             run_codec(rt, rounds, None)?;
-            run_session(rt, messages)
+            run_sessions(rt, messages, 1)
         }
     }
 }

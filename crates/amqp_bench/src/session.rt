@@ -35,8 +35,19 @@ pub struct Totals {
     pub steps: usize,
 }
 
+/// Sends the messages over a session, and again over another, so many times.
+pub fn run_sessions<R>(rt: &R, messages: Messages, sessions: u32) -> anyhow::Result<()>
+where
+    R: AllocGlobal + Print + Eprint + Clock,
+{
+    for _ in 0..sessions {
+        run_session(rt, messages)?;
+    }
+    Ok(())
+}
+
 /// Sends the messages. Standard output has what came of it, standard error the time.
-pub fn run_session<R>(rt: &R, messages: Messages) -> anyhow::Result<()>
+fn run_session<R>(rt: &R, messages: Messages) -> anyhow::Result<()>
 where
     R: AllocGlobal + Print + Eprint + Clock,
 {

@@ -2,6 +2,7 @@
 ghost use Rattle.std.specs.Prelude.{◌≡◌, ◌<◌, ◌^◌, OnOk, OnErr, IfOk};
 ghost use Rattle.amqp_endpoint.specs.Plan.{IsSound, octets_sent, plan_reply, planned};
 
+use crate::cutting::Cutter;
 use crate::plan::{Plan, Session};
 use crate::reply::Reply;
 use crate::sending::list_sent;
@@ -47,6 +48,8 @@ pub struct Endpoint {
     steps: u32,
     session: Session,
     stores: Stores,
+    /// Where the octets of short frames come from.
+    cutter: Cutter,
 }
 
 impl Model for Endpoint {

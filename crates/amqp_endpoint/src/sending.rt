@@ -3,6 +3,7 @@ ghost use Rattle.std.specs.Prelude.{◌≡◌, ◌<◌, vec_capacity, vec_len, �
 ghost use Rattle.amqp_endpoint.specs.Plan.{octets_sent};
 ghost use Rattle.amqp_rules.specs.Sending.{told, frame_refused, sent_of};
 
+use crate::cutting::Cutter;
 use crate::refusal::Refusal;
 use crate::reply::Sent;
 use amqp_frames::{Frame, FrameRefusal, Performative, append_frame, frame_refusal};
@@ -112,7 +113,89 @@ pub(crate) fn write(
     }
 }
 
-/// The same of a frame that carries this payload, of which it takes a handle. Where there is none, what the frame is refused for comes first.
+/// A frame whose payload has more octets than these has a block of its own.
+const SHORT: usize = 512;
+
+/// The frame moves to where it stays, with the cutter's draft as its octets.
+fn keep_cut(alloc: Global, cutter: &mut Cutter, frame: Frame) -> Result<Written, AllocError>
+    ensures { IfOk result (λ w. w ≡ record { frame = frame; bytes = cutter.old.draft.items }) }
+{
+    match cut_place(alloc, cutter) {
+        Ok((mut items, bytes, octets)) => {
+            items.push_reserved(Sent { frame, bytes });
+            let list = Items { items };
+            Ok(Written { list, octets })
+        }
+        Err(e) => {
+            drop(frame);
+            Err(e)
+        }
+    }
+}
+
+/// A place for one frame, and the octets of the cutter's draft with a handle more.
+fn cut_place(alloc: Global, cutter: &mut Cutter) -> Result<(Vec<Sent>, Bytes, Bytes), AllocError>
+    ensures empty { IfOk result (λ t. t.0.items ≡ []) }
+    ensures room { IfOk result (λ t. vec_len t.0 < vec_capacity t.0) }
+    ensures octets { IfOk result (λ t. t.1 ≡ cutter.old.draft.items) }
+    ensures handle { IfOk result (λ t. t.2 ≡ cutter.old.draft.items) }
+{
+    let items = Vec::with_capacity(alloc, 1)?;
+    let bytes = cutter.cut()?;
+    let handle = bytes.clone()?;
+    Ok((items, bytes, handle))
+}
+
+/// As `write`, with the octets of a short frame out of the cutter's block.
+fn write_cut(
+    alloc: Global,
+    cutter: &mut Cutter,
+    body: Option<Performative>,
+    payload: Bytes,
+    max: u32,
+) -> Result<Written, Refusal>
+    ensures { MatchResult result (λ s. (frame_refused max body payload ≡ None) × (s ≡ sent_of body payload)) (λ e. (frame_refused max body payload ≡ Some e) ⊎ ((frame_refused max body payload ≡ None) × (e ≡ Refusal.NoMemory))) }
+{
+    let frame = Frame {
+        channel: 0,
+        body,
+        payload,
+    };
+    cutter.draft.clear();
+    match append_frame(&frame, max, &mut cutter.draft) {
+        Ok(()) => match keep_cut(alloc, cutter, frame) {
+            Ok(written) => Ok(written),
+            Err(_) => Err(Refusal::NoMemory),
+        },
+        Err(fault) => {
+            drop(frame);
+            Err(Refusal::from(fault))
+        }
+    }
+}
+
+/// As `write_sharing`, with the octets of a short frame out of the cutter's block.
+pub(crate) fn cut_sharing(
+    alloc: Global,
+    cutter: &mut Cutter,
+    body: Option<Performative>,
+    payload: &Bytes,
+    max: u32,
+) -> Result<Written, Refusal>
+    ensures { MatchResult result (λ s. (frame_refused max body payload.now ≡ None) × (s ≡ sent_of body payload.now)) (λ e. (frame_refused max body payload.now ≡ Some e) ⊎ ((frame_refused max body payload.now ≡ None) × (e ≡ Refusal.NoMemory))) }
+{
+    if SHORT < payload.len() {
+        return write_sharing(alloc, body, payload, max);
+    }
+    if let Ok(handle) = payload.clone() {
+        return write_cut(alloc, cutter, body, handle, max);
+    }
+    let refusal = sending_refusal(&body, payload, max);
+    drop(body);
+    Err(refusal.unwrap_or(Refusal::NoMemory))
+}
+
+/// As `write`, of a frame that carries this payload, of which it takes a handle. Where there is none, what the frame is refused for comes first.
 pub(crate) fn write_sharing(
     alloc: Global,
     body: Option<Performative>,

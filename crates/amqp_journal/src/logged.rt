@@ -237,6 +237,46 @@ impl Logged {
         }
     }
 
+    /// Takes a frame that is heard, as `receive`, into its entry: the frame is not copied, and is dropped where it is not taken.
+    pub fn hear(&mut self, frame: Boxed<Frame>) -> Result<Given, Violation>
+        ensures step { IfOk result (λ given. Appends self.old (step.Heard frame) (heard_due self.old frame) given self.new) }
+        ensures violation { IfErr result (IsRefusal no_memory (heard_due self.old frame)) }
+        ensures err { OnErr result (self.new ≡ self.old) }
+    {
+        if self.journal.len() >= self.config.journal_limit as usize {
+            drop(frame);
+            return Err(Violation::unlinked(ViolationKind::JournalFull));
+        }
+        match room_for_one(&mut self.journal, &mut self.waiting) {
+            Ok(()) => {}
+            Err(_) => {
+                let violation = heard_refused(&self.endpoint, frame.get());
+                drop(frame);
+                return Err(violation);
+            }
+        }
+        laws();
+        match self.endpoint.heard(frame.get()) {
+            Ok(done) => {
+                let Done {
+                    reply,
+                    octets,
+                    given,
+                } = done;
+                self.journal.push_reserved(Entry {
+                    step: Step::Heard(frame),
+                    reply,
+                });
+                queue(&mut self.waiting, octets);
+                Ok(given)
+            }
+            Err(violation) => {
+                drop(frame);
+                Err(violation)
+            }
+        }
+    }
+
     /// Puts octets behind all that was put out.
     pub fn put_unit(&mut self, octets: Bytes) -> Result<(), AllocError>
         ensures ok { OnOk result (self.new ≡ putting self.old octets) }

@@ -7,6 +7,8 @@ use Rattle.std.proofs.alloc.Global.TheSendSync as heap
 use Rattle.std.specs.contracts.alloc.Global as global
 use Rattle.std.specs.contracts.impls.GlobalAllocator.TheImpl.{ghosts}
 use Rattle.bytes.proofs.shared.Bytes.TheSendSync as bytes_crosses
+use Rattle.bytes.proofs.unique.BytesMut.TheSendSync as buffer_crosses
+use Rattle.bytes.specs.contracts.unique.BytesMut as buffer
 use Rattle.bytes.specs.contracts.shared.Bytes as bytes
 use Rattle.amqp_shared.proofs.waiting.Conditions.TheSendSync as conditions
 use Rattle.amqp_shared.proofs.waiting.Callers.TheSendSync as callers
@@ -176,8 +178,11 @@ links_send = search (sendable, crosses, link_send, slab_crosses.the_send, btree_
 pub stores_send : IsSend (stores.the_field).row
 stores_send = search (sendable, crosses, links_send, tables_send) depth 40 fits 20000
 
+pub buffer_send : IsSend (buffer.the_row global.the_row ghosts)
+buffer_send = buffer_crosses.the_send global.the_row ghosts heap.the_send heap.the_sync frees
+
 pub endpoint_send : IsSend (endpoint.the_field).row
-endpoint_send = search (sendable, crosses, session_crosses.the_send, stores_send) depth 40 fits 20000
+endpoint_send = search (sendable, crosses, session_crosses.the_send, stores_send, buffer_send, heap.the_send) depth 60 fits 100000
 
 pub logged_send : IsSend (logged.the_field).row
 logged_send = search (sendable, crosses, session_config_crosses.the_send, endpoint_send, entry_send, bytes_send) depth 40 fits 20000

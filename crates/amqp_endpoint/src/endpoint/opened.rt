@@ -5,6 +5,7 @@ ghost use Rattle.amqp_rules.specs.Opened.{next_opened};
 ghost use Rattle.amqp_rules.specs.View.{initial};
 
 use crate::config::Config;
+use crate::cutting::Cutter;
 use crate::endpoint::Endpoint;
 use crate::plan::Session;
 use crate::stores::Stores;
@@ -35,6 +36,7 @@ impl Endpoint {
                 handle_max: u32::MAX,
             },
             stores: Stores::new(alloc),
+            cutter: Cutter::new(alloc),
         })
     }
 

@@ -21,7 +21,7 @@ use crate::endpoint::telling::flag;
 use crate::plan::{Plan, Session};
 use crate::refusal::Refusal;
 use crate::reply::{Given, Reply};
-use crate::sending::{Written, write_sharing};
+use crate::sending::{Written, cut_sharing, write_sharing};
 use amqp_deliveries::{Change, HeldItem, Tables};
 use amqp_flow::sender::SenderCredit;
 use amqp_frames::{Performative, Role, TransferBody};
@@ -268,6 +268,41 @@ impl Endpoint {
         }
     }
 
+    /// The same, with the octets of a short frame out of the cutter's block.
+    fn cut_start(
+        &mut self,
+        link: u32,
+        tag: &Tag,
+        format: u32,
+        settled: bool,
+        payload: &Bytes,
+        more: bool,
+    ) -> Result<Starting, Refusal>
+        requires { self.old.steps < 2 ^ 30 }
+        ensures same { self.new ≡ self.old }
+        ensures window { IfOk result (λ s. 0 < self.old.windows.remote_incoming) }
+        ensures plan { MatchResult result (λ s. IsPlan self.old (start_answer self.old link tag.now format settled payload.now more) (next_start self.old link tag.now format settled payload.now more) (start_plan self.old link tag.now settled s)) (λ e. IsRefused Refusal.NoMemory (start_answer self.old link tag.now format settled payload.now more) e) }
+    {
+        let (on, second) = match self.check_start(link, tag, settled, payload, more) {
+            Ok(both) => both,
+            Err(refusal) => return Err(refusal),
+        };
+        let _size = size_of(payload);
+        let id = self.session.next_delivery();
+        let body = start_body(on.handle, id, *tag, format, settled, more);
+        let sent = match cut_sharing(
+            self.alloc,
+            &mut self.cutter,
+            body,
+            payload,
+            self.session.max_frame,
+        ) {
+            Ok(sent) => sent,
+            Err(refusal) => return Err(refusal),
+        };
+        Ok(Starting { on, second, sent })
+    }
+
     /// A delivery and its first transfer.
     pub(crate) fn plan_start(
         &self,
@@ -315,7 +350,7 @@ impl Endpoint {
         ensures done { Does Refusal.NoMemory (start_answer self.old link tag.now format settled payload.now more) (next_start self.old link tag.now format settled payload.now more) self.new result }
         ensures err { OnErr result (self.new ≡ self.old) }
     {
-        let s = match self.make_start(link, tag, format, settled, payload, more) {
+        let s = match self.cut_start(link, tag, format, settled, payload, more) {
             Ok(s) => s,
             Err(refusal) => return Err(refusal),
         };

@@ -1,0 +1,18 @@
+use Rattle.std.proofs.Common.{ap, inr, refl, ◌∙◌}
+use Rattle.amqp_rules.specs.Sending.{frame_of}
+use Rattle.amqp_endpoint.proofs.Sent.{refused-so, sent-so}
+use Rattle.amqp_endpoint.proofs.sending.write_cut.Goals as goal
+
+pub returns-in-Ok-keep_cut : goal.returns-in-Ok-keep_cut
+returns-in-Ok-keep_cut c =
+    let h = sent-so c.args.max c.args.body c.args.payload c.append_frame.new.out.items (rw c.clear.ensures.items at c.in-Ok.ensures) in
+    (h.0, c.in-Ok-keep_cut.ensures ∙ ap (λ x. record { frame = frame_of c.args.body c.args.payload; bytes = x }) h.1)
+
+pub returns-in-Err-keep_cut : goal.returns-in-Err-keep_cut
+returns-in-Err-keep_cut c =
+    let h = sent-so c.args.max c.args.body c.args.payload c.append_frame.new.out.items (rw c.clear.ensures.items at c.in-Ok.ensures) in
+    inr (h.0, refl)
+
+pub returns-in-Err : goal.returns-in-Err
+returns-in-Err c =
+    rw c.from.ensures (refused-so c.args.max c.args.body c.args.payload c.append_frame.new.out.items c.in-Err.fault (rw c.clear.ensures.items at c.in-Err.ensures))
