@@ -10,10 +10,11 @@ use Rattle.amqp_conn.specs.declared.fed.Fed.{Fed}
 use Rattle.amqp_conn.specs.Connection.{Core, Connection, connection, more, HasRead, unread_in, in_phase}
 use Rattle.amqp_conn.specs.Octets.{header, last_words}
 use Rattle.amqp_conn.specs.Treating.{greeted, ending, sending_last}
-use Rattle.amqp_conn.specs.Feeding.{IsFed, Feeds, Takes}
+use Rattle.amqp_conn.specs.Feeding.{IsFed, IsPassed, Feeds, Takes}
 use Rattle.amqp_conn.specs.Treats.{ReadsHeader}
 use Rattle.amqp_conn.proofs.Calls.{takes-header, waits-header}
 use Rattle.amqp_conn.proofs.Deciding.{same-front}
+use Rattle.amqp_conn.proofs.Passing.{passes-header, passes-few}
 use Rattle.amqp_conn.proofs.Whole.{left}
 
 -- while a header is awaited its octets are what is unread
@@ -62,7 +63,7 @@ good-header k l head head' kept piece n fed p w h is none greets gives =
     let made : IsFed c (take n piece) (left l head' kept) = subst (λ (d : Connection). IsFed c (take n piece) d) (sym there) (takes-header c (take n piece) p octets) in
     let journal : (left l head' kept).core.log.journal ≡ k.log.journal = ap (λ (x : Core). x.log.journal) greets in
     let P : Fed → Type 0 = λ x. Takes c piece x x.violation (left l head' kept) in
-    subst P (sym gives) (w, made, (journal, refl))
+    subst P (sym gives) (w, made, (journal, refl), passes-header c (take n piece) p octets)
 
 -- some octets of it
 pub part-header : (k : Core) (head head' kept piece : List ℕ) (fed : Fed) → k.phase ≡ phase.AwaitHeader → length (head ++ piece) < 8 → head' ≡ head ++ piece
@@ -75,7 +76,8 @@ part-header k head head' kept piece fed p s h gives =
     let there : left k head' kept ≡ more piece c = ap (connection k) (head-unread k head' kept p ∙ h ∙ ap (λ x. x ++ piece) (sym unread)) in
     let made : IsFed c piece (left k head' kept) = subst (λ (d : Connection). IsFed c piece d) (sym there) (waits-header c piece p short) in
     let P : Fed → Type 0 = λ x. Takes c piece x x.violation (left k head' kept) in
-    subst P (sym gives) (omega arith, subst (λ (x : List ℕ). IsFed c x (left k head' kept)) (sym all) made, (refl, refl))
+    let passes = subst (λ (x : List ℕ). IsPassed (more x c)) (sym all) (passes-few c piece p short) in
+    subst P (sym gives) (omega arith, subst (λ (x : List ℕ). IsFed c x (left k head' kept)) (sym all) made, (refl, refl), passes)
 
 -- memory was refused where the header is whole
 pub stood-header : (k l : Core) (head head' kept piece : List ℕ) (n : ℕ) → k.phase ≡ phase.AwaitHeader → length head < 8 → n ≡ 8 - length head → n ≤ length piece

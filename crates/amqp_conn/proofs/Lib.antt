@@ -1,6 +1,7 @@
 pub mod Appended
 pub mod Cutting
 pub mod Deciding
+pub mod Passing
 pub mod Turns
 pub mod Calls
 pub mod Whole

@@ -1,5 +1,5 @@
 -- A loop of feeds: each goes on, and comes to an end.
-use Rattle.std.proofs.Common.{◌≡◌, ◌≤◌, ◌<◌, ◌+◌, ◌-◌, ℕ, List, [], ◌∷◌, length, take, drop, nat_le, Bool, true, false, cond, Option, Some, None, Result, Ok, Err, refl, ap, ◌∙◌, subst, arith, length-append, length-drop}
+use Rattle.std.proofs.Common.{◌≡◌, ◌≤◌, ◌<◌, ◌+◌, ◌-◌, ℕ, List, [], ◌∷◌, length, take, drop, nat_le, Bool, true, false, cond, Option, Some, None, Result, Ok, Err, refl, sym, ap, ◌∙◌, subst, arith, length-append, length-drop}
 use Rattle.std.proofs.lemmas.List.{take-append-drop}
 use Rattle.std.proofs.lemmas.Bool.Decides.{nat_tests}
 use Rattle.amqp_rules.specs.declared.op.Op.{Op}
@@ -15,14 +15,14 @@ use Rattle.amqp_laws.specs.Past.{past}
 use Rattle.amqp_laws.specs.At.{at}
 use Rattle.amqp_journal.specs.Log.{Log, own_due}
 use Rattle.amqp_conn.specs.declared.fed.Fed.{Fed}
-use Rattle.amqp_conn.specs.Connection.{Core, Connection}
+use Rattle.amqp_conn.specs.Connection.{Core, Connection, IsQuiet}
 use Rattle.amqp_conn.specs.Feeding.{IsFed, AddsEntry, Takes, Feeds, MovesBy, MovesOn}
 use Rattle.amqp_conn.specs.Turning.{room, GoesOn}
 use Rattle.amqp_conn.proofs.Cutting.{cut}
 use Rattle.amqp_conn.specs.declared.fault.ConnFault.{ConnFault}
 use Rattle.amqp_conn.specs.declared.fault.ConnFault.TheVariants as fault
-use Rattle.amqp_conn.specs.Pumping.{HasEnded}
-use Rattle.amqp_conn.proofs.Turns.{answered-first, ending-closed}
+use Rattle.amqp_conn.specs.Pumping.{HasEnded, ButMemory}
+use Rattle.amqp_conn.proofs.Turns.{answered-first, ending-closed, ends, dropped}
 use Rattle.amqp_conn.proofs.Onward.{fed-onward}
 
 -- an operation is accepted where the journal has room alone
@@ -95,3 +95,22 @@ still-ended (fault.Framing e) c d p h = p ∙ h
 still-ended fault.OutOfPlace c d p h = p ∙ h
 still-ended fault.BadChannel c d p h = p ∙ h
 still-ended fault.JournalFull c d p h = p ∙ h
+
+-- what was fed to a connection that ends
+pub fed-to-end : (e : ConnFault) (c d : Connection) (piece : List ℕ) → IsQuiet c → Feeds c piece (Err e) d → ButMemory e (IsFed c piece d)
+fed-to-end fault.NoMemory c d piece q f = tt
+fed-to-end fault.Closed c d piece q (p, is) = subst (λ (x : Connection). IsFed c piece x) (sym is) (dropped c piece q p)
+fed-to-end fault.BadHeader c d piece q f = ends fault.BadHeader c d piece f
+fed-to-end (fault.Framing e) c d piece q f = ends (fault.Framing e) c d piece f
+fed-to-end fault.OutOfPlace c d piece q f = ends fault.OutOfPlace c d piece f
+fed-to-end fault.BadChannel c d piece q f = ends fault.BadChannel c d piece f
+fed-to-end fault.JournalFull c d piece q f = ends fault.JournalFull c d piece f
+
+pub but-memory : {P Q : Type 0} → (e : ConnFault) → (P → Q) → ButMemory e P → ButMemory e Q
+but-memory fault.NoMemory f p = tt
+but-memory fault.Closed f p = f p
+but-memory fault.BadHeader f p = f p
+but-memory (fault.Framing e) f p = f p
+but-memory fault.OutOfPlace f p = f p
+but-memory fault.BadChannel f p = f p
+but-memory fault.JournalFull f p = f p

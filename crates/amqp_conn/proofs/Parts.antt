@@ -17,9 +17,10 @@ use Rattle.amqp_conn.specs.declared.fault.ConnFault.TheVariants as fault
 use Rattle.amqp_conn.specs.declared.fed.Fed.{Fed}
 use Rattle.amqp_conn.specs.Connection.{Core, Connection, connection, more, reads_frames, HasRead, unread_in, IsSetUp}
 use Rattle.amqp_conn.specs.Treating.{treat, ending}
-use Rattle.amqp_conn.specs.Feeding.{IsFed, Feeds, Takes, MovesBy, MovesOn}
+use Rattle.amqp_conn.specs.Feeding.{IsFed, IsPassed, Feeds, Takes, MovesBy, MovesOn}
 use Rattle.amqp_conn.specs.Treats.{Treats, TreatsBy, PutsBack, PutsBackBy, EndsAll, EndsFor, Acts}
 use Rattle.amqp_conn.proofs.Calls.{quiet-none, waits, read-quiet}
+use Rattle.amqp_conn.proofs.Passing.{passes-part}
 use Rattle.amqp_conn.proofs.Whole.{Given, Leaves, LeavesBy, feeds-whole, left, is_first, Later, goes-taken, goes-again, ending-later, reads-later, later-none, reads-kept, emptied, no-head, no-closed}
 
 leaves-by : (v : Option Violation) (f h : FramerState) → PutsBackBy v (keeping f []) h → LeavesBy v f.kept h.kept × (h.max_size ≡ f.max_size)
@@ -134,8 +135,12 @@ waits-none k head piece used f g fed r m n u is e =
     let there : left k head g.kept ≡ more piece c =
     ap (connection k) (reads-kept k.phase head g.kept r ∙ ap (λ x. x.kept) is ∙ ap (λ x. x ++ piece) (sym unread)) in
     let P : Fed → Type 0 = λ x. Takes c piece x x.violation (left k head g.kept) in
-    subst P (sym e)
-    (let k : used ≡ length piece = n in omega (arith, k), subst (λ (x : List ℕ). IsFed c x (left k head g.kept)) (sym all) (subst (λ (d : Connection). IsFed c piece d) (sym there) fed-is), (refl, refl))
+    subst P (sym e) (
+      let k : used ≡ length piece = n in omega (arith, k),
+      subst (λ (x : List ℕ). IsFed c x (left k head g.kept)) (sym all) (subst (λ (d : Connection). IsFed c piece d) (sym there) fed-is),
+      (refl, refl),
+      subst (λ (x : List ℕ). IsPassed (more x c)) (sym all) (passes-part c piece r waiting),
+    )
 
 stood : (k l : Core) (told : ConnFault) (head piece : List ℕ) (f g : FramerState) → IsTrue (reads_frames k.phase) → (told ≡ fault.NoMemory) × (l ≡ k) × (g ≡ f) → Feeds (left k head f.kept) piece (Err told) (left l head g.kept)
 stood k l told head piece f g r p =

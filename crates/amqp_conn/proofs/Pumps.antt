@@ -1,5 +1,5 @@
 -- Pumping goes on where it stopped.
-use Rattle.std.proofs.Common.{◌≡◌, ◌≤◌, ◌<◌, ◌+◌, ℕ, zero, suc, List, [], ◌∷◌, ◌++◌, length, take, drop, Option, Some, None, refl, sym, ap, ◌∙◌, subst, arith, append_assoc, append-nil, length-append, length-drop}
+use Rattle.std.proofs.Common.{◌≡◌, ◌≤◌, ◌<◌, ◌+◌, ℕ, zero, suc, List, [], ◌∷◌, ◌++◌, length, take, drop, Option, Some, None, refl, sym, ap, ◌∙◌, subst, inl, inr, ◌⊎◌, arith, append_assoc, append-nil, length-append, length-drop}
 use Rattle.std.specs.List.{slice_get}
 use Rattle.std.proofs.lemmas.List.{take-append-drop, length-take-le}
 use Rattle.std.proofs.lemmas.Option.{slice_get_within}
@@ -9,10 +9,14 @@ use Rattle.amqp_journal.specs.Units.{units, waiting}
 use Rattle.amqp_conn.specs.Connection.{Connection, IsQuiet}
 use Rattle.amqp_conn.specs.Calling.{popped}
 use Rattle.amqp_conn.specs.Feeding.{IsFed}
-use Rattle.amqp_conn.specs.Pumping.{as_popped, joined, WentOut, Pumps}
+use Rattle.amqp_conn.specs.declared.fault.ConnFault.{ConnFault}
+use Rattle.amqp_conn.specs.declared.pumping.PumpFault.{PumpFault}
+use Rattle.amqp_conn.specs.declared.pumping.PumpFault.TheVariants as fault
+use Rattle.amqp_conn.specs.Pumping.{as_popped, joined, WentOut, Pumps, ButMemory, LastWent, FaultPumps}
 use Rattle.amqp_conn.proofs.Cutting.{cut, none}
 use Rattle.amqp_conn.proofs.Onward.{Within, fed-onward}
 use Rattle.amqp_conn.proofs.Popping.{fed-also}
+use Rattle.amqp_conn.proofs.Loops.{but-memory}
 
 -- ---- devices
 
@@ -161,3 +165,18 @@ pops-less c d x e is =
     let new = length-drop (c.core.log.popped + 1) (units c.core.log) in
     let same : length (waiting d.core.log) ≡ length (drop (c.core.log.popped + 1) (units c.core.log)) = ap (λ (y : Connection). length (waiting y.core.log)) is in
     omega (arith, within, old, new, same)
+
+-- ---- where a fault is told
+
+-- what was taken in, and the units that went out after it
+pub last-pumps : {P Q R : Type 0} → (e : ConnFault) (r : PumpFault) → (P → Q → R) → (r ≡ fault.Conn e) ⊎ (r ≡ fault.Write) → ButMemory e P → LastWent r Q → FaultPumps r R
+last-pumps {P} {Q} {R} e r f (inl h) p q =
+    let went : Q = subst (λ (x : PumpFault). LastWent x Q) h q in
+    subst (λ (x : PumpFault). FaultPumps x R) (sym h) (but-memory e (λ (y : P). f y went) p)
+last-pumps {P} {Q} {R} e r f (inr h) p q = subst (λ (x : PumpFault). FaultPumps x R) (sym h) tt
+
+-- behind what was pumped before
+pub before-fault : {P R : Type 0} → (r : PumpFault) → (P → R) → FaultPumps r P → FaultPumps r R
+before-fault fault.Read f p = tt
+before-fault fault.Write f p = tt
+before-fault (fault.Conn e) f p = but-memory e f p

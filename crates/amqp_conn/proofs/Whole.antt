@@ -21,9 +21,10 @@ use Rattle.amqp_conn.specs.declared.fed.Fed.{Fed}
 use Rattle.amqp_conn.specs.Connection.{Core, Connection, connection, more, reads_frames, unread_in}
 use Rattle.amqp_conn.specs.Treating.{Treatment, taken, again, ended, treat, treat_in, await_open, await_close, run, hearing, answering, answering_by, fault_of, ending, sending_last, HasFrame}
 use Rattle.amqp_conn.specs.Octets.{last_words}
-use Rattle.amqp_conn.specs.Feeding.{IsFed, Feeds, Takes, IsPlace}
+use Rattle.amqp_conn.specs.Feeding.{IsFed, IsPassed, Feeds, Takes, IsPlace}
 use Rattle.amqp_conn.specs.Treats.{Treats, TreatsBy}
 use Rattle.amqp_conn.proofs.Calls.{takes-frame}
+use Rattle.amqp_conn.proofs.Passing.{passes-frame}
 
 abbrev pub is_first : Phase → Bool
 is_first phase.AwaitHeader = true
@@ -229,7 +230,8 @@ fed-by c piece used f fed None l head kept before g same t k =
     let is = emptied l head kept later k in
     let taking = takes-frame c (take used piece) f l g.reads g.framed g.small t.0 in
     let here : IsFed c (take used piece) (left l head kept) = subst (λ (d : Connection). IsFed c (take used piece) d) (sym is) taking in
-    (subst (λ n. n ≤ length piece) (sym t.1) g.within, subst (λ n. IsFed c (take n piece) (left l head kept)) (sym t.1) here, t.2)
+    let passes = passes-frame c (take used piece) f l g.reads g.framed g.small t.0 in
+    (subst (λ n. n ≤ length piece) (sym t.1) g.within, subst (λ n. IsFed c (take n piece) (left l head kept)) (sym t.1) here, t.2, subst (λ n. IsPassed (more (take n piece) c)) (sym t.1) passes)
 fed-by c piece used f fed (Some v) l head kept before g same t k =
     let phase : l.phase ≡ c.core.phase = ap (λ (x : Core). x.phase) t.3.does in
     let reads : IsTrue (reads_frames l.phase) = subst (λ (p : Phase). IsTrue (reads_frames p)) (sym phase) g.reads in (

@@ -1,5 +1,6 @@
 -- What octets make of a connection, however they are cut.
 use Rattle.std.specs.Prelude.{zero, suc, ℕ, ◌≡◌, ◌≢◌, ◌≤◌, ◌<◌, ◌++◌, ◌⊎◌, IsTrue, Bool, true, false, Option, Some, None, Result, Ok, Err, List, [], ◌∷◌, length, drop, take}
+use Rattle.amqp_frames.specs.declared.fault.FrameFault.{FrameFault}
 use Rattle.amqp_frames.specs.declared.frame.Frame.{Frame}
 use Rattle.amqp_frames.specs.Framing.{Shows}
 use Rattle.amqp_rules.specs.declared.op.Op.{Op}
@@ -19,7 +20,7 @@ use Rattle.amqp_conn.specs.declared.fault.ConnFault.TheVariants as fault
 use Rattle.amqp_conn.specs.declared.fed.Fed.{Fed}
 use Rattle.amqp_conn.specs.Connection.{Core, Connection, more, reads_frames, IsQuiet, stepping}
 use Rattle.amqp_conn.specs.Octets.{header, last_words}
-use Rattle.amqp_conn.specs.Treating.{again, ended, treat, ending, HasFrame, Moves}
+use Rattle.amqp_conn.specs.Treating.{taken, again, ended, treat, ending, HasFrame, Moves}
 
 -- what the octets in front do, so many times in turn
 abbrev pub MovesTimes : ℕ → Connection → Connection → Type 0
@@ -90,10 +91,17 @@ IsPlace fault.NoMemory c = ⊥
 abbrev pub Ends : ConnFault → Connection → Connection → Type 0
 Ends e c d = IsPlace e c × (d ≡ record { core = ending e c.core; unread = [] })
 
--- a feed takes these octets, and violates nothing
+-- what is unread shows no fault, and the connection is not closed; a header or a frame that is whole in front is the last of it, and is taken
+pub record IsPassed (c : Connection) : Type 0 where
+  pub goes_on : c.core.phase ≢ phase.Closed
+  pub begins : (front back : List ℕ) → c.core.phase ≡ phase.AwaitHeader → length front ≡ 8 → c.unread ≡ front ++ back → (front ≡ header) × (back ≡ [])
+  pub faultless : (e : FrameFault) → IsTrue (reads_frames c.core.phase) → Shows e c.core.config.max_frame c.unread → ⊥
+  pub whole : (f : Frame) (front back : List ℕ) → HasFrame c f front back → (back ≡ []) × ((l : Core) × (treat c.core f ≡ taken l))
+
+-- a feed takes these octets, at most to the end of a header or a frame, and there is nothing to tell of them
 abbrev pub Takes : Connection → List ℕ → Fed → Option Violation → Connection → Type 0
 Takes c piece fed None d =
-    (fed.used ≤ length piece) × IsFed c (take fed.used piece) d × AddsEntry c.core.log.journal d.core.log.journal fed.stepped fed.given
+    (fed.used ≤ length piece) × IsFed c (take fed.used piece) d × AddsEntry c.core.log.journal d.core.log.journal fed.stepped fed.given × IsPassed (more (take fed.used piece) c)
 Takes c piece fed (Some v) d = (fed.used ≡ 0) × (fed.stepped ≡ true) × IsAnswered c piece v fed.given d
 
 -- what one feed of a piece answers, and leaves

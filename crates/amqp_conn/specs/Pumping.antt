@@ -58,6 +58,28 @@ abbrev pub HasEnded : ConnFault → Connection → Type 0
 HasEnded conn.NoMemory c = Unit {0}
 HasEnded e c = c.core.phase ≡ phase.Closed
 
+-- where a fault was told this holds too, but that memory was refused
+abbrev pub ButMemory : ConnFault → Type 0 → Type 0
+ButMemory conn.NoMemory P = Unit {0}
+ButMemory e P = P
+
+-- what was not taken in was fed, where the connection ended with it
+abbrev pub UntakenFed : Untaken → Type 0 → Type 0
+UntakenFed untaken.Read P = Unit {0}
+UntakenFed (untaken.Conn e) P = ButMemory e P
+
+-- the units that waited went out, where the fault of the connection is told
+abbrev pub LastWent : PumpFault → Type 0 → Type 0
+LastWent fault.Read P = Unit {0}
+LastWent fault.Write P = Unit {0}
+LastWent (fault.Conn e) P = P
+
+-- so it is also where a pump failed by a fault of the connection, but for want of memory
+abbrev pub FaultPumps : PumpFault → Type 0 → Type 0
+FaultPumps fault.Read P = Unit {0}
+FaultPumps fault.Write P = Unit {0}
+FaultPumps (fault.Conn e) P = ButMemory e P
+
 -- why a pump failed: a device, or the connection, and then all units went out, the last close among them
 abbrev pub IsFault : PumpFault → Connection → Type 0
 IsFault fault.Read c = Unit {0}

@@ -43,7 +43,7 @@ pub trait Sink {
     /// How many writes failed.
     ghost failed: { Self → ℕ };
 
-    /// Writes all octets; where that fails, some of them may have been written.
+    /// Writes all octets, and keeps none back: nothing else flushes it. Where that fails, some of them may have been written.
     fn write_all(&mut self, octets: &[u8]) -> Result<(), Failed>
         requires { failed self.old < 2 ^ 64 - 1 }
         ensures octets { OnOk result (Appends (written self.old) (written self.new) octets.now) }

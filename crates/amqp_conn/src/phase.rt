@@ -7,7 +7,7 @@ pub enum Phase {
     AwaitHeader,
     /// Our open is put out, and the peer's is awaited.
     AwaitOpen,
-    /// Both opens went out: frames are heard, and operations done.
+    /// Our open was put out and the peer's was heard: frames are heard, and operations done.
     Running,
     /// Our close is put out, and the peer's is awaited.
     Closing,

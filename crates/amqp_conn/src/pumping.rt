@@ -1,10 +1,10 @@
 //! A connection over a source and a sink.
-ghost use Rattle.std.specs.Prelude.{ℕ, List, Option, ◌≡◌, ◌≢◌, ◌<◌, ◌≤◌, ◌+◌, ◌-◌, ◌^◌, [], length, IfOk, IfErr, IfSome, OnOk, OnErr, MatchBool};
+ghost use Rattle.std.specs.Prelude.{ℕ, List, Option, ◌≡◌, ◌≢◌, ◌<◌, ◌≤◌, ◌+◌, ◌-◌, ◌^◌, ◌⊎◌, [], length, IfOk, IfErr, IfSome, OnOk, OnErr, MatchBool};
 ghost use Rattle.std.specs.Bool.{OnTrue, OnFalse};
 ghost use Rattle.amqp_journal.specs.Units.{units, waiting, PutWithin};
 ghost use Rattle.amqp_conn.specs.Connection.{IsQuiet};
 ghost use Rattle.amqp_conn.specs.Feeding.{IsFed};
-ghost use Rattle.amqp_conn.specs.Pumping.{Pumps, IsEnd, IsFault, IsUntaken, AllWent, HasEnded, CountsReads, TellsLast, CountsFailures};
+ghost use Rattle.amqp_conn.specs.Pumping.{Pumps, IsEnd, IsFault, IsUntaken, AllWent, HasEnded, ButMemory, UntakenFed, LastWent, FaultPumps, CountsReads, TellsLast, CountsFailures};
 ghost use Rattle.amqp_conn.specs.Turning.{GoesOn};
 
 use crate::conn::Conn;
@@ -68,7 +68,9 @@ fn feed_once(conn: &mut Conn, rest: &[u8]) -> Result<usize, ConnFault>
     requires { rest.now ≢ [] }
     ensures on { IfOk result (λ used. GoesOn conn.old rest.now used conn.new) }
     ensures ended { IfErr result (λ fault. HasEnded fault conn.new) }
+    ensures last { IfErr result (λ fault. ButMemory fault (IsFed conn.old rest.now conn.new)) }
 {
+    recall(conn);
     match conn.feed(rest) {
         Ok(fed) => Ok(fed.used),
         Err(fault) => Err(fault),
@@ -79,6 +81,7 @@ fn feed_once(conn: &mut Conn, rest: &[u8]) -> Result<usize, ConnFault>
 fn feed_all(conn: &mut Conn, piece: &[u8]) -> Result<(), ConnFault>
     ensures fed { OnOk result (IsFed conn.old piece.now conn.new) }
     ensures ended { IfErr result (λ fault. HasEnded fault conn.new) }
+    ensures last { IfErr result (λ fault. ButMemory fault (IsFed conn.old piece.now conn.new)) }
 {
     let mut rest = piece;
     while !is_over(conn, rest) {
@@ -144,6 +147,7 @@ fn take_in<S: Source>(
     ensures end { IfOk result (λ end. IfSome end (λ e. IsEnd e (S.remaining source.new) conn.new)) }
     ensures failures { CountsReads result (S.failed source.old) (S.failed source.new) }
     ensures ended { IfErr result (λ why. IsUntaken why conn.new) }
+    ensures last { IfErr result (λ why. UntakenFed why ((sink : Option (List ℕ)) → Pumps (S.remaining source.old) (S.remaining source.new) sink sink conn.old conn.new)) }
 {
     recall(conn);
     let Ok(count) = source.read(buffer) else {
@@ -164,6 +168,8 @@ fn last_units<K: Sink>(sink: &mut K, conn: &mut Conn, fault: ConnFault) -> PumpF
     requires ended { HasEnded fault conn.old }
     ensures last { TellsLast result (K.failed sink.old) (K.failed sink.new) }
     ensures told { IsFault result conn.new }
+    ensures same { result ≡ PumpFault.Conn fault ⊎ result ≡ PumpFault.Write }
+    ensures went { LastWent result ((source : Option (List ℕ)) → Pumps source source (K.written sink.old) (K.written sink.new) conn.old conn.new) }
 {
     match write_waiting(sink, conn) {
         Ok(()) => PumpFault::Conn(fault),
@@ -185,6 +191,7 @@ fn turn<S: Source, K: Sink>(
     ensures end { IfOk result (λ end. IfSome end (λ e. IsEnd e (S.remaining source.new) conn.new)) }
     ensures failures { CountsFailures result (S.failed source.old) (S.failed source.new) (K.failed sink.old) (K.failed sink.new) }
     ensures told { IfErr result (λ fault. IsFault fault conn.new) }
+    ensures last { IfErr result (λ fault. FaultPumps fault (Pumps (S.remaining source.old) (S.remaining source.new) (K.written sink.old) (K.written sink.new) conn.old conn.new)) }
 {
     let Ok(()) = write_waiting(sink, conn) else {
         return Err(PumpFault::Write);
@@ -196,7 +203,10 @@ fn turn<S: Source, K: Sink>(
     match take_in(source, conn, buffer) {
         Ok(end) => Ok(end),
         Err(Untaken::Read) => Err(PumpFault::Read),
-        Err(Untaken::Conn(fault)) => Err(last_units(sink, conn, fault)),
+        Err(Untaken::Conn(fault)) => {
+            recall(conn);
+            Err(last_units(sink, conn, fault))
+        }
     }
 }
 
@@ -206,7 +216,7 @@ fn turn<S: Source, K: Sink>(
 /// # Errors
 ///
 /// `Read` or `Write` where that device failed, and `Conn` with the fault that a feed told: then the units that still waited were written, the
-/// last close among them. Octets that were read may be lost with a fault: the connection is not to be used again.
+/// last close among them. Octets that were read may be lost with a fault of a device or for want of memory: the connection is not to be used again.
 pub fn pump<S: Source, K: Sink>(
     source: &mut S,
     sink: &mut K,
@@ -219,6 +229,7 @@ pub fn pump<S: Source, K: Sink>(
     ensures end { IfOk result (λ end. IsEnd end (S.remaining source.new) conn.new) }
     ensures failures { CountsFailures result (S.failed source.old) (S.failed source.new) (K.failed sink.old) (K.failed sink.new) }
     ensures told { IfErr result (λ fault. IsFault fault conn.new) }
+    ensures last { IfErr result (λ fault. FaultPumps fault (Pumps (S.remaining source.old) (S.remaining source.new) (K.written sink.old) (K.written sink.new) conn.old conn.new)) }
 {
     let mut buffer = [0; PIECE];
     recall(conn);

@@ -393,8 +393,6 @@ fn pumps_end(rt: HostRuntime) -> Result<(), Fail> {
     let alloc = rt.alloc();
     assert_eq!(rt; pumped(alloc, HEADER, 1, 9, 9), Ok(PumpEnd::TurnsOver));
     assert_eq!(rt; pumped(alloc, HEADER, 9, 9, 9), Ok(PumpEnd::EndOfInput));
-    let whole =
-        "414d5150 00010000 0000001a02000000 005310c00d04 a10161 40 7000010000 600000 0000000c02000000 00531845";
     assert_eq!(rt; pumped(alloc, WHOLE, 9, 9, 9), Ok(PumpEnd::Closed));
     Ok(())
 }
@@ -402,8 +400,6 @@ fn pumps_end(rt: HostRuntime) -> Result<(), Fail> {
 #[test]
 fn pumps_over_devices_that_fail(rt: HostRuntime) -> Result<(), Fail> {
     let alloc = rt.alloc();
-    let whole =
-        "414d5150 00010000 0000001a02000000 005310c00d04 a10161 40 7000010000 600000 0000000c02000000 00531845";
     // Six reads of nine octets at most, and three units: our header, open and close.
     for reads in 0..6 {
         assert_eq!(rt; pumped(alloc, WHOLE, 99, reads, 9), Err(PumpFault::Read));
@@ -411,5 +407,33 @@ fn pumps_over_devices_that_fail(rt: HostRuntime) -> Result<(), Fail> {
     for writes in 0..3 {
         assert_eq!(rt; pumped(alloc, WHOLE, 99, 99, writes), Err(PumpFault::Write));
     }
+    Ok(())
+}
+
+#[test]
+fn a_pump_hands_on_the_fault_behind_the_last_close(rt: HostRuntime) -> Result<(), Fail> {
+    let alloc = rt.alloc();
+    // An open comes twice: our header, our open and the close go out.
+    let twice =
+        "414d5150 00010000 0000001a02000000 005310c00d04 a10161 40 7000010000 600000 0000001a02000000 005310c00d04 a10161 40 7000010000 600000";
+    assert_eq!(rt;
+        pumped(alloc, twice, 99, 99, 3),
+        Err(PumpFault::Conn(ConnFault::OutOfPlace))
+    );
+    assert_eq!(rt; pumped(alloc, twice, 99, 99, 2), Err(PumpFault::Write));
+    // A close on channel 1.
+    let elsewhere =
+        "414d5150 00010000 0000001a02000000 005310c00d04 a10161 40 7000010000 600000 0000000c02000001 00531845";
+    assert_eq!(rt;
+        pumped(alloc, elsewhere, 99, 99, 3),
+        Err(PumpFault::Conn(ConnFault::BadChannel))
+    );
+    assert_eq!(rt; pumped(alloc, elsewhere, 99, 99, 2), Err(PumpFault::Write));
+    // Another header, behind which no close goes out.
+    let other = "414d5150 03010000";
+    assert_eq!(rt;
+        pumped(alloc, other, 99, 99, 1),
+        Err(PumpFault::Conn(ConnFault::BadHeader))
+    );
     Ok(())
 }

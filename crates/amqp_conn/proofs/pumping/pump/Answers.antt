@@ -1,5 +1,5 @@
 use Rattle.std.proofs.Common.{refl, ◌∙◌}
-use Rattle.amqp_conn.proofs.Pumps.{pumps-none, pumps-then}
+use Rattle.amqp_conn.proofs.Pumps.{pumps-none, pumps-then, before-fault}
 use Rattle.amqp_conn.proofs.pumping.pump.Goals as goal
 
 pub loop-init : goal.loop-init
@@ -20,3 +20,10 @@ loop-preserved g c = (
   c.in-Ok-None.ensures.failures.0 ∙ c.loop.invariant.1,
   c.in-Ok-None.ensures.failures.1 ∙ c.loop.invariant.2,
 )
+
+pub returns-in-Err-clause-last : goal.returns-in-Err-clause-last
+returns-in-Err-clause-last g c =
+    before-fault c.in-Err.fault
+    (pumps-then (g.S.Source.remaining c.args.source.now) (g.S.Source.remaining c.loop.source) (g.S.Source.remaining c.turn.new.source) (g.K.Sink.written c.args.sink.now)
+    (g.K.Sink.written c.loop.sink) (g.K.Sink.written c.turn.new.sink) c.args.conn.now c.loop.conn c.turn.new.conn c.recall-in-loop.ensures.within c.loop.invariant.0)
+    c.in-Err.ensures.last

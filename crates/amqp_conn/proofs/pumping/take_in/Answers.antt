@@ -1,6 +1,7 @@
 use Rattle.std.proofs.Common.{◌≡◌, ℕ, [], take, subst}
 use Rattle.std.specs.Io.KnownBytes.{Consumes}
 use Rattle.amqp_conn.proofs.Cutting.{none}
+use Rattle.amqp_conn.proofs.Loops.{but-memory}
 use Rattle.amqp_conn.proofs.Pumps.{pumps-fed}
 use Rattle.amqp_conn.proofs.pumping.take_in.Goals as goal
 
@@ -17,3 +18,11 @@ returns-in-Ok-feed_all-clause-pumps g c =
     let old = g.S.Source.remaining c.args.source.now in
     let new = g.S.Source.remaining c.read.new.self in
     λ sink. pumps-fed old new sink c.args.conn.now c.feed_all.new.conn (take c.in-Ok.count c.read.new.buffer) c.in-Ok.ensures.octets.0 c.in-Ok-feed_all.ensures.fed c.recall.ensures.within c.recall.ensures.some
+
+pub returns-in-Err-clause-last : goal.returns-in-Err-clause-last
+returns-in-Err-clause-last g c =
+    let old = g.S.Source.remaining c.args.source.now in
+    let new = g.S.Source.remaining c.read.new.self in
+    but-memory c.in-Err.fault
+    (λ fed sink. pumps-fed old new sink c.args.conn.now c.feed_all.new.conn (take c.in-Ok.count c.read.new.buffer) c.in-Ok.ensures.octets.0 fed c.recall.ensures.within c.recall.ensures.some)
+    c.in-Err.ensures.last
