@@ -16,6 +16,11 @@ const ROOM: usize = 524288;
 /// The least room that a read is given: that of a frame.
 const LEAST: usize = MAX_FRAME as usize;
 
+/// The first four octets of a protocol header (part 2, 2.2), and how many it has. As the size of a frame they would be longer than any that is taken.
+const PROTOCOL: u32 = 0x414d5150;
+
+const HEADER_LEN: usize = 8;
+
 /// The octets that were read and not handed on.
 #[derive(Drop)]
 pub struct Inbox {
@@ -79,8 +84,8 @@ fn whole_frames(octets: &[u8]) -> usize
     octets.len() - rest.len()
 }
 
-/// The size of the frame at the front, if it is whole. Octets that are no frame, as the protocol header, or none that this end takes, are taken as
-/// they come: the connection says what they are.
+/// The size of the protocol header or the frame at the front, if it is whole, so that what is left begins with a frame. Octets that are neither, or a
+/// frame longer than this end takes, are taken as they come: the connection ends with them.
 fn front(octets: &[u8]) -> Option<usize>
     ensures { IfSome result (λ size. (0 < size) × (size ≤ length octets.now)) }
 {
@@ -88,11 +93,23 @@ fn front(octets: &[u8]) -> Option<usize>
         return None;
     };
     let size = u32::from_be_bytes(*head);
+    if size == PROTOCOL {
+        return whole(octets, HEADER_LEN);
+    }
     if size < 8 || MAX_FRAME < size {
         return Some(octets.len());
     }
-    if octets.len() < size as usize {
-        return None;
+    whole(octets, size as usize)
+}
+
+/// So many octets, if they are there.
+fn whole(octets: &[u8], size: usize) -> Option<usize>
+    requires { 0 < size }
+    ensures { IfSome result (λ whole. (0 < whole) × (whole ≤ length octets.now)) }
+{
+    if octets.len() < size {
+        None
+    } else {
+        Some(size)
     }
-    Some(size as usize)
 }

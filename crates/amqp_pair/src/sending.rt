@@ -24,7 +24,7 @@ const MAX_PAYLOAD: usize = (MAX_FRAME - 128) as usize;
 /// So many messages are begun, or learnt of, before others get the lock.
 const RUN: u32 = 32;
 
-/// So many octets are queued before others get the lock, but for the last message.
+/// So many octets are queued at most before others get the lock, or one message that is longer.
 const RUN_OCTETS: usize = 65536;
 
 /// What was sent and accepted.
@@ -93,8 +93,17 @@ impl Messages {
         }
     }
 
-    /// Each receipt stands in the journal for its operation, at a later place than the one before.
+    /// How many operations send all messages, and learn of each.
+    fn operations(&self) -> usize {
+        let each = self.transfers().saturating_add(1);
+        each.saturating_mul(self.count as usize)
+    }
+
+    /// There is a receipt for each operation, and each stands in the journal for its own, at a later place than the one before.
     pub fn stand(&self, logged: &Logged, receipts: &[Receipt]) -> Result<bool, Refusal> {
+        if receipts.len() != self.operations() {
+            return Ok(false);
+        }
         let mut least = 0u64;
         for (number, receipt) in receipts.iter().enumerate() {
             let operation = self.operation(number)?;

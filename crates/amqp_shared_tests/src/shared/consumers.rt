@@ -71,7 +71,7 @@ fn grant() -> Op {
     }
 }
 
-/// Accepts all, and ends the connection once it has had two.
+/// Releases the first and accepts the second, and ends the connection once it has had two.
 struct Ending<'a, N: Name, R: Wait> {
     rt: &'a R,
     shared: &'a Shared<N>,
@@ -91,10 +91,11 @@ impl<'a, N: Name, R: Wait> Drop for Ending<'a, N, R> {
 impl<'a, N: Name, R: Wait> Work for Ending<'a, N, R> {
     fn consume(&mut self, _item: &Taken) -> DeliveryState {
         self.had = self.had.saturating_add(1);
-        if self.had == 2 {
-            let mut guard = self.shared.lock(self.rt);
-            self.shared.lost(&mut guard);
+        if self.had < 2 {
+            return DeliveryState::Released;
         }
+        let mut guard = self.shared.lock(self.rt);
+        self.shared.lost(&mut guard);
         DeliveryState::Accepted
     }
 }
@@ -122,14 +123,14 @@ fn settled_and_second<N: Name + Send + Sync, R: Threads + Wait + Abort + Sync>(
     passes.push(own)?;
     let closed = left_and_taken(shared, passes, writer).ok_or("not closed")?;
     assert_eq!(rt; closed.conn.logged().journal().len(), 13);
-    let accepted = Op::Dispose {
+    let released = Op::Dispose {
         role: Role::Receiver,
         first: 0,
         last: 0,
         settled: false,
-        state: Some(DeliveryState::Accepted),
+        state: Some(DeliveryState::Released),
     };
-    assert!(rt; stands_at(&closed, &accepted, 10));
+    assert!(rt; stands_at(&closed, &released, 10));
     assert!(rt; stands_at(&closed, &grant(), 11));
     Ok(())
 }
@@ -233,4 +234,49 @@ fn consumed_by<'a, N: Name + Send + Sync, R: Threads + Wait + Abort + Sync>(
     requires { vec_len passes ≡ vec_len works }
 {
     run_consumers(rt, shared, passes, works, 1, 2)
+}
+
+/// Accepts all.
+#[derive(Drop)]
+struct Accepting;
+
+impl Work for Accepting {
+    fn consume(&mut self, _item: &Taken) -> DeliveryState {
+        DeliveryState::Accepted
+    }
+}
+
+#[test]
+fn a_consumer_tells_which_refusal_stopped_it(rt: HostRuntime) -> Result<(), Fail> {
+    stopped_by_a_grant::<Brand, HostRuntime>(&rt, rt.alloc(), seed(rt.alloc(), 4)?)
+}
+
+/// The link has more credit than the consumer is to grant.
+fn stopped_by_a_grant<N: Name + Send + Sync, R: Threads + Wait + Abort + Sync>(
+    rt: &R,
+    alloc: Global,
+    seed: Seed,
+) -> Result<(), Fail>
+    requires { IsNamed seed N.name N.parts N.ring }
+{
+    let (shared, mut pass, _) = open_shared::<N>(seed);
+    with_deliveries(rt, alloc, &shared, &mut pass)?;
+    let more = Op::Grant {
+        link: 1,
+        credit: 5,
+        drain: false,
+        echo: false,
+    };
+    assert!(rt; does(rt, &shared, &mut pass, &more).is_some());
+    let mut passes = Vec::new(alloc);
+    passes.push(pass)?;
+    let mut works = Vec::new(alloc);
+    works.push(Accepting)?;
+    let mut done = run_consumers(rt, &shared, passes, works, 1, 2)?;
+    let consumed = done.pop().ok_or("nothing consumed")?;
+    assert_eq!(rt;
+        (consumed.count, consumed.stopped),
+        (1, Refusal::CreditRecedes)
+    );
+    Ok(())
 }
