@@ -48,10 +48,10 @@ fn make_room(
 /// | `len`, `at`, `follows` | one |
 /// | `has_tag`, `add` | one on average; n where the tags were chosen to collide as they are hashed |
 /// | `find`, `span` | O(log h), and never more than O(log n) |
-/// | `any_second`, `any_fixed`, `ids_at` | k |
+/// | `any_second`, `any_fixed`, `named_at` | k |
 /// | `say`, `hear`, `go_on` | those of `span`, and k; where deliveries end, the shorter side of the span moves: none for a span at either end |
 /// | `tellings` | those of `span`, and k |
-/// | `ids`, `ids_of`, `end_link`, `end_all` | n |
+/// | `named_all`, `named_of`, `end_link`, `end_all` | n |
 #[derive(Drop)]
 pub struct Held {
     alloc: Global,

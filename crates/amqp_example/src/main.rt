@@ -1,4 +1,4 @@
-//! How the crates are embedded, the lowest first: frames alone, a session with its journal, a connection. And a connection to try by hand.
+//! How the crates are embedded, the lowest first: frames alone, a session with its journal, a connection, one that threads share. And a connection to try by hand.
 //!
 //! | module | which crate it shows |
 //! |---|---|

@@ -3,7 +3,7 @@
 //! - [`Frame`]: a channel, a performative and a transfer's payload
 //! - Writing: [`write_frame`] into octets of its own; [`append_frame`] behind others, as for a batch. [`measure_frame`] tells without memory whether
 //!   and in how many octets a frame is written, and [`write_measured`] writes it then; [`frame_refusal`] tells the refusal alone.
-//! - Measures before a body is made, from lent parts: [`measure_open`], [`measure_attach`], [`measure_disposition`], [`measure_detach`], [`measure_end`]
+//! - Measures before a body is made, from lent parts: [`measure_open`], [`measure_begin`], [`measure_attach`], [`measure_disposition`], [`measure_detach`], [`measure_end`]
 //! - Reading: [`Framer`] takes pieces of a stream, by `feed`, `feed_shared` or `feed_all`, and tells a [`FrameFault`]
 //! - Laws: [`written_is_framed`], [`always_written`], [`one_answer`], [`one_frame`], [`cutting`]
 #![tactic(auto)]

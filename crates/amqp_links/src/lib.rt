@@ -11,6 +11,7 @@
 //! | `store` | where they stand, by their number and by the peer's handle, in the order in which they were made |
 //! | `names`, `handles` | the indexes by name and of our handles |
 //! | `telling` | what is told of deliveries waits on their links |
+//! | `found` | a link that was found, with its key |
 //! | `fate` | what becomes of the links, as data |
 #![tactic(auto)]
 

@@ -76,7 +76,7 @@ pub(crate) fn put_close(
     conn.close(error)
 }
 
-/// MovesUnits units from the connection to the ring, as many as fit.
+/// Moves units from the connection to the ring, as many as fit.
 pub(crate) fn push_units(conn: &mut Conn, producer: &mut Producer<Unit, Global, Numbered>)
     requires pushed { sent producer.old ≡ moved_of conn.old }
     ensures pushed { sent producer.new ≡ moved_of conn.new }

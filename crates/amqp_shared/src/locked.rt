@@ -68,7 +68,7 @@ impl<N: Name> Locked<N> {
         &self.conn
     }
 
-    /// MovesUnits units to the ring, as many as fit.
+    /// Moves units to the ring, as many as fit.
     pub(crate) fn move_units(&mut self)
         ensures { MovesUnits self.old self.new }
     {

@@ -206,7 +206,7 @@ impl<N: Name> Shared<N> {
         self.wake_callers(guard, Change::Ends);
     }
 
-    /// MovesUnits units to the ring, as many as fit. It takes no memory.
+    /// Moves units to the ring, as many as fit. It takes no memory.
     pub fn move_units(&self, guard: &mut MutexGuard<'_, Locked<N>>)
         ensures { MovesUnits (mutex_guard_value guard.old) (mutex_guard_value guard.new) }
     {
@@ -246,7 +246,7 @@ impl<N: Name> Shared<N> {
         unreachable!()
     }
 
-    /// MovesUnits units to the ring, and waits until more than `seen` units were put out or the connection has ended. It answers how many were put
+    /// Moves units to the ring, and waits until more than `seen` units were put out or the connection has ended. It answers how many were put
     /// out, and whether the phase is `Closed`. A writer passes what it has taken.
     pub fn wait_units<R: Wait>(&self, rt: &R, seen: u64) -> (u64, bool)
         ensures { (IsFalse result.1) → seen < result.0 }

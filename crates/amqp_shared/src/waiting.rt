@@ -22,7 +22,7 @@ pub(crate) enum Want {
 pub(crate) enum Change {
     Nothing,
     Brings(Want),
-    /// A link, the session or the connection may have gone: whatever is waited for may not come any more.
+    /// What is waited for may have come, or may not come any more: all who wait look again.
     Ends,
 }
 
