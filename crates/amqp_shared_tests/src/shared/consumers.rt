@@ -235,3 +235,48 @@ fn consumed_by<'a, N: Name + Send + Sync, R: Threads + Wait + Abort + Sync>(
 {
     run_consumers(rt, shared, passes, works, 1, 2)
 }
+
+/// Accepts all.
+#[derive(Drop)]
+struct Accepting;
+
+impl Work for Accepting {
+    fn consume(&mut self, _item: &Taken) -> DeliveryState {
+        DeliveryState::Accepted
+    }
+}
+
+#[test]
+fn a_consumer_tells_which_refusal_stopped_it(rt: HostRuntime) -> Result<(), Fail> {
+    stopped_by_a_grant::<Brand, HostRuntime>(&rt, rt.alloc(), seed(rt.alloc(), 4)?)
+}
+
+/// The link has more credit than the consumer is to grant.
+fn stopped_by_a_grant<N: Name + Send + Sync, R: Threads + Wait + Abort + Sync>(
+    rt: &R,
+    alloc: Global,
+    seed: Seed,
+) -> Result<(), Fail>
+    requires { IsNamed seed N.name N.parts N.ring }
+{
+    let (shared, mut pass, _) = open_shared::<N>(seed);
+    with_deliveries(rt, alloc, &shared, &mut pass)?;
+    let more = Op::Grant {
+        link: 1,
+        credit: 5,
+        drain: false,
+        echo: false,
+    };
+    assert!(rt; does(rt, &shared, &mut pass, &more).is_some());
+    let mut passes = Vec::new(alloc);
+    passes.push(pass)?;
+    let mut works = Vec::new(alloc);
+    works.push(Accepting)?;
+    let mut done = run_consumers(rt, &shared, passes, works, 1, 2)?;
+    let consumed = done.pop().ok_or("nothing consumed")?;
+    assert_eq!(rt;
+        (consumed.count, consumed.stopped),
+        (1, Refusal::CreditRecedes)
+    );
+    Ok(())
+}
