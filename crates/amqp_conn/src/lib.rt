@@ -36,7 +36,8 @@
 //!    program, with the rest to be written before the next unit. Popping takes no memory.
 //! 2. **Read**: some octets, as many as have come, into a buffer of the program's. A read that gives none is the end of the input: call `lost()`.
 //! 3. **Feed**: `feed(piece)` takes octets at most to the end of one frame. Feed again what comes after the `used` ones, until none are left or the phase
-//!    is `Closed`. Where octets were cut makes no difference. Octets that lie in a `Bytes` are fed by `feed_shared`, which copies no payload.
+//!    is `Closed`. Where octets were cut makes no difference. Octets that lie in a `Bytes` are fed by `feed_shared`: a payload that
+//!    lies whole in them is not copied.
 //! 4. **Act**: each feed that added an entry to the journal gives what that entry gave (`Fed::given`): a link that the peer offered, a delivery that is
 //!    ready, an outcome. `apply(&op)` does an operation, as take, dispose, grant or start, while the phase is `Running`; what it sends is a unit more.
 //! 5. Again from 1, until the phase is `Closed` and no unit waits; then shut the socket.
@@ -51,7 +52,8 @@
 //!     while !rest.is_empty() && conn.phase() != Phase::Closed {
 //!         match conn.feed(rest) {
 //!             Ok(fed) => { rest = &rest[fed.used..]; act(&mut conn, fed.given); }
-//!             Err(fault) => { told = Some(fault); break; }   // the phase is Closed now, unless the fault is NoMemory
+//!             Err(ConnFault::NoMemory) => return,            // nothing has changed: `rest` is to be fed again before more is read
+//!             Err(fault) => { told = Some(fault); break; }   // the phase is Closed now
 //!         }
 //!     }
 //! }
@@ -96,7 +98,7 @@
 //!
 //! A `Conn` belongs to one thread at a time: each call but the readers takes `&mut self`, and no call keeps a thread waiting. Units are to be written in
 //! the order in which they were popped, so one thread pops and writes, or the order is kept by the program. Feeds are in the order of the octets,
-//! so one thread reads and feeds. A program whose threads share a connection puts it under a lock.
+//! so one thread reads and feeds. `amqp_shared` lets several threads share a connection.
 
 mod config;
 mod conn;

@@ -11,7 +11,8 @@
 //! | `tables` | the unsettled deliveries of both roles |
 //! | `partial` | the payloads of a delivery whose transfers go on, as slices that are shared |
 //!
-//! With n deliveries held, a look-up by id or by tag takes O(log n), and what a disposition does as many steps more as it covers deliveries.
+//! With n deliveries held, a look-up by id takes O(log n) and one by tag a step on average, and what a disposition does as many steps more as it
+//! covers deliveries; [`Held`] has the costs of each call.
 //! A call that is refused memory changes nothing.
 #![tactic(auto)]
 

@@ -68,7 +68,8 @@ impl Model for Endpoint {
 }
 
 impl Endpoint {
-    /// Does what was planned: its reply, and a handle of the octets that are sent. All memory is asked for before anything changes.
+    /// Does what was planned of this endpoint, since when no step was done: its reply, and a handle of the octets that are sent. All memory is
+    /// asked for before anything changes.
     pub fn commit(&mut self, plan: Plan) -> Result<(Reply, Option<Bytes>), AllocError>
         requires steps { self.old.steps < 2 ^ 30 }
         requires sound { IsSound self.old plan }

@@ -4,6 +4,19 @@
 //! A step is planned, then committed: a plan changes nothing, and is refused or owns all that the step needs; `commit` asks for the memory
 //! that is left to ask for, and then changes what cannot fail. `own` and `heard` do both at once, the frequent kinds without a whole plan.
 //!
+//! With n links and u unsettled deliveries, beside the octets of the frames that are sent:
+//!
+//! | step | cost |
+//! |---|---|
+//! | opened, begin, refresh, beat; the peer's begin and open | O(1) |
+//! | start, carry, grant, offer, drained, learn; a flow, a transfer | O(log n) |
+//! | attach, of either end | O(log n + m), for m links of its name |
+//! | take | O(log n), and one copy of a payload that came in several transfers |
+//! | abort | O(log n + log u) |
+//! | dispose, the peer's disposition, of k deliveries | O(log u + k), and O(log n) for each that the peer tells of; those beside them on the shorter side move where deliveries end |
+//! | detach, of either end | O(log n + u) |
+//! | end, of either end | O(n + u) |
+//!
 //! | module | what it has |
 //! |---|---|
 //! | `plan` | a step as it is planned |

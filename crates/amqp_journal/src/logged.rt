@@ -64,7 +64,7 @@ impl Model for Logged {
 }
 
 impl Logged {
-    /// An endpoint with an empty journal. It takes no memory but the endpoint's.
+    /// An endpoint with an empty journal. It asks for no memory.
     pub fn new(alloc: Global, config: &Config) -> Result<Logged, AllocError>
         requires { IsWithinLimits config.now }
         ensures { IfOk result (λ l. l ≡ new_log config.now) }
@@ -134,7 +134,8 @@ impl Logged {
     }
 
     /// Does an operation: one entry more, or a refusal that leaves all as it was. A full journal is told first, and want of memory last.
-    /// It costs what the endpoint's step costs, and one copy of the operation and of what is given; payloads are shared.
+    /// It costs what the endpoint's step costs (a table in `amqp_endpoint`), and one copy of the operation and of what is given; payloads are shared.
+    /// Where the journal has no room left it grows, and all its entries move.
     pub fn apply(&mut self, op: &Op) -> Result<Given, Refusal>
         ensures step { IfOk result (λ given. Appends self.old (step.Own op.now) (own_due self.old op.now) given self.new) }
         ensures refusal { IfErr result (IsRefusal Refusal.NoMemory (own_due self.old op.now)) }

@@ -17,11 +17,12 @@ use std::marker::Model;
 /// The links that are not gone, in the order in which they were made. A link is found by its number, by the peer's handle, and by its role and name;
 /// and the lowest handle that is free is known.
 ///
-/// | call | cost, for n links |
+/// | call | cost, for n links, m of them of one name |
 /// |---|---|
-/// | a look-up | O(log n) |
-/// | `meet`: a link more, or one less | O(log n) |
-/// | `meet`: a change at a place | O(1) |
+/// | a look-up by number or handle | O(log n) |
+/// | a look-up by name; `meet`: an attach of either end, a link more, or one less | O(log n + m) |
+/// | `free_handle`; `meet`: any other change of one link | O(1) |
+/// | `tell`, `untell`, of k things | O(k log n) |
 /// | `meet`: all are gone | O(n) |
 #[derive(Drop)]
 pub struct Links {

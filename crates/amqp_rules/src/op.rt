@@ -17,22 +17,26 @@ pub enum Op {
         name: Text,
         /// Our end of it.
         role: Role,
+        /// The sender's settle mode: 0 unsettled, 1 settled, 2 mixed (part 2, 2.8.2). Any other is refused as not writable.
         snd: u8,
+        /// The receiver's settle mode: 0 first, 1 second (part 2, 2.8.3). Any other is refused as not writable.
         rcv: u8,
         source: Option<Boxed<Value>>,
         target: Option<Boxed<Value>>,
-        /// A sender's first delivery-count.
+        /// A sender's first delivery-count; a receiver does not tell it.
         count: u32,
-        /// In octets; no limit where it is 0.
+        /// The longest message that we take, in octets; no limit where it is 0.
         max_message: u64,
     },
     /// Begins a delivery on the link, with its first transfer (part 2, 2.6.12).
     Start {
         link: u32,
         tag: Tag,
+        /// The message-format (part 2, 2.8.11).
         format: u32,
         settled: bool,
         payload: Bytes,
+        /// Further transfers of it follow, by `Carry`.
         more: bool,
     },
     /// Sends a further transfer of the delivery that is unfinished on the link (part 2, 2.6.14).
@@ -45,7 +49,8 @@ pub enum Op {
     Abort {
         link: u32,
     },
-    /// Tells the state of unsettled deliveries of this role of ours, from first to last, and settles them (part 2, 2.7.6).
+    /// Tells the state, where one is given, of the unsettled deliveries of this role of ours whose ids are `first` to `last`, both among them; with
+    /// `settled` it ends them (part 2, 2.7.6).
     Dispose {
         role: Role,
         first: u32,
@@ -57,7 +62,8 @@ pub enum Op {
     Learn {
         link: u32,
     },
-    /// Gives credit to the peer on a link on which we receive (part 2, 2.6.7).
+    /// Sets the credit of a link on which we receive to so many deliveries, no fewer than there are now, and 2147483647 at most (part 2, 2.6.7). With
+    /// `drain` the peer is to use it up or to give it up, with `echo` it is asked for a flow.
     Grant {
         link: u32,
         credit: u32,

@@ -20,9 +20,12 @@ pub struct Taken {
     pub id: u32,
     pub link: u32,
     pub tag: Tag,
+    /// The message-format (part 2, 2.8.11).
     pub format: u32,
     pub payload: Bytes,
+    /// It came settled: nothing is to be told of it.
     pub settled: bool,
+    /// Its receiver settles second (part 2, 2.8.3).
     pub second: bool,
 }
 
@@ -32,6 +35,7 @@ pub struct Learned {
     pub id: u32,
     pub link: u32,
     pub tag: Tag,
+    /// None where it was settled without a state.
     pub state: Option<DeliveryState>,
     pub settled: bool,
 }

@@ -52,7 +52,8 @@ impl<N: Name> CloseRefusal<N> {
 
 impl<N: Name> Shared<N> {
     /// Takes the connection out, with the passes and the writer's end that belong to it: the units that the writer took, and then those that are
-    /// left, are the connection's units, each once and in their order. It waits for nobody, since nobody else can hold what it is given.
+    /// left, are the connection's units, each once and in their order. It waits for nobody, since nobody else can hold what it is given. It costs a step
+    /// for each pass, and for each unit that is left.
     ///
     /// # Errors
     ///

@@ -197,8 +197,13 @@ fn consume_all<N: Name, W: Work, R: Wait>(
 }
 
 /// One thread for each work: it takes deliveries of the link as they come, consumes each, disposes it unless it came settled, and grants the
-/// credit again, until an operation is refused. Each hands back its pass, raised by one to three for each delivery that it consumed. None of either
-/// is allowed, and gives an empty list. After `NoMemory` the passes and works are gone, and what the consumers did stands.
+/// credit again (so many deliveries in all may come), until an operation is refused. It returns once each has stopped: not while the connection runs
+/// and refuses nothing. Each hands back its pass, raised by one to three for each delivery that it consumed. None of either is allowed, and gives an
+/// empty list.
+///
+/// # Errors
+///
+/// Want of memory: the passes and works are gone then, and what the consumers did stands.
 pub fn run_consumers<N: Name + Send + Sync, W: Work + Send + Drop, R: Threads + Wait + Sync>(
     rt: &R,
     shared: &Shared<N>,

@@ -26,8 +26,8 @@
 //!    is wanting. Each thread has a pass of its own (`Pass::split`).
 //! 3. **The reader** reads from the socket without the lock, takes it, and feeds the guard what came (`feed`). Where the octets end it
 //!    calls `lost`.
-//! 4. **The writer** takes units and writes them, without the lock: nothing that happens under it can hold up a write, and no write holds up
-//!    those who want the lock. Where `take` answers `None` it calls `wait_units` with what it has taken. It ends where the phase is `Closed`
+//! 4. **The writer** takes units from the ring and writes them, without the lock, and no write holds up those who want it. Where `take` answers
+//!    `None` it calls `wait_units` with what it has taken, which takes the lock and moves more to the ring. It ends where the phase is `Closed`
 //!    and all units are taken.
 //! 5. `close`, with all passes and the writer's end, gives the connection back, and the units that nobody took.
 //!

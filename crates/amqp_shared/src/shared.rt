@@ -34,7 +34,7 @@ pub struct Shared<N: Name> {
 }
 
 /// Opens a seed under its name: what threads share, the first pass, which has all parts and has made nothing, and the writer's end, from which
-/// nothing was taken.
+/// nothing was taken. Who calls it is generic over the name, and is given `std::marker::Brand` for it (`amqp_example` shows how).
 pub fn open_shared<N: Name>(seed: Seed) -> (Shared<N>, Pass<N>, WriterEnd<N>)
     requires { IsNamed seed N.name N.parts N.ring }
     ensures pass { result.1 ≡ record { parts = 65536; made = 0 } }
@@ -86,7 +86,11 @@ impl<N: Name> Shared<N> {
     }
 
     /// An operation of the application on the lent session, as `Conn::apply`, counted in the pass. Its receipt stands for it at the journal's
-    /// last entry. A refusal has changed nothing.
+    /// last entry.
+    ///
+    /// # Errors
+    ///
+    /// Those of `Conn::apply`. A refusal has changed nothing.
     pub fn call(
         &self,
         guard: &mut MutexGuard<'_, Locked<N>>,
@@ -215,6 +219,11 @@ impl<N: Name> Shared<N> {
 
     /// As `call`, but where credit, a window, a delivery or an outcome is wanting it waits for a change and tries again. The guard that it gives
     /// back is of the session after the operation, or of the one that refused it.
+    ///
+    /// # Errors
+    ///
+    /// Those of `call` but `NoCredit`, `NoWindow` and `Nothing`, for which it waits. Where a link, the session or the connection ends, or the journal is
+    /// full, it looks again, and tells what it is refused for then.
     pub fn call_wait<'b, R: Wait>(
         &self,
         rt: &R,

@@ -106,8 +106,8 @@ pub(crate) fn awaited_by(op: &Op) -> Want {
     }
 }
 
-/// What an operation may bring to others who wait: its link or its session is gone. No other one brings credit, a window, a delivery or an
-/// outcome, all of which come from the peer.
+/// What an operation may bring to others who wait: its link or its session is gone. No other one brings anything to who waits already: credit, a
+/// window, a delivery and an outcome come from the peer.
 pub(crate) fn brought_by(op: &Op) -> Change {
     match op {
         Op::Detach { .. } | Op::End { .. } => Change::Ends,
@@ -155,7 +155,7 @@ fn stepped(conn: &Conn, given: &Given) -> Change {
     }
 }
 
-/// An operation of a feed's own answers a violation: it ends a link or the session.
+/// An open may bring anything; an operation of a feed's own answers a violation, and ends a link or the session.
 fn in_step(step: &Step) -> Change {
     match step {
         Step::Heard(frame) => in_frame(frame.get()),

@@ -7,8 +7,8 @@ use rtrb::Consumer;
 use std::alloc::Global;
 use std::marker::{Model, PhantomData};
 
-/// The writer's end of the ring. Contracts see it as the units that were taken. It needs neither the lock nor memory, so a writer is never held
-/// up by the threads that use the session.
+/// The writer's end of the ring. Contracts see it as the units that were taken. It needs neither the lock nor memory: what is in the ring is taken
+/// whatever the threads that use the session do.
 #[derive(Drop)]
 pub struct WriterEnd<N: Name> {
     pub(crate) consumer: Consumer<Unit, Global, Numbered>,

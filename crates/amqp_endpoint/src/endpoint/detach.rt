@@ -68,7 +68,8 @@ impl Endpoint {
         }
     }
 
-    /// Leaves a link: what is unfinished on it is dropped, and its unsettled deliveries are ended. O(log n) for n links.
+    /// Leaves a link: what is unfinished on it is dropped, and its unsettled deliveries are ended. O(log n) for n links;
+    /// what comes of it goes over all unsettled deliveries.
     pub(crate) fn plan_detach(
         &self,
         link: u32,

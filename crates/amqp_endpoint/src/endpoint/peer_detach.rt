@@ -42,7 +42,8 @@ impl Endpoint {
         })
     }
 
-    /// The peer leaves a link; where it is attached it is answered by a detach that is closed as the peer's is. O(log n) for n links.
+    /// The peer leaves a link; where it is attached it is answered by a detach that is closed as the peer's is. O(log n) for n
+    /// links; what comes of it goes over all unsettled deliveries.
     pub(crate) fn plan_peer_detach(&self, body: &DetachBody) -> Result<Plan, Violation>
         ensures { Plans no_memory self.now (detach_heard_answer self.now body.now) (next_detach_heard self.now body.now) result }
     {
