@@ -7,7 +7,8 @@ use Rattle.amqp_flow.specs.Serial.{distance}
 use Rattle.amqp_events.specs.Event.{Item, Event}
 use Rattle.amqp_events.specs.Since.{with_one, now}
 use Rattle.amqp_events.specs.Unsettled.{begins, begun, ends, held, is_held, shown, said_to, added}
-use Rattle.amqp_events.specs.Numbers.{uses, expected, used}
+use Rattle.amqp_events.specs.Numbers.{expected}
+use Rattle.amqp_events.proofs.Used.{uses, used}
 use Rattle.amqp_events.specs.Numbers.{AreSentInOrder, AreHeardInOrder}
 use Rattle.amqp_events.specs.Named.{has_id, ids_of, ids_begun, is_among, less, ended_by, named}
 use Rattle.amqp_events.proofs.Numbered.{AreNumbered, sent-numbered, heard-numbered, used-few}

@@ -5,7 +5,8 @@ use Rattle.amqp_flow.specs.Serial.{wire}
 use Rattle.amqp_flow.proofs.SerialLaws.{wire-more, wire-wire}
 use Rattle.amqp_events.specs.Event.{Item, Event, Begins, PassesOver}
 use Rattle.amqp_events.specs.Since.{more}
-use Rattle.amqp_events.specs.Numbers.{deliveries, is_expected, uses, one_past, expected, used, Follows, IsNext, AreHeardInOrder, IsSent, AreSentInOrder}
+use Rattle.amqp_events.specs.Numbers.{deliveries, is_expected, one_past, expected, Follows, IsNext, AreHeardInOrder, IsSent, AreSentInOrder}
+use Rattle.amqp_events.proofs.Used.{uses, used}
 
 -- a delivery that begins has the serial number after all ids that were used
 abbrev pub AtNumber : ℕ → Event → List Event → Type 0

@@ -6,7 +6,8 @@ use Rattle.amqp_flow.proofs.SerialLaws.{distance-counted}
 use Rattle.amqp_events.specs.Event.{Item, Event, Begins, PassesOver}
 use Rattle.amqp_events.specs.Since.{more, with_one}
 use Rattle.amqp_events.specs.Unsettled.{begun, is_held, shown, still_held, held}
-use Rattle.amqp_events.specs.Numbers.{uses, expected, used}
+use Rattle.amqp_events.specs.Numbers.{expected}
+use Rattle.amqp_events.proofs.Used.{uses, used}
 use Rattle.amqp_events.proofs.Numbered.{AreNumbered}
 use Rattle.amqp_events.proofs.Lists.{all-append, all-map, all-weaker, all-filter, Rises, rises-map, rises-filter, rises-push, pairs-rising, pairs-all}
 

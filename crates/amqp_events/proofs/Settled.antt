@@ -6,7 +6,8 @@ use Rattle.std.proofs.lemmas.List.Folds.{list_any-append}
 use Rattle.amqp_flow.specs.Serial.{distance}
 use Rattle.amqp_events.specs.Event.{Item, Event, Begins}
 use Rattle.amqp_events.specs.Unsettled.{begins, ends, held, said_to, added}
-use Rattle.amqp_events.specs.Numbers.{uses, expected, used}
+use Rattle.amqp_events.specs.Numbers.{expected}
+use Rattle.amqp_events.proofs.Used.{uses, used}
 use Rattle.amqp_events.specs.Named.{has_id, ended_by, named}
 use Rattle.amqp_events.proofs.Numbered.{AreNumbered}
 use Rattle.amqp_events.proofs.UnsettledLaw.{held-step}

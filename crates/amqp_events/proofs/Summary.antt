@@ -4,7 +4,8 @@ use Rattle.std.proofs.lemmas.List.Elements.{All-from_recursion}
 use Rattle.amqp_flow.specs.Serial.{wire, is_before}
 use Rattle.amqp_events.specs.Event.{Event}
 use Rattle.amqp_events.specs.Unsettled.{held}
-use Rattle.amqp_events.specs.Numbers.{deliveries, expected, used, AreSentInOrder, AreHeardInOrder}
+use Rattle.amqp_events.specs.Numbers.{deliveries, expected, AreSentInOrder, AreHeardInOrder}
+use Rattle.amqp_events.proofs.Used.{used}
 use Rattle.amqp_events.specs.Named.{named}
 use Rattle.amqp_events.specs.Laws.{AreInOrder, IsPast, AreDistinct}
 use Rattle.amqp_events.proofs.Numbered.{sent-numbered, heard-numbered, used-few}

@@ -6,7 +6,8 @@ use Rattle.std.proofs.lemmas.List.Folds.{list_any-append}
 use Rattle.amqp_flow.specs.Serial.{distance, is_inside}
 use Rattle.amqp_events.specs.Event.{Disposition, Event, Begins, Continues, PassesOver, Says, Hears, Leaves, Over, Learns, Takes, Nothing}
 use Rattle.amqp_events.specs.Unsettled.{begins, ends, begun, is_held, still_held}
-use Rattle.amqp_events.specs.Numbers.{uses, expected, used}
+use Rattle.amqp_events.specs.Numbers.{expected}
+use Rattle.amqp_events.proofs.Used.{uses, used}
 use Rattle.amqp_events.specs.Told.{Telling, telling, has_outcome, tells, tells_now, told, told_by, SentItem, sent_item, sent_held, next_sent, added_sent, tellings}
 use Rattle.amqp_events.proofs.Numbered.{AreNumbered}
 use Rattle.amqp_events.proofs.ToldLaw.{sent-step, told-by-held}

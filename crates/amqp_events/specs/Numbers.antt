@@ -2,7 +2,7 @@
 use Rattle.std.specs.Prelude.{ℕ, ◌≡◌, ◌+◌, ◌==◌, Bool, true, false, Option, None, Some, List, [], ◌∷◌, cond}
 use Rattle.amqp_flow.specs.Serial.{wire}
 use Rattle.amqp_events.specs.Event.{Event, Begins, PassesOver}
-use Rattle.amqp_events.specs.Since.{total, more}
+use Rattle.amqp_events.specs.Since.{total}
 
 abbrev pub is_begin : Event → Bool
 is_begin (Begins item unsettled) = true
@@ -17,13 +17,7 @@ abbrev pub is_expected : Option ℕ → Option ℕ → Bool
 is_expected (Some id) (Some next) = id == next
 is_expected _ _ = false
 
--- the event uses an id: it begins a delivery, or it is passed over and has the id that is expected
-abbrev pub uses : Event → Option ℕ → Bool
-uses (Begins item unsettled) next = true
-uses (PassesOver id) next = is_expected id next
-uses _ next = false
-
--- the id that it uses
+-- the id that the event uses: it begins a delivery, or it is passed over and has the id that is expected
 abbrev pub id_used : Event → Option ℕ → Option ℕ
 id_used (Begins item unsettled) next = Some item.id
 id_used (PassesOver id) next = cond (is_expected id next) id None
@@ -38,11 +32,6 @@ one_past (Some id) earlier = Some (wire (id + 1))
 abbrev pub expected : List Event → Option ℕ
 expected [] = None
 expected (e ∷ before) = one_past (id_used e (expected before)) (expected before)
-
--- how many ids were used
-abbrev pub used : List Event → ℕ
-used [] = 0
-used (e ∷ before) = more (cond (uses e (expected before)) 1 0) (used before)
 
 -- # What is required of an event
 

@@ -23,7 +23,7 @@ use Rattle.amqp_events.proofs.Lists.{Pairs, pairs-all}
 use Rattle.amqp_events.proofs.Gone.{items-next}
 use Rattle.amqp_events.proofs.UnsettledLaw.{held-step}
 use Rattle.amqp_events.proofs.Numbered.{sent-numbered, heard-numbered, used-few}
-use Rattle.amqp_events.specs.Numbers.{used}
+use Rattle.amqp_events.proofs.Used.{used}
 use Rattle.amqp_events.proofs.Settled.{named-all}
 use Rattle.amqp_laws.specs.declared.entry.Entry.{Entry}
 use Rattle.amqp_laws.specs.declared.entry.Step.{Step}
