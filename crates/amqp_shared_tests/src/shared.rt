@@ -9,6 +9,7 @@ use amqp_conn::{Config, Phase};
 use amqp_frames::Role;
 use amqp_journal::receipt::Receipt;
 use amqp_rules::op::Op;
+use amqp_rules::refusal::Refusal;
 use amqp_shared::{CloseReason, Closed, Name, Pass, Seed, Shared, WriterEnd, open_shared};
 use amqp_types::{Tag, Text};
 use bytes::Bytes;
@@ -38,6 +39,15 @@ const FLOW: [u8; 30] = [
     0, 0, 0, 0x1e, 2, 0, 0, 0, 0, 0x53, 0x13, 0xc0, 0x11, 7, 0x43, 0x70, 0, 0, 8, 0, 0x43, 0x70,
     0x7f, 0xff, 0xff, 0xff, 0x43, 0x43, 0x52, 5,
 ];
+
+/// A flow with the same credit, and no window.
+const SHUT: [u8; 26] = [
+    0, 0, 0, 0x1a, 2, 0, 0, 0, 0, 0x53, 0x13, 0xc0, 0x0d, 7, 0x43, 0x43, 0x43, 0x70, 0x7f, 0xff,
+    0xff, 0xff, 0x43, 0x43, 0x52, 5,
+];
+
+/// The peer's close.
+const CLOSE: [u8; 12] = [0, 0, 0, 0x0c, 2, 0, 0, 0, 0, 0x53, 0x18, 0x45];
 
 /// A disposition that accepts the first delivery and settles it.
 const ACCEPTED: [u8; 22] = [
@@ -129,6 +139,7 @@ fn ring_row<N: Name + Send + Sync, R: Threads + Wait + Abort + Sync>(
     let mut passes = Vec::new(alloc);
     passes.push(pass)?;
     let closed = left_and_taken(shared, passes, writer).ok_or("not closed")?;
+    assert!(rt; closed.conn.phase() == Phase::Running);
     assert_eq!(rt; closed.taken, 2);
     let numbers = (
         closed.left.len(),
@@ -195,9 +206,59 @@ fn kept_back<N: Name, R: Wait + Abort>(rt: &R, alloc: Global, seed: Seed) -> Res
         CloseReason::PassesMissing { made: 1, steps: 3 }
     );
     let (shared, mut passes, writer) = refusal.into_parts();
+    assert!(rt; does(rt, &shared, &mut other, &Op::Beat).is_some());
     passes.push(other)?;
     let closed = left_and_taken(shared, passes, writer).ok_or("not closed")?;
-    assert_eq!(rt; (closed.taken, closed.left.len()), (0, 4));
+    assert_eq!(rt; (closed.taken, closed.left.len()), (0, 5));
+    Ok(())
+}
+
+#[test]
+fn the_ring_is_filled_at_each_step(rt: HostRuntime) -> Result<(), Fail> {
+    filled::<Brand, HostRuntime>(&rt, seed(rt.alloc(), 2)?)
+}
+
+/// Nothing moves units but the steps.
+fn filled<N: Name, R: Wait + Abort>(rt: &R, seed: Seed) -> Result<(), Fail>
+    requires { IsNamed seed N.name N.parts N.ring }
+{
+    let (shared, mut pass, mut writer) = open_shared::<N>(seed);
+    hear(rt, &shared, &mut pass, &GREETING);
+    assert!(rt; does(rt, &shared, &mut pass, &Op::Begin).is_some());
+    assert_eq!(rt; next_number(&mut writer), Some(0));
+    assert_eq!(rt; next_number(&mut writer), Some(1));
+    assert_eq!(rt; next_number(&mut writer), None);
+    assert!(rt; does(rt, &shared, &mut pass, &Op::Beat).is_some());
+    assert_eq!(rt; next_number(&mut writer), Some(2));
+    assert_eq!(rt; next_number(&mut writer), Some(3));
+    assert_eq!(rt; next_number(&mut writer), None);
+    Ok(())
+}
+
+fn next_number<N: Name>(writer: &mut WriterEnd<N>) -> Option<u64> {
+    writer.take().map(|unit| unit.number)
+}
+
+#[test]
+fn a_close_is_waited_for(rt: HostRuntime) -> Result<(), Fail> {
+    closes::<Brand, HostRuntime>(&rt, seed(rt.alloc(), 4)?)
+}
+
+/// Our close goes out, and the connection has not ended before the peer's has come.
+fn closes<N: Name, R: Wait + Abort>(rt: &R, seed: Seed) -> Result<(), Fail>
+    requires { IsNamed seed N.name N.parts N.ring }
+{
+    let (shared, mut pass, _) = open_shared::<N>(seed);
+    hear(rt, &shared, &mut pass, &GREETING);
+    let mut guard = shared.lock(rt);
+    assert!(rt; shared.shut(&mut guard, None).is_ok());
+    drop(guard);
+    let guard = shared.lock(rt);
+    assert!(rt; guard.conn().phase() == Phase::Closing);
+    drop(guard);
+    assert_eq!(rt; shared.wait_units(rt, 2), (3, false));
+    hear(rt, &shared, &mut pass, &CLOSE);
+    assert_eq!(rt; shared.wait_units(rt, 3), (3, true));
     Ok(())
 }
 
@@ -241,23 +302,62 @@ fn waits<N: Name + Send + Sync, R: Threads + Wait + Abort + Sync>(
     let (shared, mut pass, _) = open_shared::<N>(seed);
     with_link(rt, alloc, &shared, &mut pass)?;
     let own = pass.split().ok_or("no part")?;
-    let told = side_by_side(rt, alloc, &shared, own, pass);
+    let told = side_by_side(rt, alloc, &shared, own, pass, 6);
     assert_eq!(rt; told, Some((7, false)));
     Ok(())
 }
 
-/// One thread waits, another tells it.
+#[test]
+fn a_call_waits_for_a_window(rt: HostRuntime) -> Result<(), Fail> {
+    waits_shut::<Brand, HostRuntime>(&rt, rt.alloc(), seed(rt.alloc(), 16)?)
+}
+
+fn waits_shut<N: Name + Send + Sync, R: Threads + Wait + Abort + Sync>(
+    rt: &R,
+    alloc: Global,
+    seed: Seed,
+) -> Result<(), Fail>
+    requires { IsNamed seed N.name N.parts N.ring }
+{
+    let (shared, mut pass, _) = open_shared::<N>(seed);
+    with_link(rt, alloc, &shared, &mut pass)?;
+    hear(rt, &shared, &mut pass, &SHUT);
+    let refusal = refused_start(rt, alloc, &shared, &mut pass);
+    assert_eq!(rt; refusal, Some(Refusal::NoWindow));
+    let own = pass.split().ok_or("no part")?;
+    let told = side_by_side(rt, alloc, &shared, own, pass, 7);
+    assert_eq!(rt; told, Some((7, false)));
+    Ok(())
+}
+
+/// Why no delivery begins as it stands.
+fn refused_start<N: Name, R: Wait>(
+    rt: &R,
+    alloc: Global,
+    shared: &Shared<N>,
+    pass: &mut Pass<N>,
+) -> Option<Refusal> {
+    let start = start(alloc, [1, 0])?;
+    let mut guard = shared.lock(rt);
+    match shared.call(&mut guard, pass, &start) {
+        Ok(_) => None,
+        Err(refusal) => Some(refusal),
+    }
+}
+
+/// One thread waits, from when the journal has so many steps; another tells it.
 fn side_by_side<N: Name + Send + Sync, R: Threads + Wait + Abort + Sync>(
     rt: &R,
     alloc: Global,
     shared: &Shared<N>,
     own: Pass<N>,
     pass: Pass<N>,
+    steps: usize,
 ) -> Option<(u64, bool)> {
     thread::join(
         rt,
         move || starts_and_learns(rt, alloc, shared, own),
-        move || tells_in_turn(rt, shared, pass),
+        move || tells_in_turn(rt, shared, pass, steps),
     )
     .0
 }
@@ -295,14 +395,19 @@ fn start(alloc: Global, tag: [u8; 2]) -> Option<Op> {
     })
 }
 
-/// Tells each once it is waited for; that a unit is waited for is likely then, and not seen.
-fn tells_in_turn<N: Name, R: Wait + Abort>(rt: &R, shared: &Shared<N>, pass: Pass<N>) {
+/// Tells each once it is waited for, the first when the journal has so many steps; that a unit is waited for is likely then, and not seen.
+fn tells_in_turn<N: Name, R: Wait + Abort>(
+    rt: &R,
+    shared: &Shared<N>,
+    pass: Pass<N>,
+    steps: usize,
+) {
     let mut pass = pass;
-    assert!(rt; comes_to(rt, shared, 6));
+    assert!(rt; comes_to(rt, shared, steps));
     hear(rt, shared, &mut pass, &FLOW);
-    assert!(rt; comes_to(rt, shared, 8));
+    assert!(rt; comes_to(rt, shared, steps.saturating_add(2)));
     hear(rt, shared, &mut pass, &ACCEPTED);
-    assert!(rt; comes_to(rt, shared, 10));
+    assert!(rt; comes_to(rt, shared, steps.saturating_add(4)));
     for _ in 0..1000u16 {
         thread::yield_now();
     }

@@ -71,11 +71,13 @@ fn grant() -> Op {
     }
 }
 
-/// Releases the first and accepts the second, and ends the connection once it has had two.
+/// Gives the first back and accepts the second, and ends the connection once it has had two.
 struct Ending<'a, N: Name, R: Wait> {
     rt: &'a R,
     shared: &'a Shared<N>,
     had: u64,
+    /// How many of them were those that were sent, in turn.
+    right: u64,
 }
 
 impl<'a, N: Name, R: Wait> Drop for Ending<'a, N, R> {
@@ -84,20 +86,42 @@ impl<'a, N: Name, R: Wait> Drop for Ending<'a, N, R> {
             rt: _,
             shared: _,
             had: _,
+            right: _,
         } = self;
     }
 }
 
 impl<'a, N: Name, R: Wait> Work for Ending<'a, N, R> {
-    fn consume(&mut self, _item: &Taken) -> DeliveryState {
+    fn consume(&mut self, item: &Taken) -> DeliveryState {
+        if is_sent(item, self.had) {
+            self.right = self.right.saturating_add(1);
+        }
         self.had = self.had.saturating_add(1);
         if self.had < 2 {
-            return DeliveryState::Released;
+            return given_back();
         }
         let mut guard = self.shared.lock(self.rt);
         self.shared.lost(&mut guard);
         DeliveryState::Accepted
     }
+}
+
+/// A state with content.
+fn given_back() -> DeliveryState {
+    DeliveryState::Modified {
+        delivery_failed: Some(true),
+        undeliverable_here: Some(false),
+        message_annotations: None,
+    }
+}
+
+/// It is the delivery of this number, as it was sent.
+fn is_sent(item: &Taken, number: u64) -> bool {
+    let is_named = u64::from(item.id) == number && item.link == 1 && item.format == 0;
+    let tag: &[u8] = if number == 0 { &[1] } else { &[2] };
+    let payload: &[u8] = &[0x78];
+    let is_whole = item.tag.octets() == tag && item.payload.as_slice() == payload;
+    is_named && is_whole && item.settled == (number == 1) && item.second
 }
 
 #[test]
@@ -115,22 +139,22 @@ fn settled_and_second<N: Name + Send + Sync, R: Threads + Wait + Abort + Sync>(
     let (shared, mut pass, writer) = open_shared::<N>(seed);
     with_deliveries(rt, alloc, &shared, &mut pass)?;
     let own = pass.split().ok_or("no part")?;
-    let (own, count, stopped) = ended_by_two(rt, alloc, &shared, own)?;
-    assert_eq!(rt; (count, stopped), (2, Refusal::NotRunning));
+    let (own, told) = ended_by_two(rt, alloc, &shared, own)?;
+    assert_eq!(rt; told, (2, 2, Refusal::NotRunning));
     assert_eq!(rt; own.made(), 4);
     let mut passes = Vec::new(alloc);
     passes.push(pass)?;
     passes.push(own)?;
     let closed = left_and_taken(shared, passes, writer).ok_or("not closed")?;
     assert_eq!(rt; closed.conn.logged().journal().len(), 13);
-    let released = Op::Dispose {
+    let disposed = Op::Dispose {
         role: Role::Receiver,
         first: 0,
         last: 0,
         settled: false,
-        state: Some(DeliveryState::Released),
+        state: Some(given_back()),
     };
-    assert!(rt; stands_at(&closed, &released, 10));
+    assert!(rt; stands_at(&closed, &disposed, 10));
     assert!(rt; stands_at(&closed, &grant(), 11));
     Ok(())
 }
@@ -145,20 +169,26 @@ fn stands_at(closed: &Closed, op: &Op, place: u64) -> bool {
     closed.conn.logged().stands(op, &receipt)
 }
 
-/// One consumer that ends the connection once it has had two: its pass, how many it consumed, and what stopped it.
+/// One consumer that ends the connection once it has had two: its pass, how many it consumed, how many of these were right, and what stopped it.
 fn ended_by_two<N: Name + Send + Sync, R: Threads + Wait + Abort + Sync>(
     rt: &R,
     alloc: Global,
     shared: &Shared<N>,
     pass: Pass<N>,
-) -> Result<(Pass<N>, u64, Refusal), Fail> {
+) -> Result<(Pass<N>, (u64, u64, Refusal)), Fail> {
     let mut passes = Vec::new(alloc);
     passes.push(pass)?;
     let mut works = Vec::new(alloc);
-    works.push(Ending { rt, shared, had: 0 })?;
+    works.push(Ending {
+        rt,
+        shared,
+        had: 0,
+        right: 0,
+    })?;
     let mut done = run_consumers(rt, shared, passes, works, 1, 2)?;
     let consumed = done.pop().ok_or("nothing consumed")?;
-    Ok((consumed.pass, consumed.count, consumed.stopped))
+    let told = (consumed.count, consumed.work.right, consumed.stopped);
+    Ok((consumed.pass, told))
 }
 
 /// Holds the first delivery until the journal has the step that follows the second's answer.
@@ -251,7 +281,7 @@ fn a_consumer_tells_which_refusal_stopped_it(rt: HostRuntime) -> Result<(), Fail
     stopped_by_a_grant::<Brand, HostRuntime>(&rt, rt.alloc(), seed(rt.alloc(), 4)?)
 }
 
-/// The link has more credit than the consumer is to grant.
+/// The link has more credit than the consumer is to grant; and there is no such link.
 fn stopped_by_a_grant<N: Name + Send + Sync, R: Threads + Wait + Abort + Sync>(
     rt: &R,
     alloc: Global,
@@ -268,15 +298,28 @@ fn stopped_by_a_grant<N: Name + Send + Sync, R: Threads + Wait + Abort + Sync>(
         echo: false,
     };
     assert!(rt; does(rt, &shared, &mut pass, &more).is_some());
+    let (pass, told) = accepted_on(rt, alloc, &shared, pass, 1)?;
+    assert_eq!(rt; told, (1, Refusal::CreditRecedes));
+    let made = pass.made();
+    let (pass, told) = accepted_on(rt, alloc, &shared, pass, 9)?;
+    assert_eq!(rt; told, (0, Refusal::NoLink));
+    assert_eq!(rt; pass.made(), made);
+    Ok(())
+}
+
+/// One consumer that accepts what comes on the link: its pass, how many it consumed, and what stopped it.
+fn accepted_on<N: Name + Send + Sync, R: Threads + Wait + Sync>(
+    rt: &R,
+    alloc: Global,
+    shared: &Shared<N>,
+    pass: Pass<N>,
+    link: u32,
+) -> Result<(Pass<N>, (u64, Refusal)), Fail> {
     let mut passes = Vec::new(alloc);
     passes.push(pass)?;
     let mut works = Vec::new(alloc);
     works.push(Accepting)?;
-    let mut done = run_consumers(rt, &shared, passes, works, 1, 2)?;
+    let mut done = run_consumers(rt, shared, passes, works, link, 2)?;
     let consumed = done.pop().ok_or("nothing consumed")?;
-    assert_eq!(rt;
-        (consumed.count, consumed.stopped),
-        (1, Refusal::CreditRecedes)
-    );
-    Ok(())
+    Ok((consumed.pass, (consumed.count, consumed.stopped)))
 }
