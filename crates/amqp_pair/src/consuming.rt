@@ -12,18 +12,35 @@ use std::sync::Wait;
 use std::thread;
 use std::thread::Threads;
 
-/// Accepts each delivery.
+/// Accepts each delivery, and counts the octets of all.
 #[derive(Drop)]
-pub struct Accepting;
+pub struct Accepting {
+    octets: u64,
+}
 
 impl Work for Accepting {
-    fn consume(&mut self, _item: &Taken) -> DeliveryState {
+    fn consume(&mut self, item: &Taken) -> DeliveryState {
+        self.octets = self.octets.saturating_add(item.payload.len() as u64);
         DeliveryState::Accepted
     }
 }
 
-/// What the consumers hand back: their passes, and how many deliveries were consumed; or what stopped one before the connection had ended.
-pub type ConsumeOutcome<N> = Result<(Vec<Pass<N>>, u64), PairFault>;
+/// What consumers have had.
+#[derive(Clone, Copy)]
+pub struct Counts {
+    pub deliveries: u64,
+    /// Of their payloads.
+    pub octets: u64,
+}
+
+/// What the consumers hand back: their passes, and what they have had; or what stopped one before the connection had ended.
+pub type ConsumeOutcome<N> = Result<(Vec<Pass<N>>, Counts), PairFault>;
+
+/// Before a delivery has come.
+const NOTHING: Counts = Counts {
+    deliveries: 0,
+    octets: 0,
+};
 
 /// Consumers with a pass each, once the end is ready, until its connection has ended.
 pub fn consume_all<N: Name + Send + Sync, R: Threads + Wait + Sync>(
@@ -35,7 +52,7 @@ pub fn consume_all<N: Name + Send + Sync, R: Threads + Wait + Sync>(
     gate: &Gate,
 ) -> ConsumeOutcome<N> {
     if !gate.is_ready(rt) {
-        return Ok((passes, 0));
+        return Ok((passes, NOTHING));
     }
     let done = match jobs_of(alloc, passes, credit) {
         Ok(jobs) => consume_side_by_side(rt, shared, jobs),
@@ -116,7 +133,7 @@ fn consume_alone<N: Name + Send + Sync, R: Threads + Wait + Sync>(
     let mut passes = Vec::new(alloc);
     passes.push(pass)?;
     let mut works = Vec::new(alloc);
-    works.push(Accepting)?;
+    works.push(Accepting { octets: 0 })?;
     let mut done = run_consumers(rt, shared, passes, works, LINK, credit)?;
     match done.pop() {
         Some(consumed) => Ok(consumed),
@@ -124,13 +141,13 @@ fn consume_alone<N: Name + Send + Sync, R: Threads + Wait + Sync>(
     }
 }
 
-/// All passes, with the count of all.
+/// All passes, and what all have had.
 fn gather<N: Name>(
     alloc: Global,
     done: Vec<Result<Consumed<N, Accepting>, AllocError>>,
 ) -> ConsumeOutcome<N> {
     let mut passes = Vec::new(alloc);
-    let mut count = 0u64;
+    let mut counts = NOTHING;
     for consumed in done {
         let Ok(consumed) = consumed else {
             return Err(PairFault::NoMemory);
@@ -138,10 +155,9 @@ fn gather<N: Name>(
         if consumed.stopped != Refusal::NotRunning {
             return Err(PairFault::Consume(consumed.stopped));
         }
-        count = count.saturating_add(consumed.count);
-        let Ok(()) = put(&mut passes, consumed.pass) else {
-            return Err(PairFault::NoMemory);
-        };
+        counts.deliveries = counts.deliveries.saturating_add(consumed.count);
+        counts.octets = counts.octets.saturating_add(consumed.work.octets);
+        put(&mut passes, consumed.pass)?;
     }
-    Ok((passes, count))
+    Ok((passes, counts))
 }

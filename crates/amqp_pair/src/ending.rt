@@ -2,7 +2,6 @@
 use crate::fault::PairFault;
 use amqp_frames::Role;
 use amqp_shared::{Closed, Name, Pass, Shared, WriterEnd};
-use std::alloc::AllocError;
 use std::sync::Wait;
 
 /// Ends the connection without a close: no more octets come. Whoever waits for it goes on.
@@ -20,10 +19,10 @@ pub fn shut<N: Name, R: Wait>(rt: &R, shared: &Shared<N>) {
 }
 
 /// Puts a pass behind the others.
-pub fn put<N: Name>(passes: &mut Vec<Pass<N>>, pass: Pass<N>) -> Result<(), AllocError> {
+pub fn put<N: Name>(passes: &mut Vec<Pass<N>>, pass: Pass<N>) -> Result<(), PairFault> {
     match passes.push(pass) {
         Ok(()) => Ok(()),
-        Err(_) => Err(AllocError),
+        Err(_) => Err(PairFault::NoMemory),
     }
 }
 

@@ -27,6 +27,10 @@ pub enum PairFault {
     Close(CloseReason),
     #[error("a receipt does not stand in the journal")]
     Receipt,
+    #[error("the ids that were used are not those from the first one on")]
+    Ids,
+    #[error("not as many octets were received as were to be sent")]
+    Octets,
     #[error("a write failed: {0}")]
     Out(io::Error),
     #[error("memory was refused")]

@@ -1,6 +1,7 @@
 //! The octets that were read, cut into whole frames.
 //!
-//! A frame that a read brings in part stays where it was read until its rest has come behind it, so that its payload can be a slice of what was read.
+//! A frame that a read brings in part stays where it was read until its rest has come behind it, or moves once, where the room is used up: so its
+//! payload can be a slice of what was read.
 ghost use Rattle.std.specs.Prelude.{◌<◌, ◌≤◌, length, IfSome};
 
 use crate::options::MAX_FRAME;
@@ -16,9 +17,10 @@ const ROOM: usize = 524288;
 /// The least room that a read is given: that of a frame.
 const LEAST: usize = MAX_FRAME as usize;
 
-/// The first four octets of a protocol header (part 2, 2.2), and how many it has. As the size of a frame they would be longer than any that is taken.
+/// The first four octets of a protocol header (part 2, 2.2): AMQP. As a size they would be that of a longer frame than any that is taken.
 const PROTOCOL: u32 = 0x414d5150;
 
+/// How many octets a protocol header has.
 const HEADER_LEN: usize = 8;
 
 /// The octets that were read and not handed on.

@@ -28,7 +28,8 @@ pub struct Totals {
 ///
 /// # Errors
 ///
-/// `Options` where one is out of its range; where a socket, a read, a write, an operation or memory failed, and where an end did not come to its close.
+/// `Options` where one is out of its range; `Socket`; `Start`, `Read`, `Write`, `Send`, `Consume`, `Close`, `Receipt` and `Ids` of either end; `Octets`
+/// where not as many were received as were to be sent; `Out` where the four lines cannot be written; `NoMemory`.
 pub fn run_pair<R, W: Write>(
     rt: &R,
     alloc: Global,
@@ -47,7 +48,12 @@ where
     tell(out, &totals)
 }
 
-/// The two ends, over the two ends of a socket. Each is made in its own thread.
+/// The two ends, over the two ends of a socket. Each is made in its own thread. The options are not looked at: with messages, and without a consumer or
+/// credit, it does not end.
+///
+/// # Errors
+///
+/// Those of `run_pair` but `Options` and `Out`.
 pub fn run_over<R>(
     rt: &R,
     alloc: Global,
@@ -64,6 +70,9 @@ where
         || run_receiver(rt, alloc, options, peer),
     );
     let (sent, received) = (sent?, received?);
+    if received.octets != u64::from(options.count).saturating_mul(u64::from(options.size)) {
+        return Err(PairFault::Octets);
+    }
     Ok(Totals {
         queued: sent.queued,
         consumed: received.consumed,
@@ -80,7 +89,11 @@ fn tell<W: Write>(out: &mut W, totals: &Totals) -> Result<(), PairFault> {
     out.flush().map_err(PairFault::Out)
 }
 
-/// Two ends of a socket of the loopback.
+/// Two ends of a socket of the loopback; at the other end of the first is whoever connects first.
+///
+/// # Errors
+///
+/// `Socket`.
 pub fn connected<R: Net<Stream = TcpStream>>(rt: &R) -> Result<(TcpStream, TcpStream), PairFault> {
     let loopback = SocketAddr::new(IpAddr::V4(Ipv4Addr::new(127, 0, 0, 1)), 0);
     let listener = TcpListener::bind(rt, loopback).map_err(PairFault::Socket)?;

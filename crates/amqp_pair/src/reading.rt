@@ -91,8 +91,8 @@ struct Reading<'a, N: Name> {
     stage: Stage,
 }
 
-/// Reads and feeds until the connection has ended; where it has not and the octets end, a read fails, or memory is wanting, the end is lost. The
-/// gate is told as soon as the end is ready, or that it has ended before.
+/// Reads and feeds until the connection has ended; where it has not and the octets end, a read fails, an operation is refused, or memory is wanting,
+/// the end is lost. The gate is told as soon as the end is ready, or that it has ended before.
 pub fn read_end<N: Name, R: Wait>(rt: &R, shared: &Shared<N>, reader: Reader<N>) -> ReadOutcome<N> {
     let Reader {
         alloc,
@@ -159,9 +159,10 @@ impl<'a, N: Name> Reading<'a, N> {
             if guard.conn().phase() == Phase::Closed {
                 return Ok(());
             }
+            let opens = self.stage != Stage::Runs;
             self.go_on(&mut guard)?;
             drop(guard);
-            if self.stage == Stage::Runs {
+            if opens && self.stage == Stage::Runs {
                 gate.tell(rt, Opening::Ready);
             }
         }

@@ -23,6 +23,8 @@ use std::thread::Threads;
 #[derive(Clone, Copy)]
 pub struct Received {
     pub consumed: u64,
+    /// Of what was consumed.
+    pub octets: u64,
     /// Deliveries that it still holds, and units that nobody wrote.
     pub left: u64,
 }
@@ -80,13 +82,12 @@ where
     );
     read.map_err(PairFault::Read)?;
     written.map_err(PairFault::Write)?;
-    let (mut passes, consumed) = consumed?;
-    let Ok(()) = put(&mut passes, reading) else {
-        return Err(PairFault::NoMemory);
-    };
+    let (mut passes, counts) = consumed?;
+    put(&mut passes, reading)?;
     let closed = take_apart(shared, passes, writer)?;
     Ok(Received {
-        consumed,
+        consumed: counts.deliveries,
+        octets: counts.octets,
         left: left_of(&closed),
     })
 }
@@ -144,9 +145,7 @@ fn split_off<N: Name>(
         let Some(part) = pass.split() else {
             return Err(PairFault::Options);
         };
-        let Ok(()) = put(&mut passes, part) else {
-            return Err(PairFault::NoMemory);
-        };
+        put(&mut passes, part)?;
     }
     Ok(passes)
 }

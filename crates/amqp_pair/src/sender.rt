@@ -38,7 +38,7 @@ pub fn run_sender<R>(
 where
     R: Threads + Wait + Sync,
 {
-    let messages = Messages::new(alloc, options.count, options.size)?;
+    let messages = Messages::new(alloc, options)?;
     let seed = seed(alloc, "a", options)?;
     send::<Brand, R>(rt, alloc, seed, &messages, stream)
 }
@@ -88,6 +88,9 @@ where
     let stand = messages.stand(closed.conn.logged(), receipts.as_slice());
     if !stand.map_err(PairFault::Send)? {
         return Err(PairFault::Receipt);
+    }
+    if !messages.are_numbered(closed.conn.logged()) {
+        return Err(PairFault::Ids);
     }
     Ok(Sent {
         queued: done.queued,
@@ -145,11 +148,7 @@ fn end_sender<N: Name>(
     writer: WriterEnd<N>,
 ) -> Result<Closed, PairFault> {
     let mut passes = Vec::new(alloc);
-    let Ok(()) = put(&mut passes, reading) else {
-        return Err(PairFault::NoMemory);
-    };
-    let Ok(()) = put(&mut passes, pass) else {
-        return Err(PairFault::NoMemory);
-    };
+    put(&mut passes, reading)?;
+    put(&mut passes, pass)?;
     take_apart(shared, passes, writer)
 }

@@ -4,7 +4,7 @@ ghost use Rattle.std.specs.Prelude.{◌<◌};
 use crate::ending::shut;
 use crate::fault::PairFault;
 use crate::gate::Gate;
-use crate::options::MAX_FRAME;
+use crate::options::{MAX_FRAME, Options};
 use crate::reading::LINK;
 use amqp_frames::DeliveryState;
 use amqp_journal::logged::Logged;
@@ -51,17 +51,22 @@ pub type SendOutcome<N> = (Hand<N>, Result<Done, Refusal>);
 #[derive(Drop)]
 pub struct Messages {
     count: u32,
+    first_id: u32,
     payload: Bytes,
 }
 
 impl Messages {
-    /// So many messages of so many octets, each 78 hexadecimal.
-    pub fn new(alloc: Global, count: u32, size: u32) -> Result<Messages, PairFault> {
-        let Ok(octets) = vec![in alloc; 0x78u8; size as usize] else {
+    /// As many as are asked for, each octet 78 hexadecimal.
+    pub fn new(alloc: Global, options: &Options) -> Result<Messages, PairFault> {
+        let Ok(octets) = vec![in alloc; 0x78u8; options.size as usize] else {
             return Err(PairFault::NoMemory);
         };
         match Bytes::from_vec(octets) {
-            Ok(payload) => Ok(Messages { count, payload }),
+            Ok(payload) => Ok(Messages {
+                count: options.count,
+                first_id: options.first_id,
+                payload,
+            }),
             Err(_) => Err(PairFault::NoMemory),
         }
     }
@@ -115,6 +120,14 @@ impl Messages {
         Ok(true)
     }
 
+    /// The session has used an id for each message, and one for each transfer, from the first ones on (part 2, 2.5.6 and 2.8.9).
+    pub fn are_numbered(&self, logged: &Logged) -> bool {
+        let transfers = self.transfers().saturating_mul(self.count as usize);
+        let windows = logged.endpoint().windows();
+        is_past(windows.next_delivery, self.first_id, u64::from(self.count))
+            && is_past(windows.next_out, self.first_id, transfers as u64)
+    }
+
     /// The first transfer of the message of this number.
     fn start(&self, number: u32) -> Result<Op, Refusal> {
         let Some(tag) = Tag::new(&number.to_be_bytes()) else {
@@ -151,6 +164,11 @@ impl Messages {
     }
 }
 
+/// The id comes so many behind the first one, on the circle of serial numbers (part 2, 2.8.10).
+fn is_past(id: u32, first: u32, count: u64) -> bool {
+    u64::from(id) == u64::from(first).saturating_add(count) % 4294967296
+}
+
 /// Sends the messages once the end is ready, learns of as many, and closes the connection, also at a refusal that no wait can end.
 pub fn send_all<N: Name, R: Wait>(
     rt: &R,
@@ -176,22 +194,40 @@ fn send_and_learn<N: Name, R: Wait>(
     hand: &mut Hand<N>,
     messages: &Messages,
 ) -> Result<Done, Refusal> {
-    let mut done = Done {
-        queued: 0,
-        accepted: 0,
-    };
+    let queued = send_messages(rt, shared, hand, messages)?;
+    let accepted = learn_outcomes(rt, shared, hand, messages.count)?;
+    Ok(Done { queued, accepted })
+}
+
+/// Sends all messages: how many.
+fn send_messages<N: Name, R: Wait>(
+    rt: &R,
+    shared: &Shared<N>,
+    hand: &mut Hand<N>,
+    messages: &Messages,
+) -> Result<u64, Refusal> {
     let run = messages.in_a_run();
+    let mut queued = 0u64;
     for first in (0..messages.count).step_by(run as usize) {
         let end = first.saturating_add(run).min(messages.count);
-        let queued = send_run(rt, shared, hand, messages, first, end)?;
-        done.queued = done.queued.saturating_add(queued);
+        queued = queued.saturating_add(send_run(rt, shared, hand, messages, first, end)?);
     }
-    for first in (0..messages.count).step_by(RUN as usize) {
-        let count = messages.count.saturating_sub(first).min(RUN);
-        let accepted = learn_run(rt, shared, hand, count)?;
-        done.accepted = done.accepted.saturating_add(accepted);
+    Ok(queued)
+}
+
+/// Learns of so many messages: how many were accepted.
+fn learn_outcomes<N: Name, R: Wait>(
+    rt: &R,
+    shared: &Shared<N>,
+    hand: &mut Hand<N>,
+    count: u32,
+) -> Result<u64, Refusal> {
+    let mut accepted = 0u64;
+    for first in (0..count).step_by(RUN as usize) {
+        let run = count.saturating_sub(first).min(RUN);
+        accepted = accepted.saturating_add(learn_run(rt, shared, hand, run)?);
     }
-    Ok(done)
+    Ok(accepted)
 }
 
 /// Queues the messages of these numbers, under one lock but for where it waits: how many.

@@ -7,7 +7,7 @@ use std::io::Write;
 use std::net::{Shutdown, TcpStream};
 use std::sync::Wait;
 
-/// So many octets are written at once where they wait, and longer units alone.
+/// Room for the octets of units that are written together.
 const BATCH: usize = 65536;
 
 /// Units of at least so many octets are written from where they stand.
