@@ -3,7 +3,7 @@ use Rattle.std.proofs.Common.{◌≡◌, ◌<◌, ◌∷◌, [], Result, Ok, Err
 use Rattle.amqp_rules.specs.declared.reply.Reply.{Reply}
 use Rattle.amqp_rules.specs.declared.reply.Given.{Given}
 use Rattle.amqp_laws.specs.declared.entry.Step.{Step}
-use Rattle.amqp_journal.specs.Log.{Log, Appends, logging}
+use Rattle.amqp_journal.specs.Log.{Log, Appends, Extends, logging}
 
 -- it has an entry
 pub is_longer : (old new : Log) (step : Step) (reply : Reply) → new ≡ logging old step reply → 0 < length new.journal
@@ -15,3 +15,7 @@ pub has_entry : {E : Type 0} → (old new : Log) (step : Step) (answer : Result 
     → Appends old step answer given new → 0 < length new.journal
 has_entry old new step (Err e) given appends = absurd appends
 has_entry old new step (Ok reply) given appends = is_longer old new step reply appends.0
+
+pub has_own : {E : Type 0} → (old new : Log) (step : Step) (answer : Result Reply E) → Extends old step answer new → 0 < length new.journal
+has_own old new step (Err e) extends = absurd extends
+has_own old new step (Ok reply) extends = is_longer old new step reply extends

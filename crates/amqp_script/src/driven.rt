@@ -4,9 +4,7 @@ ghost use Rattle.amqp_journal.specs.Units.{waiting};
 
 pub mod answer;
 pub mod line;
-pub mod options;
 
-use crate::answer::Answer as SessionAnswer;
 use crate::feeding::feed_front;
 use crate::line::LineFault;
 use crate::lines::{LineTaker, Outcome, RunFault, take_lines};
@@ -15,10 +13,10 @@ use amqp_endpoint::op::Op;
 use amqp_endpoint::refusal::Refusal;
 use amqp_endpoint::reply::Given;
 use amqp_journal::unit::Unit;
+use amqp_rules::config;
 use amqp_types::Text;
 use answer::{Answer, Told};
 use line::DrivenLine;
-use options::Settings;
 use std::alloc::{AllocError, Global};
 use std::fmt::Display;
 use std::io::{BufRead, Write};
@@ -26,8 +24,8 @@ use std::io::{BufRead, Write};
 /// The longest frame that is taken, in octets.
 const MAX_FRAME: u32 = 65536;
 
-/// A new connection with these settings, whose container id is `a`.
-pub fn open(alloc: Global, settings: &Settings) -> Result<Conn, StartFault> {
+/// A new connection with these settings of its session, whose container id is `a`.
+pub fn open(alloc: Global, session: &config::Config) -> Result<Conn, StartFault> {
     let Ok(container_id) = Text::new(alloc, "a") else {
         return Err(StartFault::NoMemory);
     };
@@ -36,9 +34,9 @@ pub fn open(alloc: Global, settings: &Settings) -> Result<Conn, StartFault> {
         hostname: None,
         max_frame: MAX_FRAME,
         idle_time_out: None,
-        first_id: settings.first_id,
-        window: settings.window,
-        journal_limit: settings.limit,
+        first_id: session.first_id,
+        window: session.window,
+        journal_limit: session.journal_limit,
     };
     Conn::new(alloc, config)
 }
@@ -94,17 +92,8 @@ impl Driven {
                 self.conn.lost();
                 self.tell_done(writer)
             }
-            DrivenLine::Windows => {
-                let windows = self.conn.logged().endpoint().windows();
-                print(writer, &SessionAnswer::Windows(windows))
-            }
-            DrivenLine::Link(link) => {
-                let status = self.conn.logged().endpoint().status(link);
-                print(writer, &SessionAnswer::Link(link, status))
-            }
-            DrivenLine::Held(role) => {
-                let endpoint = self.conn.logged().endpoint();
-                print(writer, &SessionAnswer::Held(endpoint, role))
+            DrivenLine::Ask(question) => {
+                print(writer, &question.answer(self.conn.logged().endpoint()))
             }
         }
     }

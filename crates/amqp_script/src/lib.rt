@@ -7,7 +7,8 @@
 //! | `answer` | the text of an answer |
 //! | `script` | the command `script`: an endpoint with its journal that lines drive |
 //! | `frames` | the command `frames`: octets in hexadecimal, framed and named |
-//! | `driven` | the command `conn`: a whole connection that lines drive, with its options |
+//! | `driven` | the command `conn`: a whole connection that lines drive |
+//! | `options` | the options of `script` and `conn` |
 //! | `feeding` | one feed of a loop of feeds |
 #![tactic(auto)]
 
@@ -17,10 +18,11 @@ pub mod feeding;
 pub mod frames;
 pub mod line;
 pub mod lines;
+pub mod options;
 pub mod script;
 pub mod words;
 
 pub use answer::Answer;
-pub use line::{Line, LineFault};
+pub use line::{Line, LineFault, Question};
 pub use lines::{LineTaker, Outcome, RunFault, take_lines};
 pub use words::Words;

@@ -2,7 +2,9 @@
 ghost use Rattle.std.specs.Prelude.{◌≡◌};
 ghost use Rattle.amqp_script.specs.declared.line.LineFault.TheVariants.{NoMemory};
 
+use crate::answer::Answer;
 use crate::words::{Words, text};
+use amqp_endpoint::endpoint::Endpoint;
 use amqp_endpoint::op::Op;
 use amqp_frames::{Frame, FrameFault, Framer, Role};
 use bytes::Bytes;
@@ -21,12 +23,29 @@ pub enum Line {
     Own(Op),
     /// A frame that the peer sent: `hear HEX`.
     Hear(Frame),
-    /// Asks for the windows of the session: `windows`.
+    Ask(Question),
+}
+
+/// What a line asks of an endpoint.
+#[derive(Clone, Copy, Debug, PartialEq, Eq)]
+pub enum Question {
+    /// The windows of the session: `windows`.
     Windows,
-    /// Asks for the link with this number: `link LINK`.
+    /// The link with this number: `link LINK`.
     Link(u32),
-    /// Asks for the unsettled deliveries of this role of ours: `held ROLE`.
+    /// The unsettled deliveries of this role of ours: `held ROLE`.
     Held(Role),
+}
+
+impl Question {
+    /// What the endpoint shows.
+    pub fn answer(self, endpoint: &Endpoint) -> Answer<'_> {
+        match self {
+            Question::Windows => Answer::Windows(endpoint.windows()),
+            Question::Link(link) => Answer::Link(link, endpoint.status(link)),
+            Question::Held(role) => Answer::Held(endpoint, role),
+        }
+    }
 }
 
 /// Why octets give no line.
@@ -66,7 +85,7 @@ impl Line {
             b"take" => read_take(words),
             b"learn" => read_learn(words),
             b"dispose" => read_dispose(words),
-            b"windows" => ended(words, Line::Windows),
+            b"windows" => ended(words, Line::Ask(Question::Windows)),
             b"link" => read_link(words),
             b"held" => read_held(words),
             word => read_session(alloc, word, words),
@@ -244,13 +263,13 @@ fn read_detach(mut words: Words<'_>) -> Result<Line, LineFault> {
 /// `LINK`
 fn read_link(mut words: Words<'_>) -> Result<Line, LineFault> {
     let link = words.number()?;
-    ended(words, Line::Link(link))
+    ended(words, Line::Ask(Question::Link(link)))
 }
 
 /// `ROLE`
 fn read_held(mut words: Words<'_>) -> Result<Line, LineFault> {
     let role = words.role()?;
-    ended(words, Line::Held(role))
+    ended(words, Line::Ask(Question::Held(role)))
 }
 
 /// Words that write one whole frame

@@ -12,6 +12,7 @@ use amqp_endpoint::refusal::Refusal;
 use amqp_endpoint::violation::ViolationKind;
 use amqp_frames::Frame;
 use amqp_journal::logged::Logged;
+use amqp_types::Boxed;
 use std::alloc::{AllocError, Global};
 use std::io::{BufRead, Write};
 
@@ -59,12 +60,7 @@ impl Script {
             Ok(Line::Opened(max)) => self.open(max, writer),
             Ok(Line::Own(op)) => self.apply(op, writer),
             Ok(Line::Hear(frame)) => self.hear(frame, writer),
-            Ok(Line::Windows) => print(writer, Answer::Windows(self.logged.endpoint().windows())),
-            Ok(Line::Link(link)) => {
-                let status = self.logged.endpoint().status(link);
-                print(writer, Answer::Link(link, status))
-            }
-            Ok(Line::Held(role)) => print(writer, Answer::Held(self.logged.endpoint(), role)),
+            Ok(Line::Ask(question)) => print(writer, question.answer(self.logged.endpoint())),
             Err(LineFault::Bad) => {
                 self.outcome = Outcome::SomeLineBad;
                 print(writer, Answer::BadLine)
@@ -81,18 +77,15 @@ impl Script {
     }
 
     fn apply<W: Write>(&mut self, op: Op, writer: &mut W) -> Result<(), RunFault> {
-        let applied = self.logged.apply(&op);
-        drop(op);
-        match applied {
-            Ok(_) => self.print_entry(writer),
+        match self.logged.perform(op) {
+            Ok(()) => self.print_entry(writer),
             Err(refusal) => print_refusal(writer, refusal),
         }
     }
 
     fn hear<W: Write>(&mut self, frame: Frame, writer: &mut W) -> Result<(), RunFault> {
-        let taken = self.logged.receive(&frame);
-        drop(frame);
-        match taken {
+        let frame = Boxed::new(self.alloc, frame)?;
+        match self.logged.hear(frame) {
             Ok(_) => self.print_entry(writer),
             Err(violation) => match violation.kind {
                 ViolationKind::NoMemory => Err(RunFault::Memory(AllocError)),

@@ -1,9 +1,8 @@
 //! What a line of the command `conn` says.
 
-use crate::line::{Line, LineFault};
+use crate::line::{Line, LineFault, Question};
 use crate::words::Words;
 use amqp_endpoint::op::Op;
-use amqp_frames::Role;
 use std::alloc::Global;
 
 /// A line that drives a connection.
@@ -17,12 +16,7 @@ pub enum DrivenLine {
     Lost,
     /// An operation of the application, as in a script.
     Own(Op),
-    /// Asks for the windows of the session: `windows`.
-    Windows,
-    /// Asks for the link with this number: `link LINK`.
-    Link(u32),
-    /// Asks for the unsettled deliveries of this role of ours: `held ROLE`.
-    Held(Role),
+    Ask(Question),
 }
 
 impl DrivenLine {
@@ -53,9 +47,7 @@ fn ended(words: Words<'_>, line: DrivenLine) -> Result<DrivenLine, LineFault> {
 fn read_session(alloc: Global, octets: &[u8]) -> Result<DrivenLine, LineFault> {
     match Line::read(alloc, octets) {
         Ok(Line::Own(op)) => Ok(DrivenLine::Own(op)),
-        Ok(Line::Windows) => Ok(DrivenLine::Windows),
-        Ok(Line::Link(link)) => Ok(DrivenLine::Link(link)),
-        Ok(Line::Held(role)) => Ok(DrivenLine::Held(role)),
+        Ok(Line::Ask(question)) => Ok(DrivenLine::Ask(question)),
         Ok(Line::Opened(_)) => Err(LineFault::Bad),
         Ok(Line::Hear(frame)) => {
             drop(frame);

@@ -1,0 +1,72 @@
+//! The options of the commands `script` and `conn`, as a part of a program's command line.
+
+use amqp_rules::config::{Config, MAX_JOURNAL_LIMIT, MAX_WINDOW};
+use clap::{Arg, ArgMatches, Command, value_parser};
+use std::alloc::{AllocError, Global};
+
+/// The settings where no option is given.
+pub const USUAL: Config = Config {
+    first_id: 0,
+    window: 2048,
+    journal_limit: MAX_JOURNAL_LIMIT,
+};
+
+/// What the words behind the command ask for; what they leave out is as usual.
+pub fn config_of(options: &ArgMatches<'_>) -> Config {
+    Config {
+        first_id: options.get_one::<u32>("first-id").unwrap_or(USUAL.first_id),
+        window: options.get_one::<u32>("window").unwrap_or(USUAL.window),
+        journal_limit: options
+            .get_one::<u32>("limit")
+            .unwrap_or(USUAL.journal_limit),
+    }
+}
+
+/// The command `conn` with its options.
+pub fn command<'a>(alloc: Global) -> Result<Command<'a>, AllocError> {
+    let conn = Command::new(alloc, "conn").about(
+        "Reads lines from standard input, drives a connection by them, and answers each with a line",
+    );
+    with_config(alloc, conn)
+}
+
+/// The command, with the options of an endpoint's settings.
+pub fn with_config<'a>(alloc: Global, command: Command<'a>) -> Result<Command<'a>, AllocError> {
+    command
+        .arg(first_id(alloc)?)?
+        .arg(window(alloc)?)?
+        .arg(limit(alloc)?)
+}
+
+fn first_id<'a>(alloc: Global) -> Result<Arg<'a>, AllocError> {
+    Ok(
+        Arg::new(alloc, "first-id")
+            .long("first-id")
+            .value_name("N")
+            .value_parser(value_parser!(u32))
+            .default_value("0")
+            .help("The first transfer id and delivery id"),
+    )
+}
+
+fn window<'a>(alloc: Global) -> Result<Arg<'a>, AllocError> {
+    Ok(
+        Arg::new(alloc, "window")
+            .long("window")
+            .value_name("W")
+            .value_parser(value_parser!(u32).range(1..=i64::from(MAX_WINDOW)))
+            .default_value("2048")
+            .help("The incoming window, in transfers"),
+    )
+}
+
+fn limit<'a>(alloc: Global) -> Result<Arg<'a>, AllocError> {
+    Ok(
+        Arg::new(alloc, "limit")
+            .long("limit")
+            .value_name("L")
+            .value_parser(value_parser!(u32).range(1..=i64::from(MAX_JOURNAL_LIMIT)))
+            .default_value("1073741824")
+            .help("How many steps the journal may have"),
+    )
+}
