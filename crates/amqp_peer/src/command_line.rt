@@ -2,8 +2,9 @@
 ghost use Rattle.std.specs.Prelude.{IfOk};
 ghost use Rattle.amqp_peer.specs.Requests.{IsAllowed};
 
-use amqp_endpoint::config::{Config, MAX_JOURNAL_LIMIT};
+use amqp_endpoint::config::Config;
 use amqp_pair::{MAX_CONSUMERS, MAX_COUNT, MAX_CREDIT, MAX_SIZE, Options};
+use amqp_script::options::{USUAL, config_of, with_config};
 use clap::error::ErrorKind;
 use clap::{Arg, ArgMatches, Command, Error, value_parser};
 use std::alloc::{AllocError, Global};
@@ -45,11 +46,10 @@ pub fn read_request<'a, S: AsStr>(alloc: Global, words: &'a [S]) -> Result<Reque
 }
 
 fn program<'a>(alloc: Global) -> Result<Command<'a>, AllocError> {
-    let script = Command::new(alloc, "script")
-        .about("Reads lines from standard input and answers each with a line")
-        .arg(first_id(alloc)?)?
-        .arg(window(alloc)?)?
-        .arg(limit(alloc)?)?;
+    let script = Command::new(alloc, "script").about(
+        "Reads lines from standard input and answers each with a line",
+    );
+    let script = with_config(alloc, script)?;
     let frames = Command::new(alloc, "frames").about(
         "Reads octets in hexadecimal from standard input and names the frames in them",
     );
@@ -117,54 +117,10 @@ fn pair_options(options: &ArgMatches<'_>) -> Options {
     }
 }
 
-fn first_id<'a>(alloc: Global) -> Result<Arg<'a>, AllocError> {
-    Ok(
-        Arg::new(alloc, "first-id")
-            .long("first-id")
-            .value_name("N")
-            .value_parser(value_parser!(u32))
-            .default_value("0")
-            .help("The first transfer id and delivery id"),
-    )
-}
-
-fn window<'a>(alloc: Global) -> Result<Arg<'a>, AllocError> {
-    Ok(
-        Arg::new(alloc, "window")
-            .long("window")
-            .value_name("W")
-            .value_parser(value_parser!(u32).range(1..=2147483647))
-            .default_value("2048")
-            .help("The incoming window, in transfers"),
-    )
-}
-
-fn limit<'a>(alloc: Global) -> Result<Arg<'a>, AllocError> {
-    Ok(
-        Arg::new(alloc, "limit")
-            .long("limit")
-            .value_name("L")
-            .value_parser(value_parser!(u32).range(1..=1073741824))
-            .default_value("1073741824")
-            .help("How many steps the journal may have"),
-    )
-}
-
-/// The incoming window where none is given.
-const WINDOW: u32 = 2048;
-
-/// The settings of a `script`: the first id 0, the window 2048 and the greatest limit where none is given.
+/// The settings of a `script`.
 fn script_config(matches: &ArgMatches<'_>) -> Config {
-    let Some(options) = matches.subcommand_matches("script") else {
-        return Config {
-            first_id: 0,
-            window: WINDOW,
-            journal_limit: MAX_JOURNAL_LIMIT,
-        };
-    };
-    Config {
-        first_id: options.get_one::<u32>("first-id").unwrap_or(0),
-        window: options.get_one::<u32>("window").unwrap_or(WINDOW),
-        journal_limit: options.get_one::<u32>("limit").unwrap_or(MAX_JOURNAL_LIMIT),
+    match matches.subcommand_matches("script") {
+        Some(options) => config_of(options),
+        None => USUAL,
     }
 }

@@ -10,7 +10,7 @@
 //! | exit status | where |
 //! |---|---|
 //! | 0 | all is done, or help was asked for |
-//! | 1 | a read, a write or an allocation failed; standard error has one line on it |
+//! | 1 | a read, a write, a socket or an allocation failed, or an end of `pair` did not do all that it was to do; standard error has one line on it |
 //! | 2 | the command line is at fault, or a line was bad, or octets were no frames |
 #![tactic(auto)]
 

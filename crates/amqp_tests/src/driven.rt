@@ -1,8 +1,9 @@
 //! What no clause says: the lines of the command `conn` and their answers, for worked connections.
 
+use amqp_rules::config::Config;
 use amqp_script::Outcome;
-use amqp_script::driven::options::{Settings, command};
 use amqp_script::driven::{open, run_lines};
+use amqp_script::options::{USUAL, command, config_of};
 use clap::Command;
 use std::alloc::Global;
 use std::test::Fail;
@@ -15,7 +16,7 @@ feed 0000001c02000000005311c00f04600000437000000800707fffffff
 ";
 
 /// The lines are answered so at their end, after a session was begun, and whether each of them was one.
-fn ends_so(alloc: Global, settings: &Settings, lines: &[u8], wanted: &[u8]) -> Result<bool, Fail> {
+fn ends_so(alloc: Global, settings: &Config, lines: &[u8], wanted: &[u8]) -> Result<bool, Fail> {
     let mut script = Vec::from_slice(alloc, MAPPED)?;
     script.extend_from_slice(lines)?;
     let (answers, outcome) = answers(alloc, settings, script.as_slice())?;
@@ -25,7 +26,7 @@ fn ends_so(alloc: Global, settings: &Settings, lines: &[u8], wanted: &[u8]) -> R
     Ok(outcome == Outcome::EachLineGood)
 }
 
-fn answers(alloc: Global, settings: &Settings, lines: &[u8]) -> Result<(Vec<u8>, Outcome), Fail> {
+fn answers(alloc: Global, settings: &Config, lines: &[u8]) -> Result<(Vec<u8>, Outcome), Fail> {
     let Ok(conn) = open(alloc, settings) else {
         return Err(Fail::new("no connection"));
     };
@@ -56,7 +57,7 @@ feed 0000000c0200000000531845
 feed 00
 lost
 ";
-    let good = ends_so(rt.alloc(), &Settings::default(), lines, wanted)?;
+    let good = ends_so(rt.alloc(), &USUAL, lines, wanted)?;
     assert!(rt; !good);
     Ok(())
 }
@@ -64,10 +65,10 @@ lost
 /// A flow that counts a transfer that was not sent is answered by an end; read again, it is dropped.
 #[test]
 fn a_count_ahead(rt: HostRuntime) -> Result<(), Fail> {
-    let settings = Settings {
+    let settings = Config {
         first_id: 10,
         window: 2048,
-        limit: 1000,
+        journal_limit: 1000,
     };
     let lines = b"attach sender q 2 0 0 0
 feed 0000001302000000005312c00603a101714341
@@ -106,7 +107,7 @@ feed 0000001602000000005314c00804435202a001034378
 ok told=ready:0:1 phase=running units=-
 ok told=violation:12,none phase=running units=0000003902000000005316c02c03434100531dc02401a321616d71703a6c696e6b3a7472616e736665722d6c696d69742d6578636565646564
 ";
-    assert!(rt; ends_so(rt.alloc(), &Settings::default(), lines, wanted)?);
+    assert!(rt; ends_so(rt.alloc(), &USUAL, lines, wanted)?);
     Ok(())
 }
 
@@ -119,17 +120,17 @@ ok told=fault:6 phase=closed units=-
     let lines = b"feed 0000000902000000ff
 feed 00
 ";
-    assert!(rt; ends_so(rt.alloc(), &Settings::default(), lines, wanted)?);
+    assert!(rt; ends_so(rt.alloc(), &USUAL, lines, wanted)?);
     Ok(())
 }
 
 /// A full journal takes no step; the peer's next frame ends the connection.
 #[test]
 fn a_full_journal(rt: HostRuntime) -> Result<(), Fail> {
-    let settings = Settings {
+    let settings = Config {
         first_id: 0,
         window: 2048,
-        limit: 4,
+        journal_limit: 4,
     };
     let lines = b"refresh 0
 refresh 0
@@ -170,7 +171,7 @@ windows next-in=1 in=2047 next-out=0 remote-in=2048 remote-out=2147483646 delive
 ok told=gone:0 phase=running units=-
 ok phase=closing units=0000000c0200000000531845
 ";
-    assert!(rt; ends_so(rt.alloc(), &Settings::default(), lines, wanted)?);
+    assert!(rt; ends_so(rt.alloc(), &USUAL, lines, wanted)?);
     Ok(())
 }
 
@@ -201,10 +202,10 @@ fn is_answered(
     frame: &[u8],
     wanted: &[u8],
 ) -> Result<bool, Fail> {
-    let settings = Settings {
+    let settings = Config {
         first_id: 0,
         window,
-        limit: 1000,
+        journal_limit: 1000,
     };
     let mut lines = Vec::from_slice(alloc, setup)?;
     lines.extend_from_slice(b"feed ")?;
@@ -319,27 +320,27 @@ fn violations_without_an_answer(rt: HostRuntime) -> Result<(), Fail> {
     let wanted =
         b"ok told=fault:3 phase=closed units=0000002602000000005318c0190100531dc01301a310616d71703a6e6f742d616c6c6f776564
 ";
-    assert!(rt; ends_so(rt.alloc(), &Settings::default(), lines, wanted)?);
+    assert!(rt; ends_so(rt.alloc(), &USUAL, lines, wanted)?);
     let early = b"feed 414d515000010000
 feed 0000001a02000000005310c00d04a10161407000010000600000
 feed 0000001702000000005311c00a0440435205707fffffff
 feed 0000001302000000005312c00603a101714341
 feed 0000001302000000005312c00603a101724341
 ";
-    let (said, outcome) = answers(rt.alloc(), &Settings::default(), early)?;
+    let (said, outcome) = answers(rt.alloc(), &USUAL, early)?;
     assert_eq!(rt; outcome, Outcome::EachLineGood);
     assert!(rt; said.ends_with(wanted));
     Ok(())
 }
 
 /// What the words of a command line ask of `conn`, if they are right.
-fn settings_of(alloc: Global, words: &[&str]) -> Result<Option<Settings>, Fail> {
+fn settings_of(alloc: Global, words: &[&str]) -> Result<Option<Config>, Fail> {
     let mut program = Command::new(alloc, "program").subcommand(command(alloc)?)?;
     let Ok(matches) = program.try_get_matches_from_mut(words) else {
         return Ok(None);
     };
     match matches.subcommand_matches("conn") {
-        Some(options) => Ok(Some(Settings::of(options))),
+        Some(options) => Ok(Some(config_of(options))),
         None => Ok(None),
     }
 }
@@ -347,10 +348,10 @@ fn settings_of(alloc: Global, words: &[&str]) -> Result<Option<Settings>, Fail> 
 #[test]
 fn options_of_the_command(rt: HostRuntime) -> Result<(), Fail> {
     let alloc = rt.alloc();
-    let asked = Settings {
+    let asked = Config {
         first_id: 1,
         window: 2,
-        limit: 3,
+        journal_limit: 3,
     };
     let words = [
         "program",
@@ -363,10 +364,7 @@ fn options_of_the_command(rt: HostRuntime) -> Result<(), Fail> {
         "3",
     ];
     assert_eq!(rt; settings_of(alloc, &words)?, Some(asked));
-    assert_eq!(rt;
-        settings_of(alloc, &["program", "conn"])?,
-        Some(Settings::default())
-    );
+    assert_eq!(rt; settings_of(alloc, &["program", "conn"])?, Some(USUAL));
     assert_eq!(rt; settings_of(alloc, &["program"])?, None);
     assert_eq!(rt;
         settings_of(alloc, &["program", "conn", "--window", "0"])?,
