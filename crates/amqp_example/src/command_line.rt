@@ -1,7 +1,7 @@
 //! What is asked for: the examples, or a connection driven by lines.
 
-use amqp_script::driven::options;
-use amqp_script::driven::options::Settings;
+use amqp_endpoint::config::Config;
+use amqp_script::options;
 use clap::{Command, Error};
 use std::alloc::{AllocError, Global};
 use std::convert::AsStr;
@@ -12,7 +12,7 @@ pub enum Request {
     /// All examples, one after the other.
     Examples,
     /// A run of `conn` with these settings.
-    Conn(Settings),
+    Conn(Config),
 }
 
 /// What the words ask for, the first of which is the program's name. The error holds what is to be told: a fault of
@@ -21,7 +21,7 @@ pub fn read_request<'a, S: AsStr>(alloc: Global, words: &'a [S]) -> Result<Reque
     let mut command = program(alloc)?;
     let matches = command.try_get_matches_from_mut(words)?;
     match matches.subcommand_matches("conn") {
-        Some(options) => Ok(Request::Conn(Settings::of(options))),
+        Some(words) => Ok(Request::Conn(options::config_of(words))),
         None => Ok(Request::Examples),
     }
 }

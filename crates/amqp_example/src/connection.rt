@@ -1,14 +1,13 @@
 //! `amqp_conn`: two ends of a connection, over memory. Octets go in and octets come out; each end does operations while it is running.
 
+use crate::operations::{accept, attach, grant, start};
 use amqp_conn::{Config, Conn};
 use amqp_endpoint::op::Op;
 use amqp_endpoint::reply::Given;
-use amqp_frames::{DeliveryState, Role};
+use amqp_frames::Role;
 use amqp_journal::unit::Unit;
 use amqp_script::feeding::feed_front;
-use amqp_types::{Tag, Text};
-use anyhow::Context;
-use bytes::Bytes;
+use amqp_types::Text;
 use std::alloc::Global;
 
 /// More octets in turn than either end has to say here.
@@ -144,54 +143,5 @@ fn hand_on<R: Print>(rt: &R, from: &mut End, to: &mut End) -> anyhow::Result<()>
     match from.pop_unit() {
         Some(unit) => to.hear(rt, unit.bytes.as_slice()),
         None => Ok(()),
-    }
-}
-
-/// A link of this name.
-pub fn attach(alloc: Global, name: &str, role: Role) -> anyhow::Result<Op> {
-    let name = Text::new(alloc, name)?;
-    Ok(Op::Attach {
-        name,
-        role,
-        snd: 2,
-        rcv: 0,
-        source: None,
-        target: None,
-        count: 0,
-        max_message: 0,
-    })
-}
-
-/// Ten deliveries may begin.
-pub fn grant(link: u32) -> Op {
-    Op::Grant {
-        link,
-        credit: 10,
-        drain: false,
-        echo: false,
-    }
-}
-
-fn start(alloc: Global, link: u32) -> anyhow::Result<Op> {
-    let tag = Tag::new(&[1]).context("a tag has at most 32 octets")?;
-    let payload = Bytes::from_vec(b"hello".to_vec(alloc)?)?;
-    Ok(Op::Start {
-        link,
-        tag,
-        format: 0,
-        settled: false,
-        payload,
-        more: false,
-    })
-}
-
-/// Delivery 0 is accepted, and settled.
-fn accept() -> Op {
-    Op::Dispose {
-        role: Role::Receiver,
-        first: 0,
-        last: 0,
-        settled: true,
-        state: Some(DeliveryState::Accepted),
     }
 }

@@ -6,6 +6,7 @@
 //! | `session` | `amqp_journal`: operations and heard frames in, frames to send out |
 //! | `connection` | `amqp_conn`: octets in, octets out |
 //! | `shared` | `amqp_shared`: two threads send on one connection |
+//! | `operations` | the operations that these do |
 //! | `command_line` | the command and its options |
 //!
 //! The command `conn`, a connection that lines drive, is `amqp_script::driven`.
@@ -20,11 +21,12 @@
 mod codec;
 mod command_line;
 mod connection;
+mod operations;
 mod session;
 mod shared;
 
+use amqp_endpoint::config::Config;
 use amqp_script::Outcome;
-use amqp_script::driven::options::Settings;
 use amqp_script::driven::{open, run_lines};
 use command_line::{Request, read_request};
 use std::env::Env;
@@ -62,7 +64,7 @@ where
             shared::run(rt)?;
             Ok(ExitCode::SUCCESS)
         }
-        Ok(Request::Conn(settings)) => drive(rt, &settings),
+        Ok(Request::Conn(config)) => drive(rt, &config),
         Err(error) => {
             error.print(rt)?;
             Ok(ExitCode::from(error.exit_code() as u8))
@@ -70,8 +72,8 @@ where
     }
 }
 
-fn drive<R: AllocGlobal + Input + Print>(rt: &R, settings: &Settings) -> anyhow::Result<ExitCode> {
-    let conn = open(rt.alloc(), settings)?;
+fn drive<R: AllocGlobal + Input + Print>(rt: &R, config: &Config) -> anyhow::Result<ExitCode> {
+    let conn = open(rt.alloc(), config)?;
     let mut reader = BufReader::new(rt.alloc(), rt.reader())?;
     let mut writer = BufWriter::new(rt.alloc(), io::writer(rt))?;
     match run_lines(rt.alloc(), conn, &mut reader, &mut writer)? {

@@ -1,13 +1,12 @@
 //! `amqp_journal`: two ends of a session, each an endpoint with its journal. The octets of one are fed to the other.
 
+use crate::operations::{accept, attach, grant, start};
 use amqp_endpoint::config::Config;
 use amqp_endpoint::op::Op;
 use amqp_endpoint::reply::Given;
-use amqp_frames::{DeliveryState, Frame, Framer, Role};
+use amqp_frames::{Frame, Framer, Role};
 use amqp_journal::logged::Logged;
-use amqp_types::{Tag, Text};
-use anyhow::{Context, ensure};
-use bytes::Bytes;
+use anyhow::ensure;
 use std::alloc::Global;
 
 /// The longest frame that either end takes, in octets.
@@ -25,14 +24,14 @@ pub fn run<R: AllocGlobal + Print>(rt: &R) -> anyhow::Result<()> {
     exchange(rt, &mut sender, &mut receiver)?;
     receiver.apply(rt, &Op::Begin)?;
     exchange(rt, &mut sender, &mut receiver)?;
-    sender.apply(rt, &attach(alloc, Role::Sender)?)?;
-    receiver.apply(rt, &attach(alloc, Role::Receiver)?)?;
+    sender.apply(rt, &attach(alloc, "news", Role::Sender)?)?;
+    receiver.apply(rt, &attach(alloc, "news", Role::Receiver)?)?;
     exchange(rt, &mut sender, &mut receiver)?;
     // The link has no credit yet. A refusal has changed nothing, so the same operation may be tried again.
-    sender.apply(rt, &start(alloc)?)?;
-    receiver.apply(rt, &grant())?;
+    sender.apply(rt, &start(alloc, 0)?)?;
+    receiver.apply(rt, &grant(0))?;
     exchange(rt, &mut sender, &mut receiver)?;
-    sender.apply(rt, &start(alloc)?)?;
+    sender.apply(rt, &start(alloc, 0)?)?;
     exchange(rt, &mut sender, &mut receiver)?;
     settle(rt, &mut sender, &mut receiver)
 }
@@ -144,53 +143,5 @@ fn hand_on<R: AllocGlobal + Print>(rt: &R, from: &mut End, to: &mut End) -> anyh
     match from.logged.pop_unit() {
         Some(unit) => to.hear(rt, unit.bytes.as_slice()),
         None => Ok(()),
-    }
-}
-
-fn attach(alloc: Global, role: Role) -> anyhow::Result<Op> {
-    let name = Text::new(alloc, "news")?;
-    Ok(Op::Attach {
-        name,
-        role,
-        snd: 2,
-        rcv: 0,
-        source: None,
-        target: None,
-        count: 0,
-        max_message: 0,
-    })
-}
-
-/// Ten deliveries may begin.
-fn grant() -> Op {
-    Op::Grant {
-        link: 0,
-        credit: 10,
-        drain: false,
-        echo: false,
-    }
-}
-
-fn start(alloc: Global) -> anyhow::Result<Op> {
-    let tag = Tag::new(&[1]).context("a tag has at most 32 octets")?;
-    let payload = Bytes::from_vec(b"hello".to_vec(alloc)?)?;
-    Ok(Op::Start {
-        link: 0,
-        tag,
-        format: 0,
-        settled: false,
-        payload,
-        more: false,
-    })
-}
-
-/// Delivery 0 is accepted, and settled.
-fn accept() -> Op {
-    Op::Dispose {
-        role: Role::Receiver,
-        first: 0,
-        last: 0,
-        settled: true,
-        state: Some(DeliveryState::Accepted),
     }
 }

@@ -1,7 +1,8 @@
 //! `amqp_shared`: two threads send on one connection, each with a pass of its own, which counts its steps. The other end is in memory.
 ghost use Rattle.amqp_shared.specs.Passes.{IsNamed};
 
-use crate::connection::{End, attach, grant};
+use crate::connection::End;
+use crate::operations::{attach, grant};
 use amqp_conn::Config;
 use amqp_endpoint::op::Op;
 use amqp_frames::Role;
