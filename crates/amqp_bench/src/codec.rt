@@ -1,7 +1,7 @@
 //! Frames written and read in memory.
 
 use amqp_frames::{
-    DispositionBody, FlowBody, Frame, FrameFault, Framer, Performative, Role, TransferBody,
+    DispositionBody, Filled, FlowBody, Frame, FrameFault, Framer, Performative, Role, TransferBody,
     append_frame, write_frame,
 };
 use amqp_types::Tag;
@@ -138,8 +138,7 @@ fn read_slot(
     let mut frames: u64 = 0;
     let mut payload: u64 = 0;
     for _ in 0..rounds {
-        let (_, is_whole) = framer.feed_shared(octets, 0, slot)?;
-        if is_whole {
+        if let Filled::Whole(_) = framer.feed_shared(octets, 0, slot)? {
             frames = frames.wrapping_add(1);
             payload = payload.wrapping_add(slot.payload.len() as u64);
         }

@@ -2,14 +2,16 @@
 
 use amqp_endpoint::config::{Config, MAX_JOURNAL_LIMIT, MAX_WINDOW};
 use amqp_endpoint::op::Op;
+use amqp_endpoint::refusal::Refusal;
 use amqp_endpoint::reply::Given;
-use amqp_frames::{DeliveryState, Frame, Framer, Role};
+use amqp_endpoint::violation::Violation;
+use amqp_frames::{DeliveryState, Filled, Frame, FrameFault, Framer, Role};
 use amqp_journal::logged::Logged;
 use amqp_types::{Boxed, Tag, Text};
-use anyhow::{Context, ensure};
 use bytes::Bytes;
 use std::alloc::{AllocError, Global};
 use std::mem;
+use thiserror::Error;
 
 /// The longest frame that either end takes, in octets.
 const MAX_FRAME: u32 = 65536;
@@ -19,6 +21,25 @@ const PART: usize = 65472;
 
 /// More units than an end has waiting at any time.
 const UNITS: u32 = u32::MAX;
+
+/// Why messages are not sent on. It is small, since each step answers one.
+#[derive(Clone, Copy, Debug, PartialEq, Eq, Error)]
+pub enum EndFault {
+    #[error("a setting is out of its limits")]
+    Setting,
+    #[error("a tag has at most 32 octets")]
+    LongTag,
+    #[error("a unit is no whole frame")]
+    PartOfFrame,
+    #[error("{0}")]
+    Refused(#[from] Refusal),
+    #[error("{0}")]
+    Violated(#[from] Violation),
+    #[error("{0}")]
+    Frame(#[from] FrameFault),
+    #[error("{0}")]
+    Memory(#[from] AllocError),
+}
 
 /// Counts of what an end was given.
 #[derive(Clone, Copy, Debug)]
@@ -43,13 +64,15 @@ pub struct End {
 }
 
 impl End {
-    pub fn new(alloc: Global) -> anyhow::Result<End> {
+    pub fn new(alloc: Global) -> Result<End, EndFault> {
         let config = Config {
             first_id: 0,
             window: MAX_WINDOW,
             journal_limit: MAX_JOURNAL_LIMIT,
         };
-        ensure!(config.is_within_limits(), "a setting is out of its limits");
+        if !config.is_within_limits() {
+            return Err(EndFault::Setting);
+        }
         Ok(End {
             alloc,
             logged: Logged::new(alloc, &config)?,
@@ -86,13 +109,13 @@ impl End {
     }
 
     /// The peer takes long frames, and the session begins.
-    pub fn begin(&mut self) -> anyhow::Result<()> {
+    pub fn begin(&mut self) -> Result<(), EndFault> {
         self.logged.opened(MAX_FRAME)?;
         self.apply(Op::Begin)
     }
 
     /// Attaches the one link; the sender's mode is unsettled or settled, the receiver's first.
-    pub fn attach(&mut self, alloc: Global, role: Role, settled: bool) -> anyhow::Result<()> {
+    pub fn attach(&mut self, alloc: Global, role: Role, settled: bool) -> Result<(), EndFault> {
         let name = Text::new(alloc, "messages")?;
         self.apply(Op::Attach {
             name,
@@ -107,7 +130,7 @@ impl End {
     }
 
     /// Lets the peer begin so many deliveries.
-    pub fn grant(&mut self, credit: u32) -> anyhow::Result<()> {
+    pub fn grant(&mut self, credit: u32) -> Result<(), EndFault> {
         self.apply(Op::Grant {
             link: 0,
             credit,
@@ -118,7 +141,12 @@ impl End {
 
     /// Sends so many messages. It stands apart, so that a profile shows what starts cost.
     #[inline(never)]
-    pub fn send_many(&mut self, payload: &Bytes, settled: bool, count: u32) -> anyhow::Result<()> {
+    pub fn send_many(
+        &mut self,
+        payload: &Bytes,
+        settled: bool,
+        count: u32,
+    ) -> Result<(), EndFault> {
         for _ in 0..count {
             self.send(payload, settled)?;
         }
@@ -126,7 +154,7 @@ impl End {
     }
 
     /// Sends a message, in several transfers where it is long.
-    fn send(&mut self, payload: &Bytes, settled: bool) -> anyhow::Result<()> {
+    fn send(&mut self, payload: &Bytes, settled: bool) -> Result<(), EndFault> {
         if payload.len() <= PART {
             return self.start(payload.clone()?, settled, false);
         }
@@ -137,8 +165,11 @@ impl End {
     }
 
     /// Begins a delivery, whose tag is its number.
-    fn start(&mut self, payload: Bytes, settled: bool, more: bool) -> anyhow::Result<()> {
-        let tag = Tag::new(&self.begun.to_be_bytes()).context("a tag has at most 32 octets")?;
+    fn start(&mut self, payload: Bytes, settled: bool, more: bool) -> Result<(), EndFault> {
+        let Some(tag) = Tag::new(&self.begun.to_be_bytes()) else {
+            drop(payload);
+            return Err(EndFault::LongTag);
+        };
         self.begun = self.begun.wrapping_add(1);
         self.apply(Op::Start {
             link: 0,
@@ -151,7 +182,7 @@ impl End {
     }
 
     /// Sends the rest of a message, in as many transfers as it needs.
-    fn carry_all(&mut self, mut rest: Bytes) -> anyhow::Result<()> {
+    fn carry_all(&mut self, mut rest: Bytes) -> Result<(), EndFault> {
         for _ in 0..u64::MAX {
             if rest.is_empty() {
                 break;
@@ -168,7 +199,7 @@ impl End {
     }
 
     /// Accepts and settles all that was taken and is not settled, so many deliveries at a time.
-    pub fn settle(&mut self, range: u32) -> anyhow::Result<()> {
+    pub fn settle(&mut self, range: u32) -> Result<(), EndFault> {
         for _ in self.settled..self.counts.taken {
             if self.settled == self.counts.taken {
                 break;
@@ -178,7 +209,7 @@ impl End {
         Ok(())
     }
 
-    fn settle_range(&mut self, range: u32) -> anyhow::Result<()> {
+    fn settle_range(&mut self, range: u32) -> Result<(), EndFault> {
         let first = self.settled;
         let end = first.saturating_add(range).min(self.counts.taken);
         self.settled = end;
@@ -192,7 +223,7 @@ impl End {
     }
 
     /// Learns what was told of so many deliveries.
-    pub fn learn(&mut self, count: u32) -> anyhow::Result<()> {
+    pub fn learn(&mut self, count: u32) -> Result<(), EndFault> {
         for _ in 0..count {
             self.apply(Op::Learn { link: 0 })?;
         }
@@ -200,9 +231,10 @@ impl End {
     }
 
     /// Takes a frame of the peer's; a delivery that it makes ready is taken at once.
-    fn hear(&mut self, octets: &Bytes) -> anyhow::Result<()> {
-        let (_, is_whole) = self.framer.feed_shared(octets, 0, &mut self.heard.boxed)?;
-        ensure!(is_whole, "a unit is no whole frame");
+    fn hear(&mut self, octets: &Bytes) -> Result<(), EndFault> {
+        let Filled::Whole(_) = self.framer.feed_shared(octets, 0, &mut self.heard.boxed)? else {
+            return Err(EndFault::PartOfFrame);
+        };
         let frame = mem::replace(&mut self.heard, place(self.alloc)?);
         let given = self.logged.hear(frame)?;
         let is_ready = matches!(given, Given::Ready(_, _));
@@ -214,7 +246,7 @@ impl End {
     }
 
     /// Does an operation, and counts what it gives.
-    fn apply(&mut self, op: Op) -> anyhow::Result<()> {
+    fn apply(&mut self, op: Op) -> Result<(), EndFault> {
         self.logged.perform(op)?;
         if let Some(entry) = self.logged.journal().last() {
             self.counts.count(&entry.reply.given);
@@ -263,7 +295,7 @@ impl Counts {
 }
 
 /// One end hears all that the other put out.
-pub fn exchange(from: &mut End, to: &mut End) -> anyhow::Result<()> {
+pub fn exchange(from: &mut End, to: &mut End) -> Result<(), EndFault> {
     for _ in 0..UNITS {
         match from.pop() {
             Some(octets) => to.hear(&octets)?,

@@ -1,6 +1,6 @@
 //! Messages over a session in memory: two ends, each an endpoint with its journal, in one thread.
 
-use crate::end::{End, exchange};
+use crate::end::{End, EndFault, exchange};
 use amqp_frames::Role;
 use bytes::Bytes;
 use std::alloc::Global;
@@ -119,7 +119,7 @@ fn send_between(
     receiver: &mut End,
     payload: &Bytes,
     messages: Messages,
-) -> anyhow::Result<()> {
+) -> Result<(), EndFault> {
     attach(alloc, sender, receiver, messages.settled)?;
     send_all(sender, receiver, payload, messages)
 }
@@ -139,7 +139,7 @@ fn attach(
     sender: &mut End,
     receiver: &mut End,
     settled: bool,
-) -> anyhow::Result<()> {
+) -> Result<(), EndFault> {
     sender.begin()?;
     exchange(sender, receiver)?;
     receiver.begin()?;
@@ -156,7 +156,7 @@ fn send_all(
     receiver: &mut End,
     payload: &Bytes,
     messages: Messages,
-) -> anyhow::Result<()> {
+) -> Result<(), EndFault> {
     let mut left = messages.count;
     for _ in 0..messages.count {
         let batch = left.min(messages.credit);
@@ -176,7 +176,7 @@ fn send_batch(
     payload: &Bytes,
     batch: u32,
     messages: Messages,
-) -> anyhow::Result<()> {
+) -> Result<(), EndFault> {
     receiver.grant(batch)?;
     exchange(receiver, sender)?;
     sender.send_many(payload, messages.settled, batch)?;

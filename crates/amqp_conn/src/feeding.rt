@@ -7,7 +7,7 @@ ghost use Rattle.amqp_conn.specs.Treats.{Treats, PutsBack, EndsAll, EndsFor, Act
 use crate::fault::ConnFault;
 use crate::fed::Fed;
 use crate::treating::{Machine, nothing};
-use amqp_frames::{Frame, FrameFault, Framer};
+use amqp_frames::{Filled, Frame, FrameFault, Framer};
 use bytes::Bytes;
 use std::alloc::Global;
 
@@ -25,8 +25,8 @@ pub(crate) fn frame_shared(framer: &mut Framer, shared: &Bytes, from: usize) -> 
         payload: Bytes::new(),
     };
     match framer.feed_shared(shared, from, &mut slot) {
-        Ok((used, true)) => Ok((used, Some(slot))),
-        Ok((used, false)) => {
+        Ok(Filled::Whole(used)) => Ok((used, Some(slot))),
+        Ok(Filled::Part(used)) => {
             drop(slot);
             Ok((used, None))
         }

@@ -1,5 +1,5 @@
 //! What follows a frame's header: nothing, or a performative and a transfer's payload (part 2, 2.3.2).
-ghost use Rattle.std.specs.Prelude.{◌≡◌, ◌≤◌, ◌<◌, ◌-◌, ◌↔◌, ◌++◌, ℕ, List, Ok, IsTrue, IfOk, MatchResult, length, take, drop};
+ghost use Rattle.std.specs.Prelude.{◌≡◌, ◌≤◌, ◌<◌, ◌-◌, ◌↔◌, ◌++◌, ℕ, List, Ok, IsTrue, IfOk, OnOk, MatchResult, length, take, drop};
 ghost use Rattle.amqp_performatives.specs.declared.performative.Performative.{Performative};
 ghost use Rattle.amqp_frames.specs.Framing.{is_transfer, MayFollow, AreContents};
 ghost use Rattle.amqp_performatives.specs.Spelling.{IsPerformative};
@@ -172,23 +172,22 @@ fn share_payload(
     if !holds_transfer(&slot.body) {
         return Err(FrameFault::BadBody);
     }
-    match slice(shared, start + size, end) {
-        Ok(payload) => {
-            slot.payload = payload;
-            Ok(())
-        }
+    match slice_into(shared, start + size, end, &mut slot.payload) {
+        Ok(()) => Ok(()),
         Err(_) => Err(FrameFault::NoMemory),
     }
 }
 
-/// A part of the octets, which are not copied.
-#[inline(always)]
-fn slice(shared: &Bytes, start: usize, end: usize) -> Result<Bytes, AllocError>
+/// Leaves a part of the octets in the slot, which are not copied. Out of line, where its parts go from registers to their places.
+#[inline(never)]
+fn slice_into(shared: &Bytes, start: usize, end: usize, slot: &mut Bytes) -> Result<(), AllocError>
     requires order { start ≤ end }
     requires within { end ≤ length shared.now }
-    ensures { IfOk result (λ part. part ≡ take (end - start) (drop start shared.now)) }
+    ensures { OnOk result (slot.new ≡ take (end - start) (drop start shared.now)) }
 {
-    shared.slice(start..end)
+    let part = shared.slice(start..end)?;
+    *slot = part;
+    Ok(())
 }
 
 #[inline(always)]

@@ -1,5 +1,5 @@
 //! Frames out of octets that come in pieces (part 2, 2.3).
-ghost use Rattle.std.specs.Prelude.{◌≡◌, ◌≢◌, ◌≤◌, ◌<◌, ◌*◌, ◌++◌, [], ℕ, List, Some, None, Ok, MatchOption, MatchResult, IsSome, IfOk, IfSome, OnOk, ◌+◌, length, take, drop, min, max};
+ghost use Rattle.std.specs.Prelude.{◌≡◌, ◌≢◌, ◌≤◌, ◌<◌, ◌*◌, ◌++◌, [], ℕ, List, Some, None, Ok, Err, MatchOption, MatchResult, IsSome, IfOk, IfSome, OnOk, ◌+◌, length, take, drop, min, max};
 ghost use Rattle.std.specs.Vec.{vec_len, vec_capacity};
 ghost use Rattle.amqp_frames.specs.Framing.{IsUnfinished, AreContents, size_of};
 ghost use Rattle.amqp_frames.specs.Header.{BeginsWith, IsHeaderPart, IsHeaderFault};
@@ -9,6 +9,7 @@ ghost use Rattle.amqp_frames.specs.Slots.{FeedsSlot};
 
 use crate::contents::{front_fault, read_contents, share_contents};
 use crate::fault::FrameFault;
+use crate::filled::Filled;
 use crate::frame::Frame;
 use crate::header::{Header, examine};
 use bytes::Bytes;
@@ -193,43 +194,60 @@ impl Framer {
         }
     }
 
-    /// As `feed` of the shared octets from a place on, with the frame left in the caller's slot: it has the frame where the answer is true, and else
+    /// As `feed` of the shared octets from a place on, with the frame left in the caller's slot: it has the frame where the answer is `Whole`, and else
     /// may hold anything. The payload of a frame that lies whole in the octets is a slice of them, without a copy; so the slot keeps them alive.
     pub fn feed_shared(
         &mut self,
         shared: &Bytes,
         from: usize,
         slot: &mut Frame,
-    ) -> Result<(usize, bool), FrameFault>
+    ) -> Result<Filled, FrameFault>
         requires { from ≤ length shared.now }
         ensures { FeedsSlot self.old (drop from shared.now) result slot.new self.new }
     {
         let piece = rest(shared, from);
-        if piece.is_empty() || !self.kept().is_empty() {
+        let Some(header) = self.whole_front(piece) else {
             return self.feed_apart(piece, slot);
+        };
+        match self.share(header, shared, from, slot) {
+            Ok(()) => Ok(Filled::Whole(header.size as usize)),
+            Err(fault) => Err(fault),
+        }
+    }
+
+    /// The header of a frame that lies whole in the piece and has contents, where no octets are kept.
+    #[inline(always)]
+    fn whole_front(&self, piece: &[u8]) -> Option<Header>
+        ensures none { IfSome result (λ _. self.now.kept ≡ []) }
+        ensures begins { IfSome result (λ header. BeginsWith header self.now.max_size (self.now.kept ++ piece.now)) }
+        ensures whole { IfSome result (λ header. header.size ≤ length piece.now) }
+        ensures some { IfSome result (λ header. 4 * header.doff < header.size) }
+    {
+        if piece.is_empty() || !self.kept().is_empty() {
+            return None;
         }
         match examine(self.max_size, piece) {
             Ok(Some(header)) => {
                 if piece.len() < header.size as usize || header.size as usize == header.start() {
-                    return self.feed_apart(piece, slot);
+                    return None;
                 }
-                self.share(header, shared, from, slot)
+                Some(header)
             }
-            _ => self.feed_apart(piece, slot),
+            _ => None,
         }
     }
 
-    /// The same, by way of `feed`.
+    /// As `feed_shared`, by way of `feed`.
     #[inline(never)]
-    fn feed_apart(&mut self, piece: &[u8], slot: &mut Frame) -> Result<(usize, bool), FrameFault>
+    fn feed_apart(&mut self, piece: &[u8], slot: &mut Frame) -> Result<Filled, FrameFault>
         ensures { FeedsSlot self.old piece.now result slot.new self.new }
     {
         match self.feed(piece) {
             Ok((used, Some(frame))) => {
                 *slot = frame;
-                Ok((used, true))
+                Ok(Filled::Whole(used))
             }
-            Ok((used, None)) => Ok((used, false)),
+            Ok((used, None)) => Ok(Filled::Part(used)),
             Err(fault) => Err(fault),
         }
     }
@@ -242,13 +260,13 @@ impl Framer {
         shared: &Bytes,
         from: usize,
         slot: &mut Frame,
-    ) -> Result<(usize, bool), FrameFault>
+    ) -> Result<(), FrameFault>
         requires from { from ≤ length shared.now }
         requires begins { BeginsWith header self.old.max_size (self.old.kept ++ drop from shared.now) }
         requires none { self.old.kept ≡ [] }
         requires whole { header.size ≤ length (drop from shared.now) }
         requires some { 4 * header.doff < header.size }
-        ensures { FeedsSlot self.old (drop from shared.now) result slot.new self.new }
+        ensures { MatchResult result (λ _. FeedsSlot self.old (drop from shared.now) (Ok (Filled.Whole header.size)) slot.new self.new) (λ fault. FeedsSlot self.old (drop from shared.now) (Err fault) slot.new self.new) }
     {
         let size = header.size as usize;
         let alloc = *self.buffer.allocator();
@@ -266,7 +284,7 @@ impl Framer {
             Ok(()) => {
                 self.before = Some(0);
                 self.is_done = true;
-                Ok((size, true))
+                Ok(())
             }
             Err(fault) => Err(fault),
         }

@@ -12,6 +12,7 @@ mod append;
 mod contents;
 mod fair;
 mod fault;
+mod filled;
 mod frame;
 mod framer;
 mod header;
@@ -31,6 +32,7 @@ pub use amqp_performatives::{
 };
 pub use append::append_frame;
 pub use fault::{FrameFault, FrameRefusal};
+pub use filled::Filled;
 pub use frame::Frame;
 pub use framer::Framer;
 pub use laws::{always_written, cutting, one_answer, one_frame};

@@ -118,7 +118,7 @@ pub fn read_ulong(bytes: &[u8]) -> Option<(u64, usize)>
 }
 
 /// The octets of a value of this sort, whether or not the sort may have them, and how many octets spell it.
-#[inline]
+#[inline(always)]
 fn candidate(run: Run, small: u8, large: u8, bytes: &[u8]) -> Option<(&[u8], usize)>
     requires { HasCodes run small large }
     ensures { IsCandidate run bytes.now (option_map (λ x. (x.0.now, x.1)) result) }

@@ -8,7 +8,7 @@ returns-then-not-holds_transfer c =
 
 pub returns-in-Ok : goal.returns-in-Ok
 returns-in-Ok c =
-    (refl, with_slot c.args.slot.now.body _ c.in-Ok.payload c.args.size c.requires.front c.if-not-holds_transfer.ensures (c.in-Ok.ensures ∙ sliced c.args.shared.now c.args.start c.args.end c.args.size c.requires.order c.requires.spelled))
+    (refl, with_slot c.args.slot.now.body _ _ c.args.size c.requires.front c.if-not-holds_transfer.ensures (c.in-Ok.ensures ∙ sliced c.args.shared.now c.args.start c.args.end c.args.size c.requires.order c.requires.spelled))
 
 pub returns-in-Err : goal.returns-in-Err
 returns-in-Err c = refused_slot c.args.slot.now.body _ _ c.requires.front c.if-not-holds_transfer.ensures
