@@ -1,16 +1,14 @@
 -- A span of places against the test that its deliveries pass.
-use Rattle.std.proofs.Common.{◌≡◌, ◌<◌, ◌≤◌, ◌+◌, ◌-◌, ◌^◌, ◌==◌, ℕ, zero, suc, Option, Some, None, Bool, true, false, not, cond, List, [], ◌∷◌, ◌++◌, map, length, get_or, take, drop, refl, arith, sym, ap, ◌∙◌, subst, append_assoc, length-drop, ⊎_elim}
+use Rattle.std.proofs.Common.{◌≡◌, ◌<◌, ◌≤◌, ◌+◌, ◌-◌, ◌^◌, ℕ, None, Bool, true, false, not, cond, List, [], ◌∷◌, ◌++◌, map, length, get_or, take, drop, refl, arith, sym, ap, ◌∙◌, subst, append_assoc, length-drop, ⊎_elim}
 use Rattle.std.proofs.lemmas.Bool.{cases_lt}
-use Rattle.std.specs.List.{slice_get, find, filter, All, between}
-use Rattle.std.specs.Prelude.{option_map}
-use Rattle.amqp_events.specs.Event.{Item}
+use Rattle.std.specs.List.{filter, All, between}
 use Rattle.std.proofs.lemmas.List.{length-take, get_or-take, get_or-drop, map-append, append-nil}
 use Rattle.std.proofs.lemmas.List.Edits.{split_between, length-between, get_or-between}
 use Rattle.std.proofs.lemmas.List.Elements.{filter-append, filter_passes, All-head, All-tail}
 use Rattle.amqp_flow.specs.Serial.{distance, is_before, is_inside}
 use Rattle.amqp_events.specs.Told.{SentItem}
 use Rattle.amqp_deliveries.specs.declared.span.Span.{Span}
-use Rattle.amqp_deliveries.specs.Held.{IsHeld, items_of, is_covered, has_id}
+use Rattle.amqp_deliveries.specs.Held.{IsHeld, is_covered}
 use Rattle.amqp_deliveries.specs.Span.{IsSpan, IsSpread, IsNarrowed}
 use Rattle.amqp_deliveries.proofs.Serials.{inside-far, covered-past, not_covered-past_below, not_covered-past_above, covered-behind, not_covered-behind, not_covered-short}
 
@@ -102,9 +100,6 @@ pub span_none : (first last : ℕ) (items : List SentItem) → ((k : ℕ) (d : S
 span_none first last items none =
     span_is first last items (record { start = 0; end = 0 }) (omega arith) (omega arith) (λ k d h l. none k d l) (λ k d h l. absurd (omega arith)) (λ k d h l. none k d l)
 
-pub span_empty : (first last : ℕ) (items : List SentItem) → length items ≡ 0 → IsSpan first last items (record { start = 0; end = 0 })
-span_empty first last items e = span_none first last items (λ k d l. absurd (omega arith))
-
 pub span_far : (first last : ℕ) (items : List SentItem) → 2 ^ 31 ≤ distance first last → IsSpan first last items (record { start = 0; end = 0 })
 span_far first last items h = span_none first last items (λ k d l. inside-far (get_or items k d).item.id first last h)
 
@@ -138,69 +133,6 @@ span_past first last front i j items x s reach skipped n m =
     (λ k d h l. not_covered-past_above front (get_or items k d).item.id first last (m.after k d h l))
 
 -- # One id
-
-same-id : (id x : ℕ) → id < 2 ^ 32 → x < 2 ^ 32 → (x == id) ≡ is_inside x id id
-same-id id x h k = grind arith
-
-find-same : {X : Type 0} (p q : X → Bool) (xs : List X) → All (λ x. p x ≡ q x) xs → find p xs ≡ find q xs
-find-same p q [] h = refl
-find-same p q (x ∷ xs) h =
-    let here : p x ≡ q x = All-head (λ y. p y ≡ q y) x xs h in
-    let rest = find-same p q xs (All-tail (λ y. p y ≡ q y) x xs h) in
-    λ i. cond (here i) (Some x) (rest i)
-
-find-item : (p : Item → Bool) (items : List SentItem) → find p (items_of items) ≡ option_map (λ s. s.item) (find (λ s. p s.item) items)
-find-item p [] = refl
-find-item p (s ∷ items) = by_test (p s.item) (find-item p items)
-  where
-    by_test : (b : Bool) → find p (items_of items) ≡ option_map (λ s. s.item) (find (λ s. p s.item) items)
-        → cond b (Some s.item) (find p (items_of items)) ≡ option_map (λ s. s.item) (cond b (Some s) (find (λ s. p s.item) items))
-    by_test true h = refl
-    by_test false h = h
-
-get-item : (items : List SentItem) (i : ℕ) → slice_get (items_of items) i ≡ option_map (λ s. s.item) (slice_get items i)
-get-item [] i = refl
-get-item (s ∷ items) zero = refl
-get-item (s ∷ items) (suc i) = get-item items i
-
-head-next : {X : Type 0} (b : Bool) (x : X) (o : Option X) (xs : List X) → o ≡ slice_get xs 0 → cond b (Some x) o ≡ slice_get (cond b (x ∷ xs) xs) 0
-head-next true x o xs h = refl
-head-next false x o xs h = h
-
-find-head : {X : Type 0} (p : X → Bool) (xs : List X) → find p xs ≡ slice_get (filter p xs) 0
-find-head p [] = refl
-find-head p (x ∷ xs) = head-next (p x) x (find p xs) (filter p xs) (find-head p xs)
-
-get-drop : {X : Type 0} (xs : List X) (i : ℕ) → slice_get (drop i xs) 0 ≡ slice_get xs i
-get-drop xs zero = refl
-get-drop [] (suc i) = refl
-get-drop (x ∷ xs) (suc i) = get-drop xs i
-
-get-take : {X : Type 0} (n : ℕ) (xs : List X) → slice_get (take (suc n) xs) 0 ≡ slice_get xs 0
-get-take n [] = refl
-get-take n (x ∷ xs) = refl
-
-get-between : {X : Type 0} (xs : List X) (i j : ℕ) → i < j → slice_get (between i j xs) 0 ≡ slice_get xs i
-get-between xs i j h =
-    let e : j - i ≡ suc (j - i - 1) = omega arith in
-    ap (λ n. slice_get (take n (drop i xs)) 0) e ∙ get-take (j - i - 1) (drop i xs) ∙ get-drop xs i
-
-found-first : (id : ℕ) (items : List SentItem) (span : Span) → id < 2 ^ 32 → All (λ s. s.item.id < 2 ^ 32) items → IsSpan id id items span
-    → find (has_id id) items ≡ slice_get (between span.start span.end items) 0
-found-first id items span small fit r =
-    find-same (has_id id) (is_covered id id) items (λ k d l. same-id id (get_or items k d).item.id small (fit k d l)) ∙ find-head (is_covered id id) items ∙ sym (ap (λ t. slice_get t 0) r.inside)
-
-pub found_at : (id : ℕ) (items : List SentItem) (span : Span) → id < 2 ^ 32 → All (λ s. s.item.id < 2 ^ 32) items → IsSpan id id items span → span.start < span.end
-    → slice_get (items_of items) span.start ≡ find (λ i. i.id == id) (items_of items)
-found_at id items span small fit r h =
-    get-item items span.start
-    ∙ sym (find-item (λ i. i.id == id) items ∙ ap (option_map (λ s. s.item)) (found-first id items span small fit r ∙ get-between items span.start span.end h))
-
-pub not_found : (id : ℕ) (items : List SentItem) (span : Span) → id < 2 ^ 32 → All (λ s. s.item.id < 2 ^ 32) items → IsSpan id id items span → span.end ≤ span.start
-    → None ≡ find (λ i. i.id == id) (items_of items)
-not_found id items span small fit r h =
-    let e : span.end - span.start ≡ 0 = omega arith in
-    sym (find-item (λ i. i.id == id) items ∙ ap (option_map (λ s. s.item)) (found-first id items span small fit r ∙ ap (λ n. slice_get (take n (drop span.start items)) 0) e))
 
 -- the places of one id are one at most
 not-both : (a b id : ℕ) → is_inside a id id ≡ true → is_inside b id id ≡ true → is_before a b ≡ true → ⊥

@@ -15,9 +15,6 @@ items_of items = map (λ s. s.item) items
 abbrev pub untold : Item → SentItem
 untold item = record { item = item; told = false }
 
-abbrev pub has_id : ℕ → SentItem → Bool
-has_id id s = s.item.id == id
-
 -- its id is one of those from first to last
 abbrev pub is_covered : ℕ → ℕ → SentItem → Bool
 is_covered first last s = in_range first last s.item

@@ -1,5 +1,5 @@
 //! The unsettled deliveries of one role.
-ghost use Rattle.std.specs.Prelude.{List, ◌<◌, ◌≡◌, ◌==◌, ◌++◌, ◌∷◌, [], false, IsTrue, ◌↔◌, length, find, option_map, slice_get, IfErr, OnOk, OnErr};
+ghost use Rattle.std.specs.Prelude.{List, ◌<◌, ◌≡◌, ◌++◌, ◌∷◌, [], false, IsTrue, ◌↔◌, length, option_map, slice_get, OnOk, OnErr};
 ghost use Rattle.std.specs.List.{list_any};
 ghost use Rattle.std.specs.VecDeque.{deque_len, deque_capacity};
 ghost use Rattle.amqp_events.specs.Told.{SentItem};
@@ -47,7 +47,7 @@ fn make_room(
 /// |---|---|
 /// | `len`, `at`, `follows` | one |
 /// | `has_tag`, `add` | one on average; n where the tags were chosen to collide as they are hashed |
-/// | `find`, `span` | O(log h), and never more than O(log n) |
+/// | `span` | O(log h), and never more than O(log n) |
 /// | `any_second`, `any_fixed`, `named_at` | k |
 /// | `say`, `hear`, `go_on` | those of `span`, and k; where deliveries end, the shorter side of the span moves: none for a span at either end |
 /// | `tellings` | those of `span`, and k |
@@ -111,18 +111,6 @@ impl Held {
         match self.items.get(i) {
             None => None,
             Some(entry) => Some(&entry.item),
-        }
-    }
-
-    /// The delivery with this id.
-    pub fn find(&self, id: u32) -> Option<&HeldItem>
-        ensures { option_map (λ x. x.now) result ≡ find (λ i. i.id == id) (items_of self.now) }
-    {
-        let span = self.span(id, id);
-        if span.start < span.end {
-            self.at(span.start)
-        } else {
-            None
         }
     }
 

@@ -39,7 +39,6 @@ mod start;
 mod steps;
 mod take;
 mod telling;
-mod twice;
 
 /// One end of a session. A refused operation and a frame that is not taken change nothing.
 #[derive(Drop)]

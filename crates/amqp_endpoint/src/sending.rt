@@ -223,33 +223,6 @@ impl Written {
     }
 }
 
-impl Clone for Written {
-    ghost is_clone = { λ a b. b ≡ a };
-
-    fn clone(&self) -> Result<Written, AllocError> {
-        match self.list.as_slice() {
-            [sent] => keep_copy(self.list.allocator(), sent),
-            _ => Err(AllocError),
-        }
-    }
-}
-
-/// A copy of the frame with its octets, where it stays.
-fn keep_copy(alloc: Global, sent: &Sent) -> Result<Written, AllocError>
-    ensures { IfOk result (λ w. w ≡ sent.now) }
-{
-    let mut items = Vec::with_capacity(alloc, 1)?;
-    let octets = sent.bytes.clone()?;
-    match sent.clone() {
-        Ok(copy) => {
-            items.push_reserved(copy);
-            let list = Items { items };
-            Ok(Written { list, octets })
-        }
-        Err(e) => Err(e),
-    }
-}
-
 /// The frame that is sent, if there is one, and a handle of its octets.
 pub(crate) fn list_sent(alloc: Global, sent: Option<Written>) -> (Items<Sent>, Option<Bytes>)
     ensures list { result.0 ≡ option_to_list sent }

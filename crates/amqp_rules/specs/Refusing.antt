@@ -1,6 +1,5 @@
 -- Answers that a table of refusals gives.
-use Rattle.std.specs.Prelude.{ℕ, ◌≡◌, Bool, Option, Some, None, Result, Ok, Err, List, [], ◌∷◌, cond, ◌⊎◌, IsOk}
-use Rattle.amqp_rules.specs.declared.reply.Reply.{Reply}
+use Rattle.std.specs.Prelude.{ℕ, Bool, Option, Some, None, Result, Ok, Err, List, [], ◌∷◌, cond}
 use Rattle.amqp_rules.specs.declared.violation.Violation.{Violation}
 use Rattle.amqp_rules.specs.declared.violation.ViolationKind.{ViolationKind}
 use Rattle.amqp_rules.specs.declared.violation.ViolationKind.TheVariants.{NoMemory}
@@ -34,8 +33,3 @@ of_link k kind = record { kind = kind; link = Some k }
 
 abbrev pub no_memory : Violation
 no_memory = unlinked NoMemory
-
--- a call gives this answer, and its reply twice; or memory was refused where a reply was due
-abbrev pub Gives : {E : Type 0} → E → Result Reply E → Result (Reply × Reply) E → Type 0
-Gives refused_memory answer (Ok both) = (answer ≡ Ok both.0) × (both.1 ≡ both.0)
-Gives refused_memory answer (Err e) = (answer ≡ Err e) ⊎ (IsOk answer × (e ≡ refused_memory))

@@ -15,7 +15,7 @@ use crate::reply::Given;
 use crate::violation::{Violation, ViolationKind};
 use amqp_deliveries::Change;
 use amqp_frames::{AttachBody, Role};
-use amqp_links::credit::Credit;
+use amqp_links::credit::{Credit, opposite};
 use amqp_links::end::End;
 use amqp_links::fate::Fate;
 use amqp_links::marks::Marks;
@@ -26,15 +26,6 @@ pub(crate) struct Answered {
     pub(crate) key: usize,
     pub(crate) number: u32,
     pub(crate) marks: Marks,
-}
-
-fn opposite(role: Role) -> Role
-    ensures { result ≡ opposite role }
-{
-    match role {
-        Role::Sender => Role::Receiver,
-        Role::Receiver => Role::Sender,
-    }
 }
 
 /// What the attach of an end tells that stays with the link.

@@ -12,7 +12,8 @@ use crate::plan::{Plan, plan_quiet};
 use crate::reply::Given;
 use crate::violation::{Violation, ViolationKind};
 use amqp_deliveries::{Change, Disposition};
-use amqp_frames::{DispositionBody, Role};
+use amqp_frames::DispositionBody;
+use amqp_links::credit::opposite;
 use amqp_links::fate::Fate;
 use std::alloc::AllocError;
 
@@ -27,16 +28,6 @@ fn disposition_of(body: &DispositionBody) -> Result<Disposition, AllocError>
         settled: body.settled.unwrap_or(false),
         state,
     })
-}
-
-/// Our role in what an end of this role speaks of.
-fn opposite(role: Role) -> Role
-    ensures { result ≡ opposite role }
-{
-    match role {
-        Role::Sender => Role::Receiver,
-        Role::Receiver => Role::Sender,
-    }
 }
 
 impl Endpoint {
