@@ -27,6 +27,8 @@ impl Model for ReceiverCredit {
     ghost inverse = { λ c. record { first_count = c.first_count; passed = c.passed; credit = c.credit; drain = c.drain } };
 }
 
+const _: () = prove!(ReceiverCredit::MAX_GRANT == 2_147_483_647);
+
 impl ReceiverCredit {
     /// The most credit that is granted at once: 2147483647, one less than half of the circle of serial numbers.
     pub const MAX_GRANT: u32 = Serial::HALF - 1;

@@ -55,6 +55,9 @@ impl Serial {
     }
 }
 
+// RFC 1982, 3.2, for numbers of 32 bits.
+const _: () = prove!(Serial::HALF == 2_147_483_648);
+
 /// What this module's words mean for numbers that are counted without bound from some first one: a serial number
 /// stands for its count as long as the counts in question lie less than 2^31 apart.
 pub fn laws()

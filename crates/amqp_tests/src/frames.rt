@@ -391,6 +391,62 @@ fn an_octet_at_a_time(rt: HostRuntime) -> Result<(), Fail> {
     Ok(())
 }
 
+/// What a framer tells of these octets in two pieces: whether they are one frame, or its fault.
+fn fed_in_two(alloc: Global, first: &[u8], second: &[u8]) -> Result<bool, FrameFault> {
+    let mut framer = Framer::new(alloc, 65536);
+    match fed(&mut framer, first)? {
+        (_, true) => Ok(second.is_empty()),
+        (used, false) => {
+            if used < first.len() {
+                return Ok(false);
+            }
+            Ok(fed(&mut framer, second)? == (second.len(), true))
+        }
+    }
+}
+
+/// The octets are one frame, cut before each of their first octets.
+fn is_frame_cut_anywhere(alloc: Global, octets: &[u8], cuts: usize) -> Result<bool, FrameFault> {
+    for at in 0..=cuts.min(octets.len()) {
+        let (first, second) = octets.split_at(at.min(octets.len()));
+        if !fed_in_two(alloc, first, second)? {
+            return Ok(false);
+        }
+    }
+    Ok(true)
+}
+
+/// The octets are told to have a bad body, cut before each of their first octets.
+fn is_bad_cut_anywhere(alloc: Global, octets: &[u8], cuts: usize) -> bool {
+    for at in 0..=cuts.min(octets.len()) {
+        let (first, second) = octets.split_at(at.min(octets.len()));
+        if fed_in_two(alloc, first, second) != Err(FrameFault::BadBody) {
+            return false;
+        }
+    }
+    true
+}
+
+/// 600 octets of a frame that begins so, and is filled with payload.
+fn long_frame(alloc: Global, front: &str) -> Result<Vec<u8>, AllocError> {
+    let mut long = octets(alloc, front)?;
+    long.resize(600, 0x61)?;
+    Ok(long)
+}
+
+/// A long transfer, cut at each octet up to its payload; one whose handle is null; and a flow with a payload.
+#[test]
+fn long_frames_cut_in_their_performative(rt: HostRuntime) -> Result<(), Fail> {
+    let alloc = rt.alloc();
+    let transfer = long_frame(alloc, "0000025802000000 005314c00704 43 43a00100 43")?;
+    assert!(rt; is_frame_cut_anywhere(alloc, transfer.as_slice(), 24)?);
+    let null = long_frame(alloc, "0000025802000000 005314c00704 40 43a00100 43")?;
+    assert!(rt; is_bad_cut_anywhere(alloc, null.as_slice(), 24));
+    let flow = long_frame(alloc, "0000025802000000 005313c00704 43 43 43 43 40 40")?;
+    assert!(rt; is_bad_cut_anywhere(alloc, flow.as_slice(), 24));
+    Ok(())
+}
+
 /// What is written for the frame that these octets are in pieces.
 fn written_in_pieces(alloc: Global, octets: &[u8]) -> Result<Bytes, FrameRefusal> {
     let mut framer = Framer::new(alloc, 65536);

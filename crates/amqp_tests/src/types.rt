@@ -107,6 +107,18 @@ fn faults(rt: HostRuntime) {
     assert!(rt; is_refused(rt.alloc(), &[0xc0, 5, 2, 0x52, 1, 0x41, 0x40]));
 }
 
+// A list, a map and an array that tell some 2^32 items, and have none, one or two: no values, and no want of memory where so much is refused.
+#[test]
+fn told_counts(rt: HostRuntime) {
+    let alloc = rt.alloc();
+    assert!(rt; is_refused(alloc, b"\xd0\x00\x00\x00\x04\xff\xff\xff\xff"));
+    assert!(rt; is_refused(alloc, b"\xd0\x00\x00\x00\x06\xff\xff\xff\xff\x40\x40"));
+    assert!(rt; is_refused(alloc, b"\xd1\x00\x00\x00\x04\xff\xff\xff\xfe"));
+    assert!(rt; is_refused(alloc, b"\xd1\x00\x00\x00\x06\xff\xff\xff\xfe\x40\x40"));
+    assert!(rt; is_refused(alloc, b"\xf0\x00\x00\x00\x04\xff\xff\xff\xff"));
+    assert!(rt; is_refused(alloc, b"\xf0\x00\x00\x00\x06\xff\xff\xff\xff\x50\x01"));
+}
+
 // 32 lists, each the only item of the next outer one, and 33.
 #[test]
 fn deep(rt: HostRuntime) -> Result<(), Fail> {

@@ -1,5 +1,5 @@
 //! Reading a value that has parts.
-ghost use Rattle.std.specs.Prelude.{◌≡◌, ◌≤◌, ◌<◌, IsTrue, Some, None, option_map};
+ghost use Rattle.std.specs.Prelude.{◌≡◌, ◌≤◌, ◌<◌, ◌+◌, ◌*◌, ◌++◌, [], ◌∷◌, IsTrue, Some, None, IfOk, IfErr, is_ok, if◌then◌else◌, option_map, max, vec_len, vec_capacity};
 ghost use Rattle.amqp_types.specs.Codes.{class_of};
 ghost use Rattle.amqp_types.specs.Datum.{array, map};
 ghost use Rattle.amqp_types.specs.Grammar.{is_element, is_even};
@@ -12,7 +12,7 @@ use crate::fault::ReadFault;
 use crate::items::Items;
 use crate::leaves::{field, number, run, sized_run, split};
 use crate::value::Value;
-use std::alloc::Global;
+use std::alloc::{AllocFailed, Global};
 
 /// The count and the content, and what follows.
 #[tactic(auto, unfolding(crate::specs::Reading::compound_at))]
@@ -62,6 +62,25 @@ pub fn part(
     }
 }
 
+/// Puts the value behind the others. Room is for what was read, and never for what the octets tell is to come: four values, or twice as many as
+/// there are.
+fn add<T>(values: &mut Vec<T>, value: T) -> Result<(), AllocFailed<T>>
+    requires { vec_capacity values.old ≤ max 4 (2 * vec_len values.old) }
+    ensures items { values.new.items ≡ (if is_ok result then values.old.items ++ value ∷ [] else values.old.items) }
+    ensures value_returned { IfErr result (λ e. e.value ≡ value) }
+    ensures room { vec_capacity values.new ≤ max 4 (2 * vec_len values.new) }
+{
+    let count = values.len();
+    if count == values.capacity() {
+        let room = count.saturating_mul(2).max(4);
+        let Ok(()) = values.reserve_exact(room.saturating_sub(count)) else {
+            return Err(AllocFailed { value });
+        };
+    }
+    values.push_reserved(value);
+    Ok(())
+}
+
 /// The parts that are all of the octets.
 #[cycle(reading)]
 fn parts(
@@ -71,13 +90,14 @@ fn parts(
     count: u64,
     bytes: &[u8],
 ) -> Result<Vec<Value>, ReadFault>
-    ensures { Gives (λ v. views v.items) result (all_parts_at (part_at depth how) count bytes.now) }
+    ensures value { Gives (λ v. views v.items) result (all_parts_at (part_at depth how) count bytes.now) }
+    ensures room { IfOk result (λ v. vec_capacity v ≤ max 4 (2 * vec_len v)) }
 {
     let mut values = Vec::new(alloc);
     let mut rest = bytes;
     for _ in 0..count {
         let (value, after) = part(alloc, depth, how, rest)?;
-        values.push(value)?;
+        add(&mut values, value)?;
         rest = after;
     }
     if rest.is_empty() {
@@ -106,14 +126,15 @@ fn pairs(
     bytes: &[u8],
 ) -> Result<Vec<(Value, Value)>, ReadFault>
     requires { IsTrue (is_even count) }
-    ensures { Gives (λ v. views_of_pairs v.items) result (all_parts_at (part_at depth None) count bytes.now) }
+    ensures value { Gives (λ v. views_of_pairs v.items) result (all_parts_at (part_at depth None) count bytes.now) }
+    ensures room { IfOk result (λ v. vec_capacity v ≤ max 4 (2 * vec_len v)) }
 {
     let mut values = Vec::new(alloc);
     let mut rest = bytes;
     for _ in 0..count / 2 {
         let (key, after) = part(alloc, depth, None, rest)?;
         let (value, after) = part(alloc, depth, None, after)?;
-        values.push((key, value))?;
+        add(&mut values, (key, value))?;
         rest = after;
     }
     if rest.is_empty() {

@@ -74,6 +74,9 @@ impl Tag {
     }
 }
 
+// The standard's length (part 2, 2.8.7).
+const _: () = prove!(Tag::MAX_LEN == 32);
+
 impl PartialEq for Tag {
     ghost use Rattle.std.specs.Cmp.{partial_equiv_from_equiv};
     ghost use Rattle.std.specs.Cmp.Lexicographic.{pointwise, nat_list_eq_equiv};

@@ -11,6 +11,8 @@ use std::alloc::AllocError;
 /// deepest of these.
 pub const MAX_DEPTH: u8 = 32;
 
+const _: () = prove!(MAX_DEPTH == 32);
+
 /// Any AMQP value (OASIS AMQP 1.0, part 1, section 1.6).
 ///
 /// Floating-point and decimal numbers are kept as bits, a timestamp in milliseconds since the Unix epoch, and a map's pairs as they lie, also
