@@ -1,6 +1,6 @@
 -- Which ids are gone where an event ends some of a table's deliveries.
-use Rattle.std.proofs.Common.{◌≡◌, ◌<◌, ◌^◌, ℕ, suc, Bool, true, false, not, ◌&&◌, ◌||◌, ◌==◌, eqb, cond, Option, None, List, [], ◌∷◌, ◌++◌, map, filter, get_or, refl, sym, ap, ◌∙◌, append-nil, arith}
-use Rattle.std.specs.List.{All, AllPairs, AllByRecursion}
+use Rattle.std.proofs.Common.{◌≡◌, ◌<◌, ◌^◌, ℕ, suc, Bool, true, false, not, ◌&&◌, ◌||◌, ◌==◌, eqb, cond, Option, Some, None, option_map, List, [], ◌∷◌, ◌++◌, map, filter, get_or, refl, sym, ap, ◌∙◌, append-nil, arith}
+use Rattle.std.specs.List.{All, AllPairs, AllByRecursion, find}
 use Rattle.std.proofs.lemmas.Bool.{eq-eqb, ne_eqb, or_left, or_from}
 use Rattle.std.proofs.lemmas.List.Elements.{All-head, All-tail}
 use Rattle.amqp_performatives.specs.declared.bodies.Role.{Role}
@@ -123,6 +123,31 @@ filter-each-sent p q (s ∷ items) h = λ k. cond (h.0 k) (s ∷ filter-each-sen
 pub one_covered : (id : ℕ) (items : List SentItem) → id < 2 ^ 32 → All (λ s. s.item.id < 2 ^ 32) items → covered id id items ≡ filter (λ s. s.item.id == id) items
 one_covered id items small fit =
     filter-each-sent (is_covered id id) (λ s. s.item.id == id) items (each-of (λ s. is_covered id id s ≡ (s.item.id == id)) items (λ k d l. one-id id (get_or items k d).item.id small (fit k d l)))
+
+-- what passes is found among those that pass
+found-kept-first : (p : SentItem → Bool) (items : List SentItem) → find p (filter p items) ≡ find p items
+found-kept-first p [] = refl
+found-kept-first p (s ∷ items) = by_test (p s) refl (found-kept-first p items)
+  where
+    by_test : (b : Bool) → p s ≡ b → find p (filter p items) ≡ find p items → find p (cond b (s ∷ filter p items) (filter p items)) ≡ cond b (Some s) (find p items)
+    by_test true t h = rw t refl
+    by_test false t h = h
+
+found-item : (p : Item → Bool) (items : List SentItem) → find p (items_of items) ≡ option_map (λ (s : SentItem). s.item) (find (λ s. p s.item) items)
+found-item p [] = refl
+found-item p (s ∷ items) = by_test (p s.item) (found-item p items)
+  where
+    by_test : (b : Bool) → find p (items_of items) ≡ option_map (λ (s : SentItem). s.item) (find (λ s. p s.item) items)
+        → cond b (Some s.item) (find p (items_of items)) ≡ option_map (λ (s : SentItem). s.item) (cond b (Some s) (find (λ s. p s.item) items))
+    by_test true h = refl
+    by_test false h = h
+
+pub found_covered : (id : ℕ) (items inside : List SentItem) → id < 2 ^ 32 → All (λ s. s.item.id < 2 ^ 32) items → inside ≡ covered id id items
+    → find (λ i. i.id == id) (items_of items) ≡ option_map (λ (s : SentItem). s.item) (find (λ s. s.item.id == id) inside)
+found_covered id items inside small fit is =
+    let p : SentItem → Bool = λ s. s.item.id == id in
+    found-item (λ i. i.id == id) items
+    ∙ ap (option_map (λ (s : SentItem). s.item)) (sym (found-kept-first p items) ∙ ap (find p) (sym (is ∙ one_covered id items small fit)))
 
 -- all pass
 all-pass : (items : List SentItem) → items ≡ filter (λ s. true) items

@@ -1,13 +1,16 @@
 -- Deliveries with and without the mark whether they were told.
-use Rattle.std.proofs.Common.{◌≡◌, ◌<◌, ℕ, Bool, true, false, ◌||◌, cond, List, [], ◌∷◌, length, get_or, refl, sym, ap, subst, arith}
+use Rattle.std.proofs.Common.{◌≡◌, ◌≢◌, ◌<◌, ℕ, suc, Bool, true, false, ◌||◌, cond, Some, is_some, List, [], ◌∷◌, length, get_or, refl, sym, ap, ◌∙◌, subst, arith}
+use Rattle.std.proofs.lemmas.Bool.{true≢false}
 use Rattle.std.specs.List.{All, AllPairs, list_any, filter}
 use Rattle.std.proofs.lemmas.List.{length-map, get_or-map}
 use Rattle.amqp_flow.specs.Serial.{is_before}
-use Rattle.amqp_events.specs.Event.{Item}
+use Rattle.amqp_events.specs.Event.{Item, Disposition}
+use Rattle.amqp_events.specs.Table.{in_range}
+use Rattle.amqp_performatives.specs.declared.state.DeliveryState.{DeliveryState}
 use Rattle.amqp_events.specs.Told.{SentItem}
 use Rattle.amqp_events.specs.Laws.{AreInOrder, IsPast}
 use Rattle.amqp_events.specs.Tags.{AreApart, is_tagged}
-use Rattle.amqp_deliveries.specs.Held.{IsHeld, items_of}
+use Rattle.amqp_deliveries.specs.Held.{IsHeld, items_of, covered, GivesState}
 
 abbrev item : SentItem → Item
 item s = s.item
@@ -56,3 +59,17 @@ filter_item p (s ∷ items) = by_test (p s.item) (filter_item p items)
         → cond b (s.item ∷ filter p (items_of items)) (filter p (items_of items)) ≡ items_of (cond b (s ∷ filter (λ s. p s.item) items) (filter (λ s. p s.item) items))
     by_test true h = ap (λ is. s.item ∷ is) h
     by_test false h = h
+
+-- a state is given to some of them
+none-left : (items : List SentItem) → items_of items ≡ [] → items ≡ []
+none-left [] e = refl
+none-left (s ∷ items) e = absurd (let long : suc (length (items_of items)) ≡ 0 = ap length e in omega arith)
+
+pub gives_state : (d : Disposition) (state : DeliveryState) (items : List SentItem) → d.settled ≡ false → d.state ≡ Some state → covered d.first d.last items ≢ []
+    → GivesState d (items_of items)
+gives_state d state items stays gives some =
+    record {
+      stays = stays;
+      gives = λ none. true≢false (ap is_some (sym gives ∙ none));
+      some = λ none. some (none-left (covered d.first d.last items) (sym (filter_item (in_range d.first d.last) items) ∙ none));
+    }

@@ -1,8 +1,8 @@
 -- The unsettled deliveries of one role (OASIS AMQP 1.0, part 2, 2.6.12), as a list in serial order.
-use Rattle.std.specs.Prelude.{ℕ, ◌≡◌, ◌<◌, ◌==◌, ◌^◌, not, cond, Bool, true, false, List, map, filter}
+use Rattle.std.specs.Prelude.{ℕ, ◌≡◌, ◌≢◌, ◌<◌, ◌==◌, ◌^◌, not, cond, Bool, true, false, None, List, [], map, filter}
 use Rattle.std.specs.List.{list_any, All, AllPairs}
 use Rattle.amqp_flow.specs.Serial.{is_before}
-use Rattle.amqp_events.specs.Event.{Item}
+use Rattle.amqp_events.specs.Event.{Item, Disposition}
 use Rattle.amqp_events.specs.Told.{SentItem}
 use Rattle.amqp_events.specs.Table.{in_range}
 use Rattle.amqp_events.specs.Tags.{is_tagged}
@@ -47,6 +47,12 @@ uncovered first last = filter (λ s. not (is_covered first last s))
 -- all of them, with those that a range of ids covers changed
 abbrev pub change_covered : ℕ → ℕ → (SentItem → SentItem) → List SentItem → List SentItem
 change_covered first last change = map (λ s. cond (is_covered first last s) (change s) s)
+
+-- it gives a state to some of them that stay, each of which keeps a copy
+pub record GivesState (d : Disposition) (items : List Item) : Type 0 where
+  pub stays : d.settled ≡ false
+  pub gives : d.state ≢ None
+  pub some : filter (in_range d.first d.last) items ≢ []
 
 -- those of a link, and the others
 abbrev pub linked : ℕ → List SentItem → List SentItem

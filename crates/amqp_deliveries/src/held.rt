@@ -1,5 +1,5 @@
 //! The unsettled deliveries of one role.
-ghost use Rattle.std.specs.Prelude.{List, ◌<◌, ◌≡◌, ◌++◌, ◌∷◌, [], false, IsTrue, ◌↔◌, length, option_map, slice_get, OnOk, OnErr};
+ghost use Rattle.std.specs.Prelude.{List, ◌<◌, ◌≡◌, ◌++◌, ◌∷◌, [], false, IsTrue, ◌↔◌, length, option_map, slice_get, IfErr, OnOk, OnErr};
 ghost use Rattle.std.specs.List.{list_any};
 ghost use Rattle.std.specs.VecDeque.{deque_len, deque_capacity};
 ghost use Rattle.amqp_events.specs.Told.{SentItem};
@@ -21,6 +21,7 @@ use std::marker::Model;
 mod edits;
 mod lists;
 mod loops;
+mod readers;
 
 /// Room for a delivery more, and its tag in use.
 #[inline(never)]
@@ -46,12 +47,12 @@ fn make_room(
 /// | call | steps |
 /// |---|---|
 /// | `len`, `at`, `follows` | one |
-/// | `has_tag`, `add` | one on average; n where the tags were chosen to collide as they are hashed |
-/// | `span` | O(log h), and never more than O(log n) |
+/// | `holds_tag`, `add` | one on average; n where the tags were chosen to collide as they are hashed |
+/// | `span`, `find` | O(log h), and never more than O(log n) |
 /// | `any_second`, `any_fixed`, `named_at` | k |
-/// | `say`, `hear`, `go_on` | those of `span`, and k; where deliveries end, the shorter side of the span moves: none for a span at either end |
-/// | `tellings` | those of `span`, and k |
-/// | `named_all`, `named_of`, `end_link`, `end_all` | n |
+/// | `end_range`, `set_local`, `set_remote`, `say`, `hear`, `go_on` | those of `span`, and k; where deliveries end, the shorter side of the span moves: none for a span at either end |
+/// | `ids_in`, `tellings` | those of `span`, and k |
+/// | `ids`, `ids_of`, `tags_of`, `named_all`, `named_of`, `end_link`, `end_all` | n |
 #[derive(Drop)]
 pub struct Held {
     alloc: Global,
@@ -115,7 +116,7 @@ impl Held {
     }
 
     /// Whether a delivery of this link with this tag is held.
-    pub fn has_tag(&self, link: u32, tag: &Tag) -> bool
+    pub fn holds_tag(&self, link: u32, tag: &Tag) -> bool
         ensures { result ≡ list_any (has_tag link tag.now) self.now }
     {
         self.tags.has(link, tag)
@@ -132,7 +133,7 @@ impl Held {
     }
 
     /// A delivery begins.
-    pub fn add(&mut self, item: HeldItem) -> Result<(), AllocError>
+    pub(crate) fn begin(&mut self, item: HeldItem) -> Result<(), AllocError>
         requires follows { IsPast item.id (items_of self.old) }
         requires fresh { list_any (has_tag item.link item.tag) self.old ≡ false }
         ensures ok { OnOk result (self.new ≡ self.old ++ untold item ∷ []) }
@@ -149,6 +150,25 @@ impl Held {
                 drop(entry);
                 Err(e)
             }
+        }
+    }
+
+    /// A delivery begins. For want of memory it is handed back.
+    pub fn add(&mut self, item: HeldItem) -> Result<(), HeldItem>
+        requires follows { IsPast item.id (items_of self.old) }
+        requires fresh { list_any (has_tag item.link item.tag) self.old ≡ false }
+        ensures ok { OnOk result (self.new ≡ self.old ++ untold item ∷ []) }
+        ensures err { OnErr result (self.new ≡ self.old) }
+        ensures back { IfErr result (λ back. back ≡ item) }
+    {
+        let _id = item.id();
+        let entry = Entry::new(item);
+        match make_room(&mut self.items, &mut self.tags, &entry) {
+            Ok(()) => {
+                self.items.push_back_reserved(entry);
+                Ok(())
+            }
+            Err(_) => Err(entry.item),
         }
     }
 

@@ -8,7 +8,7 @@ ghost use Rattle.amqp_events.specs.Laws.{IsPast};
 ghost use Rattle.amqp_events.specs.Tags.{is_tagged};
 ghost use Rattle.amqp_events.specs.Told as told;
 ghost use Rattle.amqp_deliveries.specs.Change.{TablesView, held_items, is_tagged_as, tables_after, ended_in};
-ghost use Rattle.amqp_deliveries.specs.Held.{items_of};
+ghost use Rattle.amqp_deliveries.specs.Held.{items_of, GivesState};
 ghost use Rattle.amqp_deliveries.specs.declared.change.Change.TheVariants as change;
 
 use crate::change::Change;
@@ -38,7 +38,7 @@ impl Model for Tables {
 
     ghost coded = { Prim.hlevel (codes, value.the_row.coded) };
 
-    ghost use Rattle.amqp_deliveries.specs.Held.{items_of};
+    ghost use Rattle.amqp_deliveries.specs.Held.{items_of, GivesState};
 
     ghost view = { λ t. record { sent = t.sent; received = items_of t.received } };
 }
@@ -70,8 +70,8 @@ impl Tables {
         ensures { result ≡ list_any (is_tagged link tag.now) (held_items role self.now) }
     {
         match role {
-            Role::Sender => self.sent.has_tag(link, tag),
-            Role::Receiver => self.received.has_tag(link, tag),
+            Role::Sender => self.sent.holds_tag(link, tag),
+            Role::Receiver => self.received.holds_tag(link, tag),
         }
     }
 
@@ -155,8 +155,8 @@ impl Tables {
         ensures err { OnErr result (self.new ≡ self.old) }
     {
         match role {
-            Role::Sender => self.sent.add(item),
-            Role::Receiver => self.received.add(item),
+            Role::Sender => self.sent.begin(item),
+            Role::Receiver => self.received.begin(item),
         }
     }
 
@@ -180,10 +180,11 @@ impl Tables {
         }
     }
 
-    /// We say this of deliveries. It takes no memory where it settles.
+    /// We say this of deliveries. Memory is asked for where it gives a state to some that stay, and nowhere else.
     pub fn say(&mut self, role: Role, said: &Disposition) -> Result<(), AllocError>
         ensures ok { OnOk result (self.new ≡ tables_after (change.Says role said.now) self.old) }
         ensures err { OnErr result (self.new ≡ self.old) }
+        ensures needs { OnErr result (GivesState said.now (held_items role self.old)) }
     {
         match role {
             Role::Sender => self.sent.say(said),
@@ -191,10 +192,11 @@ impl Tables {
         }
     }
 
-    /// The peer says this of deliveries. It takes no memory where it settles.
+    /// The peer says this of deliveries. Memory is asked for where it gives a state to some that stay, and nowhere else.
     pub fn hear(&mut self, role: Role, said: &Disposition) -> Result<(), AllocError>
         ensures ok { OnOk result (self.new ≡ tables_after (change.Hears role said.now) self.old) }
         ensures err { OnErr result (self.new ≡ self.old) }
+        ensures needs { OnErr result (GivesState said.now (held_items role self.old)) }
     {
         match role {
             Role::Sender => self.sent.hear(said),

@@ -9,7 +9,7 @@ use std::test::Fail;
 /// Begins a delivery, where its id and tag may stand.
 fn begin(held: &mut Held, id: u32, link: u32, octets: &[u8]) -> Result<(), &'static str> {
     let tag = Tag::new(octets).ok_or("a tag of at most 32 octets")?;
-    if !held.follows(id) || held.has_tag(link, &tag) {
+    if !held.follows(id) || held.holds_tag(link, &tag) {
         return Err("the id follows, and the tag is new");
     }
     let item = HeldItem {
@@ -134,5 +134,100 @@ fn no_payload_joins(rt: HostRuntime) -> Result<(), Fail> {
     let parts = Partial::start(rt.alloc()).finish();
     assert_eq!(rt; parts.len(), 0);
     assert!(rt; parts.join()?.is_empty());
+    Ok(())
+}
+
+/// Whether the tag at this place has these octets.
+fn is_tag(tags: &[Tag], place: usize, octets: &[u8]) -> bool {
+    match tags.get(place) {
+        Some(tag) => tag.octets() == octets,
+        None => false,
+    }
+}
+
+/// Whether we said of the delivery at this place that it is accepted.
+fn is_accepted(held: &Held, place: usize) -> bool {
+    match held.at(place) {
+        Some(item) => match &item.local {
+            Some(DeliveryState::Accepted) => true,
+            _ => false,
+        },
+        None => false,
+    }
+}
+
+#[test]
+fn ids_are_in_serial_order(rt: HostRuntime) -> Result<(), Fail> {
+    let held = three(rt.alloc())?;
+    assert_eq!(rt;
+        held.ids_in(4294967295, 0)?.as_slice(),
+        [4294967295, 0].as_slice()
+    );
+    assert_eq!(rt; held.ids_of(1)?.as_slice(), [1].as_slice());
+    assert_eq!(rt; held.ids()?.as_slice(), [4294967295, 0, 1].as_slice());
+    Ok(())
+}
+
+#[test]
+fn tags_are_those_of_a_link(rt: HostRuntime) -> Result<(), Fail> {
+    let held = three(rt.alloc())?;
+    let tags = held.tags_of(0)?;
+    assert_eq!(rt; tags.len(), 2);
+    assert!(rt; is_tag(tags.as_slice(), 0, b"\x01"));
+    assert!(rt; is_tag(tags.as_slice(), 1, b"\x02"));
+    Ok(())
+}
+
+#[test]
+fn a_range_that_ends_twice_ends_once(rt: HostRuntime) -> Result<(), Fail> {
+    let mut held = three(rt.alloc())?;
+    held.end_range(4294967295, 0);
+    assert_eq!(rt; held.ids()?.as_slice(), [1].as_slice());
+    held.end_range(4294967295, 0);
+    assert_eq!(rt; held.ids()?.as_slice(), [1].as_slice());
+    held.end_link(1);
+    assert!(rt; held.ids()?.is_empty());
+    Ok(())
+}
+
+#[test]
+fn all_end(rt: HostRuntime) -> Result<(), Fail> {
+    let mut held = three(rt.alloc())?;
+    held.end_all();
+    assert!(rt; held.ids()?.is_empty());
+    assert!(rt; held.find(0).is_none());
+    Ok(())
+}
+
+#[test]
+fn a_state_is_set_in_its_range(rt: HostRuntime) -> Result<(), Fail> {
+    let mut held = three(rt.alloc())?;
+    held.set_local(0, 1, &DeliveryState::Accepted)?;
+    assert!(rt; !is_accepted(&held, 0));
+    assert!(rt; is_accepted(&held, 1));
+    assert!(rt; is_accepted(&held, 2));
+    Ok(())
+}
+
+#[test]
+fn payloads_are_dropped(rt: HostRuntime) -> Result<(), Fail> {
+    let mut partial = Partial::start(rt.alloc());
+    partial.append(payload(b"\x78"))?;
+    partial.append(payload(b"\x79"))?;
+    partial.drop_all();
+    assert!(rt; partial.finish().join()?.is_empty());
+    Ok(())
+}
+
+#[test]
+fn a_retracted_payload_is_not_joined(rt: HostRuntime) -> Result<(), Fail> {
+    let mut partial = Partial::start(rt.alloc());
+    partial.append(payload(b"\x78"))?;
+    partial.append(payload(b"\x79"))?;
+    assert_eq!(rt; partial.finish().join()?.as_slice(), b"\x78\x79".as_slice());
+    partial.append(payload(b"\x78"))?;
+    partial.append(payload(b"\x79"))?;
+    partial.retract();
+    assert_eq!(rt; partial.finish().join()?.as_slice(), b"\x78".as_slice());
     Ok(())
 }

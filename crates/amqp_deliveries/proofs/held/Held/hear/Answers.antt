@@ -1,19 +1,19 @@
 use Rattle.std.proofs.Common.{◌≡◌, ◌∙◌, ap, sym, subst}
-use Rattle.std.proofs.lemmas.Result.{on_ok_weaker}
+use Rattle.std.proofs.lemmas.Result.{on_ok_weaker, on_err_weaker}
 use Rattle.amqp_events.specs.Event.{Disposition, Hears}
-use Rattle.amqp_performatives.specs.Outcome.{is_outcome}
 use Rattle.amqp_events.specs.Told.{next_sent_held}
 use Rattle.amqp_deliveries.specs.declared.item.Side.TheVariants.{Remote}
 use Rattle.amqp_deliveries.specs.Edits.{stated}
-use Rattle.amqp_deliveries.specs.Span.{change_part}
+use Rattle.amqp_deliveries.specs.Held.{items_of, change_covered, GivesState}
+use Rattle.amqp_deliveries.proofs.Items.{gives_state}
 use Rattle.amqp_deliveries.proofs.Spoken.{hear_settles, hear_states, hear_nothing}
 use Rattle.amqp_deliveries.proofs.held.Held.hear.Goals as goal
 
 pub returns-then-said-clause-ok : goal.returns-then-said-clause-ok
 returns-then-said-clause-ok c =
     let d : Disposition = record { first = c.said.inside.first; last = c.said.inside.last; settled = c.said.inside.settled; state = c.said.inside.state } in
-    let P : Disposition → Type 0 = λ x. c.end_span.new.self ≡ next_sent_held (Hears x) c.args.self.now in
-    subst P c.said.view_is (c.end_span.ensures ∙ c.span-span.ensures.span.outside ∙ sym (hear_settles d c.args.self.now c.if-said.true))
+    let P : Disposition → Type 0 = λ x. c.end_range.new.self ≡ next_sent_held (Hears x) c.args.self.now in
+    subst P c.said.view_is (c.end_range.ensures ∙ sym (hear_settles d c.args.self.now c.if-said.true))
 
 pub returns-in-None-clause-ok : goal.returns-in-None-clause-ok
 returns-in-None-clause-ok c =
@@ -24,7 +24,15 @@ returns-in-None-clause-ok c =
 pub returns-in-Some-clause-ok : goal.returns-in-Some-clause-ok
 returns-in-Some-clause-ok c =
     let d : Disposition = record { first = c.said.inside.first; last = c.said.inside.last; settled = c.said.inside.settled; state = c.said.inside.state } in
-    let P : Disposition → Type 0 = λ x. c.set_at.new.self ≡ next_sent_held (Hears x) c.args.self.now in
-    on_ok_weaker c.set_at.result
-    (λ set. subst P c.said.view_is (set ∙ ap (λ b. change_part c.span-span.result (stated Remote b c.in-Some.state) c.args.self.now) c.is_outcome.ensures ∙ c.span-span.ensures.span.changed (stated Remote (is_outcome c.in-Some.state) c.in-Some.state) ∙ sym (hear_states d c.in-Some.state c.args.self.now c.if-said.false c.in-Some.is)))
-    c.set_at.ensures.ok
+    let P : Disposition → Type 0 = λ x. c.set_covered.new.self ≡ next_sent_held (Hears x) c.args.self.now in
+    on_ok_weaker c.set_covered.result
+    (λ set. subst P c.said.view_is (set ∙ ap (λ b. change_covered c.said.inside.first c.said.inside.last (stated Remote b c.in-Some.state) c.args.self.now) c.is_outcome-tells.ensures ∙ sym (hear_states d c.in-Some.state c.args.self.now c.if-said.false c.in-Some.is)))
+    c.set_covered.ensures.ok
+
+pub returns-in-Some-clause-needs : goal.returns-in-Some-clause-needs
+returns-in-Some-clause-needs c =
+    let d : Disposition = record { first = c.said.inside.first; last = c.said.inside.last; settled = c.said.inside.settled; state = c.said.inside.state } in
+    let P : Disposition → Type 0 = λ x. GivesState x (items_of c.args.self.now) in
+    on_err_weaker c.set_covered.result
+    (λ some. subst P c.said.view_is (gives_state d c.in-Some.state c.args.self.now c.if-said.false c.in-Some.is some))
+    c.set_covered.ensures.some

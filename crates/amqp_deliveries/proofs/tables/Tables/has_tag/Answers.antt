@@ -9,10 +9,10 @@ use Rattle.amqp_deliveries.proofs.tables.Tables.has_tag.Goals as goal
 
 pub returns-in-Sender : goal.returns-in-Sender
 returns-in-Sender c =
-    let P : Role → TablesView → Type 0 = λ r t. c.has_tag.result ≡ list_any (is_tagged c.args.link c.args.tag.now) (held_items r t) in
-    subst (λ r. P r c.args.self.now) (sym c.in-Sender.is) (subst (P Sender) c.self.view_is (c.has_tag.ensures ∙ sym (any_item (is_tagged c.args.link c.args.tag.now) c.self.inside.sent)))
+    let P : Role → TablesView → Type 0 = λ r t. c.holds_tag.result ≡ list_any (is_tagged c.args.link c.args.tag.now) (held_items r t) in
+    subst (λ r. P r c.args.self.now) (sym c.in-Sender.is) (subst (P Sender) c.self.view_is (c.holds_tag.ensures ∙ sym (any_item (is_tagged c.args.link c.args.tag.now) c.self.inside.sent)))
 
 pub returns-in-Receiver : goal.returns-in-Receiver
 returns-in-Receiver c =
-    let P : Role → TablesView → Type 0 = λ r t. c.has_tag-in-Receiver.result ≡ list_any (is_tagged c.args.link c.args.tag.now) (held_items r t) in
-    subst (λ r. P r c.args.self.now) (sym c.in-Receiver.is) (subst (P Receiver) c.self.view_is (c.has_tag-in-Receiver.ensures ∙ sym (any_item (is_tagged c.args.link c.args.tag.now) c.self.inside.received)))
+    let P : Role → TablesView → Type 0 = λ r t. c.holds_tag-in-Receiver.result ≡ list_any (is_tagged c.args.link c.args.tag.now) (held_items r t) in
+    subst (λ r. P r c.args.self.now) (sym c.in-Receiver.is) (subst (P Receiver) c.self.view_is (c.holds_tag-in-Receiver.ensures ∙ sym (any_item (is_tagged c.args.link c.args.tag.now) c.self.inside.received)))

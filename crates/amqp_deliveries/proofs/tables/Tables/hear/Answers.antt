@@ -1,9 +1,10 @@
 use Rattle.std.proofs.Common.{◌≡◌, sym, subst}
-use Rattle.std.proofs.lemmas.Result.{on_ok_weaker}
+use Rattle.std.proofs.lemmas.Result.{on_ok_weaker, on_err_weaker}
 use Rattle.amqp_performatives.specs.declared.bodies.Role.{Role}
 use Rattle.amqp_performatives.specs.declared.bodies.Role.TheVariants.{Sender, Receiver}
 use Rattle.amqp_events.specs.Event as event
-use Rattle.amqp_deliveries.specs.Change.{TablesView, tables_after}
+use Rattle.amqp_deliveries.specs.Change.{TablesView, held_items, tables_after}
+use Rattle.amqp_deliveries.specs.Held.{GivesState}
 use Rattle.amqp_deliveries.specs.declared.change.Change.TheVariants as change
 use Rattle.amqp_deliveries.proofs.Both.{both, sent_changed, received_changed}
 use Rattle.amqp_deliveries.proofs.tables.Tables.hear.Goals as goal
@@ -21,3 +22,13 @@ returns-in-Receiver-clause-ok c =
     on_ok_weaker c.hear-in-Receiver.result
     (λ h. subst (λ r. P r c.args.self.now) (sym c.in-Receiver.is) (subst (P Receiver) c.self.view_is (received_changed (event.Hears c.args.said.now) c.self.inside.sent c.self.inside.received c.hear-in-Receiver.new.self h)))
     c.hear-in-Receiver.ensures.ok
+
+pub returns-in-Sender-clause-needs : goal.returns-in-Sender-clause-needs
+returns-in-Sender-clause-needs c =
+    let P : Role → TablesView → Type 0 = λ r t. GivesState c.args.said.now (held_items r t) in
+    on_err_weaker c.hear.result (λ h. subst (λ r. P r c.args.self.now) (sym c.in-Sender.is) (subst (P Sender) c.self.view_is h)) c.hear.ensures.needs
+
+pub returns-in-Receiver-clause-needs : goal.returns-in-Receiver-clause-needs
+returns-in-Receiver-clause-needs c =
+    let P : Role → TablesView → Type 0 = λ r t. GivesState c.args.said.now (held_items r t) in
+    on_err_weaker c.hear-in-Receiver.result (λ h. subst (λ r. P r c.args.self.now) (sym c.in-Receiver.is) (subst (P Receiver) c.self.view_is h)) c.hear-in-Receiver.ensures.needs
