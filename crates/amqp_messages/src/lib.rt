@@ -1,4 +1,4 @@
-//! Messages of AMQP 1.0: their sections, read and written (OASIS AMQP 1.0, part 3, section 3.2).
+//! Messages of AMQP 1.0: their sections, read (OASIS AMQP 1.0, part 3, section 3.2).
 //!
 //! A message is the octets that a delivery's transfers carry, one after the other: sections, each a described value, in one order.
 //!
