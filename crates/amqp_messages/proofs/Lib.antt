@@ -1,0 +1,3 @@
+pub mod Described
+pub mod Bodies
+pub mod OneKind
