@@ -10,10 +10,9 @@ use Rattle.amqp_conn.specs.declared.fed.Fed.{Fed}
 use Rattle.amqp_conn.specs.Connection.{Core, Connection, connection, more, HasRead, unread_in, in_phase}
 use Rattle.amqp_conn.specs.Octets.{header, last_words}
 use Rattle.amqp_conn.specs.Treating.{greeted, ending, sending_last}
-use Rattle.amqp_conn.specs.Feeding.{IsFed, IsPassed, Feeds, Takes}
+use Rattle.amqp_conn.specs.Feeding.{IsFed, IsPassed, Feeds, Takes, NeedsMemory}
 use Rattle.amqp_conn.specs.Treats.{ReadsHeader}
 use Rattle.amqp_conn.proofs.Calls.{takes-header, waits-header}
-use Rattle.amqp_conn.proofs.Deciding.{same-front}
 use Rattle.amqp_conn.proofs.Passing.{passes-header, passes-few}
 use Rattle.amqp_conn.proofs.Whole.{left}
 
@@ -86,7 +85,7 @@ stood-header k l head head' kept piece n p s e w is back same =
     let unread = head-unread k head kept p in
     let split : (left k head kept).unread ++ piece ≡ (head ++ take n piece) ++ drop n piece = ap (λ x. x ++ piece) unread ∙ whole head piece n in (
       λ q. open' (sym p ∙ q),
-      λ (q, front, rest, long, other, cuts). other ((same-front front (head ++ take n piece) rest (drop n piece) (long ∙ sym (eight head piece n s e w)) (sym cuts ∙ split)).0 ∙ is),
+      subst (λ (r : Phase). NeedsMemory r (left k head kept) piece) (sym p) (drop n piece, split ∙ ap (λ x. x ++ drop n piece) is),
       λ i. left (same i) (back i) kept,
     )
   where

@@ -6,7 +6,7 @@ use Rattle.amqp_frames.specs.declared.fault.FrameFault.{FrameFault}
 use Rattle.amqp_frames.specs.declared.fault.FrameFault.TheVariants.{ShortSize, BadDoff, TooBig, BadKind, BadBody, NoMemory}
 use Rattle.amqp_frames.specs.declared.frame.Frame.{Frame}
 use Rattle.amqp_frames.specs.Framing.{IsFrame, IsUnfinished, Shows}
-use Rattle.amqp_frames.specs.Framer.{FramerState, keeping, Feeds as FramerFeeds}
+use Rattle.amqp_frames.specs.Framer.{FramerState, keeping, Faulty, Feeds as FramerFeeds}
 use Rattle.amqp_frames.proofs.Progress.{progress}
 use Rattle.amqp_rules.specs.declared.violation.Violation.{Violation}
 use Rattle.amqp_rules.specs.declared.reply.Given.TheVariants.{Nothing}
@@ -21,7 +21,7 @@ use Rattle.amqp_conn.specs.Feeding.{IsFed, IsPassed, Feeds, Takes, MovesBy, Move
 use Rattle.amqp_conn.specs.Treats.{Treats, TreatsBy, PutsBack, PutsBackBy, EndsAll, EndsFor, Acts}
 use Rattle.amqp_conn.proofs.Calls.{quiet-none, waits, read-quiet}
 use Rattle.amqp_conn.proofs.Passing.{passes-part}
-use Rattle.amqp_conn.proofs.Whole.{Given, Leaves, LeavesBy, feeds-whole, left, is_first, Later, goes-taken, goes-again, ending-later, reads-later, later-none, reads-kept, emptied, no-head, no-closed}
+use Rattle.amqp_conn.proofs.Whole.{Given, Leaves, LeavesBy, feeds-whole, left, is_first, Later, goes-taken, goes-again, ending-later, reads-later, later-none, reads-kept, emptied, frame-needs, close-needs, no-closed}
 
 leaves-by : (v : Option Violation) (f h : FramerState) → PutsBackBy v (keeping f []) h → LeavesBy v f.kept h.kept × (h.max_size ≡ f.max_size)
 leaves-by None f h p = (ap (λ g. g.kept) p, ap (λ g. g.max_size) p)
@@ -87,10 +87,14 @@ set-up k l f used (Err fault.BadChannel) head room max max' kept kept' r s t e m
 set-up k l f used (Err fault.JournalFull) head room max max' kept kept' r s t e m = set-none k l head room max max' kept kept' s (later-ended k l fault.JournalFull t.1) e m
 set-up k l f used (Err fault.Closed) head room max max' kept kept' r s t e m = set-none k l head room max max' kept kept' s (later-ended k l fault.Closed t.1) e m
 
+set-stood : (k l : Core) (head : List ℕ) (room : ℕ) (f g : FramerState) → IsTrue (reads_frames k.phase) → IsSetUp k head room f.max_size f.kept → l ≡ k → g ≡ f → IsSetUp l head room g.max_size g.kept
+set-stood k l head room f g r s same stands =
+    set-same k l head room f.max_size g.max_size f.kept g.kept s (later-same k l r same) (ap (λ (x : Core). x.phase) same) (ap (λ x. x.kept) stands) (ap (λ x. x.max_size) stands)
+
 pub set-ended : (k l : Core) (e told : ConnFault) (head : List ℕ) (room : ℕ) (f g : FramerState) → IsTrue (reads_frames k.phase) → IsSetUp k head room f.max_size f.kept → EndsAll e k f told l g → IsSetUp l head room g.max_size g.kept
 set-ended k l e told head room f g r s (inl p) = set-none k l head room f.max_size g.max_size f.kept g.kept s (later-ended k l e p.1) (ap (λ x. x.kept) p.2) (ap (λ x. x.max_size) p.2)
 set-ended k l e told head room f g r s (inr p) =
-    set-same k l head room f.max_size g.max_size f.kept g.kept s (later-same k l r p.1) (ap (λ (x : Core). x.phase) p.1) (ap (λ x. x.kept) p.2) (ap (λ x. x.max_size) p.2)
+    set-stood k l head room f g r s p.2 p.3
 
 -- ---- what is answered
 
@@ -105,13 +109,16 @@ gave k head max piece kept used f r m n p q =
       small = subst (λ (x : List ℕ). length (x ++ take used piece) ≤ k.config.max_frame) (sym unread) (subst (λ (y : ℕ). length (kept ++ take used piece) ≤ y) m q);
     }
 
+shown-here : (k : Core) (e : FrameFault) (head piece : List ℕ) (f : FramerState) → IsTrue (reads_frames k.phase) → f.max_size ≡ k.config.max_frame → Shows e f.max_size (f.kept ++ piece)
+    → Shows e k.config.max_frame ((left k head f.kept).unread ++ piece)
+shown-here k e head piece f r m s =
+    subst (λ (x : List ℕ). Shows e k.config.max_frame (x ++ piece)) (sym (reads-kept k.phase head f.kept r)) (subst (λ (n : ℕ). Shows e n (f.kept ++ piece)) m s)
+
 pub shows-end : (k l : Core) (e : FrameFault) (told : ConnFault) (head piece : List ℕ) (f g : FramerState) → IsTrue (reads_frames k.phase) → f.max_size ≡ k.config.max_frame
     → Shows e f.max_size (f.kept ++ piece) → EndsAll (fault.Framing e) k f told l g → Feeds (left k head f.kept) piece (Err told) (left l head g.kept)
 shows-end k l e told head piece f g r m s (inl p) =
     let c = left k head f.kept in
-    let unread = reads-kept k.phase head f.kept r in
-    let shown : Shows e k.config.max_frame (c.unread ++ piece) =
-    subst (λ (x : List ℕ). Shows e k.config.max_frame (x ++ piece)) (sym unread) (subst (λ (n : ℕ). Shows e n (f.kept ++ piece)) m s) in
+    let shown = shown-here k e head piece f r m s in
     let is : left l head g.kept ≡ connection (ending (fault.Framing e) k) [] =
     ap (λ x. left x head g.kept) p.1 ∙ emptied (ending (fault.Framing e) k) head g.kept (ending-later (fault.Framing e) k).later (ap (λ x. x.kept) p.2) in
     let P : ConnFault → Type 0 = λ t. Feeds c piece (Err t) (left l head g.kept) in
@@ -119,8 +126,8 @@ shows-end k l e told head piece f g r m s (inl p) =
 shows-end k l e told head piece f g r m s (inr p) =
     let c = left k head f.kept in
     let P : ConnFault → Type 0 = λ t. Feeds c piece (Err t) (left l head g.kept) in
-    let same : left l head g.kept ≡ c = λ i. left (p.1 i) head ((p.2 i).kept) in
-    subst P (sym p.0) (no-closed k.phase r, no-head c piece r, same)
+    let same : left l head g.kept ≡ c = λ i. left (p.2 i) head ((p.3 i).kept) in
+    subst P (sym p.0) (no-closed k.phase r, close-needs k.phase e c piece r p.1 (shown-here k e head piece f r m s), same)
 
 pub waits-none : (k : Core) (head piece : List ℕ) (used : ℕ) (f g : FramerState) (fed : Fed) → IsTrue (reads_frames k.phase) → f.max_size ≡ k.config.max_frame → used ≡ length piece
     → IsUnfinished f.max_size (f.kept ++ piece) → g ≡ keeping f (f.kept ++ piece) → fed ≡ record { used = used; stepped = false; given = Nothing; violation = None }
@@ -142,12 +149,15 @@ waits-none k head piece used f g fed r m n u is e =
       subst (λ (x : List ℕ). IsPassed (more x c)) (sym all) (passes-part c piece r waiting),
     )
 
-stood : (k l : Core) (told : ConnFault) (head piece : List ℕ) (f g : FramerState) → IsTrue (reads_frames k.phase) → (told ≡ fault.NoMemory) × (l ≡ k) × (g ≡ f) → Feeds (left k head f.kept) piece (Err told) (left l head g.kept)
-stood k l told head piece f g r p =
+stood : (k l : Core) (told : ConnFault) (head piece : List ℕ) (f g : FramerState) → IsTrue (reads_frames k.phase) → f.max_size ≡ k.config.max_frame → Faulty NoMemory f.max_size f.kept piece
+    → (told ≡ fault.NoMemory) × (l ≡ k) × (g ≡ f) → Feeds (left k head f.kept) piece (Err told) (left l head g.kept)
+stood k l told head piece f g r m w p =
+    let wants : Faulty NoMemory k.config.max_frame (unread_in k.phase head f.kept) piece =
+    subst (λ (x : List ℕ). Faulty NoMemory k.config.max_frame x piece) (sym (reads-kept k.phase head f.kept r)) (subst (λ (n : ℕ). Faulty NoMemory n f.kept piece) m w) in
     let c = left k head f.kept in
     let P : ConnFault → Type 0 = λ t. Feeds c piece (Err t) (left l head g.kept) in
     let same : left l head g.kept ≡ c = λ i. left (p.1 i) head ((p.2 i).kept) in
-    subst P (sym p.0) (no-closed k.phase r, no-head c piece r, same)
+    subst P (sym p.0) (no-closed k.phase r, frame-needs k.phase c piece r wants, same)
 
 faulty-end : (k l : Core) (e : FrameFault) (told : ConnFault) (head piece : List ℕ) (f before g : FramerState) → IsTrue (reads_frames k.phase) → f.max_size ≡ k.config.max_frame
     → FramerFeeds f piece (Err e) before → EndsFor e k f told l g → Feeds (left k head f.kept) piece (Err told) (left l head g.kept)
@@ -156,7 +166,7 @@ faulty-end k l BadDoff told head piece f before g r m s p = shows-end k l BadDof
 faulty-end k l TooBig told head piece f before g r m s p = shows-end k l TooBig told head piece f g r m s.0 p
 faulty-end k l BadKind told head piece f before g r m s p = shows-end k l BadKind told head piece f g r m s.0 p
 faulty-end k l BadBody told head piece f before g r m s p = shows-end k l BadBody told head piece f g r m s.0 p
-faulty-end k l NoMemory told head piece f before g r m s p = stood k l told head piece f g r p
+faulty-end k l NoMemory told head piece f before g r m s p = stood k l told head piece f g r m s.0 p
 
 pub set-faulty : (k l : Core) (e : FrameFault) (told : ConnFault) (head : List ℕ) (room : ℕ) (f g : FramerState) → IsTrue (reads_frames k.phase) → IsSetUp k head room f.max_size f.kept → EndsFor e k f told l g → IsSetUp l head room g.max_size g.kept
 set-faulty k l ShortSize told head room f g r s p = set-ended k l (fault.Framing ShortSize) told head room f g r s p
@@ -164,7 +174,7 @@ set-faulty k l BadDoff told head room f g r s p = set-ended k l (fault.Framing B
 set-faulty k l TooBig told head room f g r s p = set-ended k l (fault.Framing TooBig) told head room f g r s p
 set-faulty k l BadKind told head room f g r s p = set-ended k l (fault.Framing BadKind) told head room f g r s p
 set-faulty k l BadBody told head room f g r s p = set-ended k l (fault.Framing BadBody) told head room f g r s p
-set-faulty k l NoMemory told head room f g r s p = set-ended k l fault.NoMemory told head room f g r s (inr p)
+set-faulty k l NoMemory told head room f g r s p = set-stood k l head room f g r s p.1 p.2
 
 -- ---- what the framer answered
 

@@ -1,5 +1,5 @@
 -- Octets that show no fault, and of which a feed takes one thing at most.
-use Rattle.std.proofs.Common.{◌≡◌, ◌≢◌, ◌≤◌, ◌<◌, ◌+◌, ℕ, List, [], ◌++◌, length, IsTrue, Bool, true, false, refl, sym, ap, ◌∙◌, subst, arith, append-nil, length-append}
+use Rattle.std.proofs.Common.{◌≡◌, ◌≤◌, ◌<◌, ◌+◌, ℕ, List, [], ◌++◌, length, IsTrue, true, false, sym, ap, ◌∙◌, subst, arith, append-nil, length-append}
 use Rattle.amqp_frames.specs.declared.frame.Frame.{Frame}
 use Rattle.amqp_frames.specs.Framing.{IsFrame, IsUnfinished, Shows}
 use Rattle.amqp_frames.proofs.OneFrame.{one_frame}

@@ -1,10 +1,12 @@
 -- A whole frame in a feed.
-use Rattle.std.proofs.Common.{◌≡◌, ◌≤◌, ◌==◌, ℕ, List, [], ◌++◌, length, take, drop, IsTrue, Bool, true, false, cond, Option, Some, None, Result, Ok, Err, refl, sym, ap, ◌∙◌, subst, append_assoc}
+use Rattle.std.proofs.Common.{◌≡◌, ◌≤◌, ◌==◌, ℕ, List, [], ◌++◌, length, take, drop, IsTrue, Bool, true, false, cond, Option, Some, None, Result, Ok, Err, refl, sym, ap, ◌∙◌, subst, inl, inr, append_assoc}
+use Rattle.std.specs.Prelude.{IsSome}
 use Rattle.std.proofs.lemmas.List.{take-append-drop}
 use Rattle.amqp_performatives.specs.declared.performative.Performative.{Performative}
 use Rattle.amqp_performatives.specs.declared.performative.Performative.TheVariants.{Open, Begin, Attach, Flow, Transfer, Disposition, Detach, End, Close}
 use Rattle.amqp_frames.specs.declared.frame.Frame.{Frame}
-use Rattle.amqp_frames.specs.Framing.{IsFrame}
+use Rattle.amqp_frames.specs.declared.fault.FrameFault.{FrameFault}
+use Rattle.amqp_frames.specs.Framing.{IsFrame, Shows}
 use Rattle.amqp_rules.specs.declared.op.Op.{Op}
 use Rattle.amqp_rules.specs.declared.reply.Reply.{Reply}
 use Rattle.amqp_rules.specs.declared.refusal.Refusal.{Refusal}
@@ -21,7 +23,7 @@ use Rattle.amqp_conn.specs.declared.fed.Fed.{Fed}
 use Rattle.amqp_conn.specs.Connection.{Core, Connection, connection, more, reads_frames, unread_in}
 use Rattle.amqp_conn.specs.Treating.{Treatment, taken, again, ended, treat, treat_in, await_open, await_close, run, hearing, answering, answering_by, fault_of, ending, sending_last, HasFrame}
 use Rattle.amqp_conn.specs.Octets.{last_words}
-use Rattle.amqp_conn.specs.Feeding.{IsFed, IsPassed, Feeds, Takes, IsPlace}
+use Rattle.amqp_conn.specs.Feeding.{IsFed, IsPassed, Feeds, Takes, WantsFrame, NeedsMemory}
 use Rattle.amqp_conn.specs.Treats.{Treats, TreatsBy}
 use Rattle.amqp_conn.proofs.Calls.{takes-frame}
 use Rattle.amqp_conn.proofs.Passing.{passes-frame}
@@ -196,8 +198,22 @@ Leaves (Err fault.BadChannel) before kept = kept ≡ []
 Leaves (Err fault.JournalFull) before kept = kept ≡ []
 Leaves (Err fault.Closed) before kept = kept ≡ []
 
-pub no-head : (c : Connection) (x : List ℕ) → IsTrue (reads_frames c.core.phase) → IsPlace fault.BadHeader (more x c) → ⊥
-no-head c x r p = let b : false ≡ true = sym (ap reads_frames p.0) ∙ r in absurd cc
+-- memory is wanted for a frame that is kept, read or treated
+pub frame-needs : (p : Phase) (c : Connection) (piece : List ℕ) → IsTrue (reads_frames p) → WantsFrame c piece → NeedsMemory p c piece
+frame-needs phase.AwaitHeader c piece r w = absurd cc
+frame-needs phase.AwaitOpen c piece r w = inl w
+frame-needs phase.Running c piece r w = inl w
+frame-needs phase.Closing c piece r w = w
+frame-needs phase.Closed c piece r w = absurd cc
+
+-- and for the close that tells a fault, where one goes out
+pub close-needs : (p : Phase) (e : FrameFault) (c : Connection) (piece : List ℕ) → IsTrue (reads_frames p) → IsSome (last_words p (fault.Framing e)) → Shows e c.core.config.max_frame (c.unread ++ piece)
+    → NeedsMemory p c piece
+close-needs phase.AwaitHeader e c piece r w shown = absurd cc
+close-needs phase.AwaitOpen e c piece r w shown = inr (e, shown)
+close-needs phase.Running e c piece r w shown = inr (e, shown)
+close-needs phase.Closing e c piece r w shown = absurd cc
+close-needs phase.Closed e c piece r w shown = absurd cc
 
 pub no-closed : (p : Phase) → IsTrue (reads_frames p) → p ≡ phase.Closed → ⊥
 no-closed p r e = let b : false ≡ true = sym (ap reads_frames e) ∙ r in absurd cc
@@ -252,8 +268,11 @@ pub feeds-whole : (c : Connection) (piece : List ℕ) (used : ℕ) (f : Frame) (
     → before ≡ c.unread → Treats c.core f used result l → Leaves result before kept → Feeds c piece result (left l head kept)
 feeds-whole c piece used f (Ok fed) l head kept before g same t k = fed-by c piece used f fed fed.violation l head kept before g same t k
 feeds-whole c piece used f (Err fault.NoMemory) l head kept before g same t k =
-    let unread : unread_in l.phase head kept ≡ c.unread = reads-kept l.phase head kept (subst (λ (m : Core). IsTrue (reads_frames m.phase)) (sym t) g.reads) ∙ k ∙ same in
-    (no-closed c.core.phase g.reads, no-head c piece g.reads, λ i. connection (t i) (unread i))
+    let unread : unread_in l.phase head kept ≡ c.unread = reads-kept l.phase head kept (subst (λ (m : Core). IsTrue (reads_frames m.phase)) (sym t) g.reads) ∙ k ∙ same in (
+      no-closed c.core.phase g.reads,
+      frame-needs c.core.phase c piece g.reads (inl (f, c.unread ++ take used piece, drop used piece, g.framed, g.small, (has-frame c piece used f g).split)),
+      λ i. connection (t i) (unread i),
+    )
 feeds-whole c piece used f (Err fault.BadHeader) l head kept before g same t k = absurd (goes-ended c.core fault.BadHeader f g.reads t.0)
 feeds-whole c piece used f (Err (fault.Framing e)) l head kept before g same t k = absurd (goes-ended c.core (fault.Framing e) f g.reads t.0)
 feeds-whole c piece used f (Err fault.Closed) l head kept before g same t k = absurd (goes-ended c.core fault.Closed f g.reads t.0)

@@ -1,8 +1,10 @@
 -- What octets make of a connection, however they are cut.
 use Rattle.std.specs.Prelude.{zero, suc, ℕ, ◌≡◌, ◌≢◌, ◌≤◌, ◌<◌, ◌++◌, ◌⊎◌, IsTrue, Bool, true, false, Option, Some, None, Result, Ok, Err, List, [], ◌∷◌, length, drop, take}
 use Rattle.amqp_frames.specs.declared.fault.FrameFault.{FrameFault}
+use Rattle.amqp_frames.specs.declared.fault.FrameFault.TheVariants as framing
 use Rattle.amqp_frames.specs.declared.frame.Frame.{Frame}
 use Rattle.amqp_frames.specs.Framing.{Shows}
+use Rattle.amqp_frames.specs.Framer.{Faulty}
 use Rattle.amqp_rules.specs.declared.op.Op.{Op}
 use Rattle.amqp_rules.specs.declared.reply.Reply.{Reply}
 use Rattle.amqp_rules.specs.declared.reply.Given.{Given}
@@ -104,11 +106,28 @@ Takes c piece fed None d =
     (fed.used ≤ length piece) × IsFed c (take fed.used piece) d × AddsEntry c.core.log.journal d.core.log.journal fed.stepped fed.given × IsPassed (more (take fed.used piece) c)
 Takes c piece fed (Some v) d = (fed.used ≡ 0) × (fed.stepped ≡ true) × IsAnswered c piece v fed.given d
 
+-- a framer may be refused what it needs to keep the octets of a frame, or to read one
+abbrev pub WantsFrame : Connection → List ℕ → Type 0
+WantsFrame c piece = Faulty framing.NoMemory c.core.config.max_frame c.unread piece
+
+-- the octets show a fault of framing
+abbrev pub IsFaulty : Connection → Type 0
+IsFaulty c = (e : FrameFault) × Shows e c.core.config.max_frame c.unread
+
+-- Where memory is needed: for our open, where the whole header has come; for a frame and what it does; and for the close that tells a fault,
+-- which goes out in these two phases alone.
+abbrev pub NeedsMemory : Phase → Connection → List ℕ → Type 0
+NeedsMemory phase.AwaitHeader c piece = (back : List ℕ) × (c.unread ++ piece ≡ header ++ back)
+NeedsMemory phase.AwaitOpen c piece = WantsFrame c piece ⊎ IsFaulty (more piece c)
+NeedsMemory phase.Running c piece = WantsFrame c piece ⊎ IsFaulty (more piece c)
+NeedsMemory phase.Closing c piece = WantsFrame c piece
+NeedsMemory phase.Closed c piece = ⊥
+
 -- what one feed of a piece answers, and leaves
 abbrev pub Feeds : Connection → List ℕ → Result Fed ConnFault → Connection → Type 0
 Feeds c piece (Ok fed) d = Takes c piece fed fed.violation d
 Feeds c piece (Err fault.Closed) d = (c.core.phase ≡ phase.Closed) × (d ≡ c)
-Feeds c piece (Err fault.NoMemory) d = (c.core.phase ≢ phase.Closed) × (IsPlace fault.BadHeader (more piece c) → ⊥) × (d ≡ c)
+Feeds c piece (Err fault.NoMemory) d = (c.core.phase ≢ phase.Closed) × NeedsMemory c.core.phase c piece × (d ≡ c)
 Feeds c piece (Err e) d = Ends e (more piece c) d
 
 -- an octet was used, or the step was made that answers a violation; unless the call failed

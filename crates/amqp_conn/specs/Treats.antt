@@ -1,5 +1,5 @@
 -- What the code of a frame's kind promises.
-use Rattle.std.specs.Prelude.{ℕ, ◌≡◌, ◌≢◌, ◌⊎◌, take, true, false, Option, Some, None, Result, Ok, Err, List, [], IfSome}
+use Rattle.std.specs.Prelude.{ℕ, ◌≡◌, ◌≢◌, ◌⊎◌, take, true, false, Option, Some, None, Result, Ok, Err, List, [], IfSome, IsSome}
 use Rattle.amqp_frames.specs.declared.fault.FrameFault.{FrameFault}
 use Rattle.amqp_frames.specs.declared.fault.FrameFault.TheVariants.{ShortSize, BadDoff, TooBig, BadKind, BadBody, NoMemory}
 use Rattle.amqp_frames.specs.declared.frame.Frame.{Frame}
@@ -11,7 +11,7 @@ use Rattle.amqp_conn.specs.declared.fault.ConnFault.TheVariants as fault
 use Rattle.amqp_conn.specs.declared.fed.Fed.{Fed}
 use Rattle.amqp_conn.specs.declared.phase.Phase.TheVariants as phase
 use Rattle.amqp_conn.specs.Connection.{Core, in_phase}
-use Rattle.amqp_conn.specs.Octets.{header}
+use Rattle.amqp_conn.specs.Octets.{header, last_words}
 use Rattle.amqp_conn.specs.Treating.{Treatment, taken, again, ended, treat, greeted, ending}
 use Rattle.amqp_conn.specs.Feeding.{AddsEntry, Answers}
 
@@ -28,9 +28,9 @@ TreatsAs t old f used (Err e) new = (t ≡ ended e) × (new ≡ ending e old)
 abbrev pub Treats : Core → Frame → ℕ → Result Fed ConnFault → Core → Type 0
 Treats old f used result new = TreatsAs (treat old f) old f used result new
 
--- the connection ended with this fault; or memory was refused, and it stands
+-- the connection ended with this fault; or memory was refused for its last close, and it stands
 abbrev pub EndsWith : ConnFault → Core → ConnFault → Core → Type 0
-EndsWith e old told new = ((told ≡ e) × (new ≡ ending e old)) ⊎ ((told ≡ fault.NoMemory) × (new ≡ old))
+EndsWith e old told new = ((told ≡ e) × (new ≡ ending e old)) ⊎ ((told ≡ fault.NoMemory) × IsSome (last_words old.phase e) × (new ≡ old))
 
 -- the framer is as before its last feed
 abbrev pub Undone : FramerState → FramerState → Type 0
@@ -46,10 +46,10 @@ PutsBack (Ok fed) old new = PutsBackBy fed.violation old new
 PutsBack (Err fault.NoMemory) old new = Undone old new
 PutsBack (Err e) old new = new ≡ old
 
--- the connection ended with this fault, and nothing is kept; or memory was refused, and all stands
+-- the connection ended with this fault, and nothing is kept; or memory was refused for its last close, and all stands
 abbrev pub EndsAll : ConnFault → Core → FramerState → ConnFault → Core → FramerState → Type 0
 EndsAll e old f told new g =
-    ((told ≡ e) × (new ≡ ending e old) × (g ≡ record { max_size = f.max_size; kept = []; before = None })) ⊎ ((told ≡ fault.NoMemory) × (new ≡ old) × (g ≡ f))
+    ((told ≡ e) × (new ≡ ending e old) × (g ≡ record { max_size = f.max_size; kept = []; before = None })) ⊎ ((told ≡ fault.NoMemory) × IsSome (last_words old.phase e) × (new ≡ old) × (g ≡ f))
 
 -- of a fault that the framer told
 abbrev pub EndsFor : FrameFault → Core → FramerState → ConnFault → Core → FramerState → Type 0

@@ -8,7 +8,10 @@
 //! | `treating` | what a whole frame does: the state that frames and the application drive |
 //! | `header`, `feeding`, `writing` | the peer's header, the framer's answers, and the frames that a connection itself sends |
 //! | `device`, `pumping` | sources and sinks, and [`pump`], which lets a connection run over them |
+//! | `ops` | operations as they are mostly wanted |
 //! | `laws` | what holds however octets are cut |
+//!
+//! What a program writes of the crates below (`Op`, `Given`, `Refusal`, `Text` and so on) is named here too: it needs this crate alone.
 //!
 //! # Phases
 //!
@@ -108,12 +111,22 @@ mod fed;
 mod feeding;
 mod header;
 pub mod laws;
+pub mod ops;
 mod phase;
 mod pumping;
 mod refused;
 mod treating;
 mod writing;
 
+pub use amqp_frames::{AmqpError, DeliveryState, FrameFault, Role};
+pub use amqp_journal::logged::Logged;
+pub use amqp_journal::unit::Unit;
+pub use amqp_rules::op::Op;
+pub use amqp_rules::refusal::Refusal;
+pub use amqp_rules::reply::{Given, Learned, Taken};
+pub use amqp_rules::violation::{Violation, ViolationKind};
+pub use amqp_types::{Boxed, Tag, Text, Value};
+pub use bytes::Bytes;
 pub use config::{Config, MIN_MAX_FRAME};
 pub use conn::Conn;
 pub use device::{Failed, FromStd, Sink, Source};

@@ -1,5 +1,5 @@
 //! A connection but the octets that it has not read: what a whole frame does to it (part 2, 2.4).
-ghost use Rattle.std.specs.Prelude.{◌≡◌, ◌≢◌, ◌⊎◌, [], Some, None, Ok, Err, OnOk, OnErr, IfOk, IfErr, IfSome, MatchResult, slice_get, true, false};
+ghost use Rattle.std.specs.Prelude.{◌≡◌, ◌≢◌, ◌⊎◌, [], Some, None, Ok, Err, OnOk, OnErr, IfOk, IfErr, IfSome, IsSome, MatchResult, slice_get, true, false};
 ghost use Rattle.amqp_rules.specs.Refusing.{no_memory};
 ghost use Rattle.amqp_rules.specs.ViolationAnswer.{violation_answer, error_of};
 ghost use Rattle.amqp_frames.specs.Measuring.{IsMeasureOf};
@@ -387,6 +387,7 @@ impl Machine {
     fn put_last(&mut self, fault: ConnFault) -> Result<(), AllocError>
         ensures ok { OnOk result (self.new ≡ sending_last (last_words self.old.phase fault) self.old) }
         ensures err { OnErr result (self.new ≡ self.old) }
+        ensures needed { OnErr result (IsSome (last_words self.old.phase fault)) }
     {
         match self.phase {
             Phase::AwaitOpen => self.put_close(fault),

@@ -1,0 +1,92 @@
+//! Operations as they are mostly wanted, with the rest of their fields at the standard's defaults. [`Op`] has all fields.
+ghost use Rattle.std.specs.Prelude.{◌≡◌, None, Some, true, false};
+
+use amqp_frames::{DeliveryState, Role};
+use amqp_rules::op::Op;
+use amqp_types::{Boxed, Tag, Text, Value};
+use bytes::Bytes;
+
+/// The sender settles no delivery before the receiver has told its state (part 2, 2.8.2).
+pub const SENDER_UNSETTLED: u8 = 0;
+/// The sender settles each delivery as it sends it (part 2, 2.8.2).
+pub const SENDER_SETTLED: u8 = 1;
+/// The sender settles some of its deliveries as it sends them (part 2, 2.8.2); the default.
+pub const SENDER_MIXED: u8 = 2;
+/// The receiver settles as soon as it tells a state (part 2, 2.8.3); the default.
+pub const RECEIVER_FIRST: u8 = 0;
+/// The receiver settles after the sender has (part 2, 2.8.3).
+pub const RECEIVER_SECOND: u8 = 1;
+
+/// Attaches a link of this name between these addresses (part 2, 2.7.3): mixed settling, the receiver first, messages of any length, counted from 0.
+pub fn attach(
+    name: Text,
+    role: Role,
+    source: Option<Boxed<Value>>,
+    target: Option<Boxed<Value>>,
+) -> Op
+    ensures { result ≡ Op.Attach name role 2 0 source target 0 0 }
+{
+    Op::Attach {
+        name,
+        role,
+        snd: SENDER_MIXED,
+        rcv: RECEIVER_FIRST,
+        source,
+        target,
+        count: 0,
+        max_message: 0,
+    }
+}
+
+/// Sends a message as one unsettled delivery of one transfer, in message-format 0 (part 2, 2.7.5 and 2.8.11).
+pub fn start(link: u32, tag: Tag, payload: Bytes) -> Op
+    ensures { result ≡ Op.Start link tag 0 false payload false }
+{
+    Op::Start {
+        link,
+        tag,
+        format: 0,
+        settled: false,
+        payload,
+        more: false,
+    }
+}
+
+/// Accepts the delivery that came with this id, and settles it (part 2, 2.7.6; part 3, 3.4.2).
+pub fn accept(id: u32) -> Op
+    ensures { result ≡ Op.Dispose Role.Receiver id id true (Some DeliveryState.Accepted) }
+{
+    Op::Dispose {
+        role: Role::Receiver,
+        first: id,
+        last: id,
+        settled: true,
+        state: Some(DeliveryState::Accepted),
+    }
+}
+
+/// Gives the peer credit for so many deliveries on the link (part 2, 2.6.7).
+pub fn grant(link: u32, credit: u32) -> Op
+    ensures { result ≡ Op.Grant link credit false false }
+{
+    Op::Grant {
+        link,
+        credit,
+        drain: false,
+        echo: false,
+    }
+}
+
+/// Detaches the link without an error (part 2, 2.6.6).
+pub fn detach(link: u32) -> Op
+    ensures { result ≡ Op.Detach link None }
+{
+    Op::Detach { link, error: None }
+}
+
+/// Ends the session without an error (part 2, 2.5.2).
+pub fn end() -> Op
+    ensures { result ≡ Op.End None }
+{
+    Op::End { error: None }
+}
