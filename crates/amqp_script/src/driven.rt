@@ -41,6 +41,23 @@ pub fn open(alloc: Global, session: &config::Config) -> Result<Conn, StartFault>
     Conn::new(alloc, config)
 }
 
+/// Drives a new connection with these settings of its session by the lines that the reader gives, as `run_lines` does.
+///
+/// # Errors
+///
+/// `Start` where there is no such connection; those of `run_lines`.
+pub fn run_conn<R: BufRead, W: Write>(
+    alloc: Global,
+    session: &config::Config,
+    reader: &mut R,
+    writer: &mut W,
+) -> Result<Outcome, RunFault> {
+    match open(alloc, session) {
+        Ok(conn) => run_lines(alloc, conn, reader, writer),
+        Err(fault) => Err(RunFault::Start(fault)),
+    }
+}
+
 /// Drives the connection by the lines that the reader gives, and writes an answer for each. What was answered is flushed before each read and at
 /// the end, also where a fault ends the run.
 pub fn run_lines<R: BufRead, W: Write>(

@@ -2,6 +2,7 @@
 ghost use Rattle.std.specs.Prelude.{◌≡◌, Ok, IsSome, OnOk, OnSome, false, true};
 ghost use Rattle.std.specs.Io.KnownBytes.{IsAtEnd};
 
+use amqp_conn::StartFault;
 use amqp_frames::FrameFault;
 use std::alloc::{AllocError, Global};
 use std::io;
@@ -25,6 +26,9 @@ pub enum RunFault {
     /// The octets of the input are no frames.
     #[error("{0}")]
     Framing(FrameFault),
+    /// There is no connection to drive.
+    #[error("{0}")]
+    Start(StartFault),
 }
 
 /// Whether each line of an input was one.
