@@ -12,6 +12,7 @@ pub mod Slots
 pub mod SlotSteps
 pub mod SlotKept
 pub mod SlotOf
+pub mod Named
 pub mod Credit
 pub mod Tags
 -- The next frame is taken, kind by kind.

@@ -71,8 +71,23 @@ pub record TellsNumbers (v : View) (w : WindowsView) (b : FlowBody) : Type 0 whe
   pub takes : b.incoming_window ≡ v.windows.window
   pub comes : b.next_outgoing_id ≡ next_outgoing v.windows
 
+abbrev pub is_attach : Option Performative → Bool
+is_attach (Some (heard.Attach b)) = true
+is_attach _ = false
+
+abbrev pub is_own_attach : Option Op → Bool
+is_own_attach (Some (Attach name role snd rcv source target count max_message)) = true
+is_own_attach _ = false
+
+abbrev pub is_own_detach : Option Op → Bool
+is_own_detach (Some (Detach link error)) = true
+is_own_detach _ = false
+
 -- of a frame that is no transfer, flow or begin
-pub record Beside (v after : View) (p : Performative) : Type 0 where
+pub record Beside (v after : View) (hears : Option Performative) (op : Option Op) (p : Performative) : Type 0 where
+  -- an attach is asked for; a detach too, or it answers one
+  pub attaches : is_attach (Some p) ≡ true → is_own_attach op ≡ true
+  pub detaches : is_detach (Some p) ≡ true → is_own_detach op || is_detach hears ≡ true
   pub mapped : is_detach (Some p) ≡ false → is_mapped v.session ≡ true
   pub ends : is_end (Some p) ≡ true → is_over after.session ≡ true
   pub range : (d : DispositionBody) → Some p ≡ Some (heard.Disposition d) → is_backwards (disposition_of d).first (disposition_of d).last ≡ false
@@ -85,7 +100,7 @@ pub data Sending (v : View) (after : View) (hears : Option Performative) (op : O
       → reply.sent ≡ sent_of (Some (heard.Flow b)) [] ∷ [] → Sending v after hears op reply
   begins : (b : BeginBody) → hears ≡ None → is_begin op ≡ true → v.session.begin_sent ≡ false → is_over after.session ≡ false → b.incoming_window ≡ v.windows.window → b.next_outgoing_id ≡ next_outgoing v.windows
       → reply.sent ≡ sent_of (Some (heard.Begin b)) [] ∷ [] → Sending v after hears op reply
-  others : (p : Performative) (payload : List ℕ) → transfer_in (Some p) ≡ None → tells_windows (Some p) ≡ false → Beside v after p
+  others : (p : Performative) (payload : List ℕ) → transfer_in (Some p) ≡ None → tells_windows (Some p) ≡ false → Beside v after hears op p
       → reply.sent ≡ sent_of (Some p) payload ∷ [] → Sending v after hears op reply
 
 -- # Operations
@@ -117,10 +132,10 @@ take-silent : (link : ℕ) (ds : List Delivery) (reply : Reply) → take_first l
 take-silent link [] reply h = absurd (cc)
 take-silent link (d ∷ ds) reply h = let e : take_reply link d ≡ reply = cc in quiet-by (take_reply link d) reply e refl
 
-attach-sending : (v : View) (a : Wanted) (after : View) (reply : Reply) → attach_answer v a ≡ Ok reply → (op : Op) → Sending v after None (Some op) reply
-attach-sending v a after reply h op =
+attach-sending : (v : View) (a : Wanted) (after : View) (reply : Reply) → attach_answer v a ≡ Ok reply → (op : Op) → is_own_attach (Some op) ≡ true → Sending v after None (Some op) reply
+attach-sending v a after reply h op is =
     let s = sends-ok v.max_frame (attach_refusals v a) (Some (heard.Attach (attach_sent v a))) [] (given.Link (number_met v.made (find (is_offered_as a.role a.name) v.links))) reply h in
-    others (heard.Attach (attach_sent v a)) [] refl refl (record { mapped = λ h. not-false (is_mapped v.session) s.none_holds.0; ends = λ h. absurd (cc (h)); range = λ d h. absurd (cc (h)) }) (sent-by _ reply s.replies)
+    others (heard.Attach (attach_sent v a)) [] refl refl (record { attaches = λ h. is; detaches = λ h. absurd (cc (h)); mapped = λ h. not-false (is_mapped v.session) s.none_holds.0; ends = λ h. absurd (cc (h)); range = λ d h. absurd (cc (h)) }) (sent-by _ reply s.replies)
 
 said-range : (role : Role) (d : Disposition) (e : DispositionBody) → dispose_body role d ≡ Some (heard.Disposition e) → is_backwards d.first d.last ≡ false → is_backwards (disposition_of e).first (disposition_of e).last ≡ false
 said-range role d e h forward =
@@ -133,14 +148,14 @@ dispose-sending v role d after reply h =
     let op = own.Dispose role d.first d.last d.settled d.state in
     let s = sends-ending-ok v.max_frame (dispose_refusals v role d) (dispose_body role d) (ended_by (sent_by_own v op) (received_by_own v op) v) given.Nothing reply h in
     let forward : is_backwards d.first d.last ≡ false = s.none_holds.1.0 in
-    others _ [] refl refl (record { mapped = λ h. not-false (is_mapped v.session) s.none_holds.0; ends = λ h. absurd (cc (h)); range = λ e h. said-range role d e h forward }) (sent-by _ reply s.replies)
+    others _ [] refl refl (record { attaches = λ h. absurd (cc (h)); detaches = λ h. absurd (cc (h)); mapped = λ h. not-false (is_mapped v.session) s.none_holds.0; ends = λ h. absurd (cc (h)); range = λ e h. said-range role d e h forward }) (sent-by _ reply s.replies)
 
 pub own-sending : (v : View) (op : Op) (reply : Reply) → own_answer v op ≡ Ok reply → Sending v (next_own v op) None (Some op) reply
 own-sending v Begin reply h =
     let s = sends-ok v.max_frame (begin_refusals v) (begin_body v) [] given.Nothing reply h in
     let may = not-false (may_begin v.session) s.none_holds.0 in
     begins _ refl refl (begins-unsent v.session may) (begins-open v.session may) refl refl (sent-by _ reply s.replies)
-own-sending v (Attach name role snd rcv source target count max_message) reply h = attach-sending v _ _ reply h (Attach name role snd rcv source target count max_message)
+own-sending v (Attach name role snd rcv source target count max_message) reply h = attach-sending v _ _ reply h (Attach name role snd rcv source target count max_message) refl
 own-sending v (Start link tag format settled payload more) reply h =
     let id = next_delivery v in
     let o = on-link-ok v link (λ l. sends v.max_frame (start_refusals v l tag settled payload) (start_body (handle_of l.ours) id tag format settled more) payload (given.Delivery id)) reply h in
@@ -185,10 +200,10 @@ own-sending v (Take link) reply h =
 own-sending v (Detach link error) reply h =
     let o = on-link-ok v link (λ l. sends_ending v.max_frame (detach_refusals l) (detach_body (handle_of l.ours) (Some true) error) (ended_by (Leaves link) (Leaves link) v) given.Nothing) reply h in
     let s = sends-ending-ok v.max_frame (detach_refusals o.on) (detach_body (handle_of o.on.ours) (Some true) error) (ended_by (Leaves link) (Leaves link) v) given.Nothing reply o.said in
-    others _ [] refl refl (record { mapped = λ h. o.mapped; ends = λ h. absurd (cc (h)); range = λ d h. absurd (cc (h)) }) (sent-by _ reply s.replies)
+    others _ [] refl refl (record { attaches = λ h. absurd (cc (h)); detaches = λ h. refl; mapped = λ h. o.mapped; ends = λ h. absurd (cc (h)); range = λ d h. absurd (cc (h)) }) (sent-by _ reply s.replies)
 own-sending v (End error) reply h =
     let s = sends-ending-ok v.max_frame ((not (is_mapped v.session), refusal.NotMapped) ∷ []) (end_body error) (ended_by Over Over v) given.Nothing reply h in
-    others _ [] refl refl (record { mapped = λ h. not-false (is_mapped v.session) s.none_holds.0; ends = λ h. refl; range = λ d h. absurd (cc (h)) }) (sent-by _ reply s.replies)
+    others _ [] refl refl (record { attaches = λ k. absurd (cc (k)); detaches = λ k. absurd (cc (k)); mapped = λ h. not-false (is_mapped v.session) s.none_holds.0; ends = λ h. refl; range = λ d h. absurd (cc (h)) }) (sent-by _ reply s.replies)
 own-sending v Beat reply h =
     let s = sends-ok v.max_frame [] None [] given.Nothing reply h in
     silent (quiet-by (reply_of None [] given.Nothing) reply s.replies refl)
@@ -259,7 +274,7 @@ flow-sending v b reply h =
 detach-sending : (attached : Bool) (v after : View) (b : DetachBody) (l : LinkView) (reply : Reply)
     → cond attached (reply_ending (detach_body (handle_of l.ours) b.closed None) [] (ended_by (Leaves l.number) (Leaves l.number) v) (given.Gone l.number)) (record { sent = []; ended = ended_by (Leaves l.number) (Leaves l.number) v; given = given.Gone l.number }) ≡ reply
     → Sending v after (Some (heard.Detach b)) None reply
-detach-sending true v after b l reply h = others _ [] refl refl (record { mapped = λ k. absurd (cc (k)); ends = λ k. absurd (cc (k)); range = λ d k. absurd (cc (k)) }) (sent-by _ reply h)
+detach-sending true v after b l reply h = others _ [] refl refl (record { attaches = λ k. absurd (cc (k)); detaches = λ k. refl; mapped = λ k. absurd (cc (k)); ends = λ k. absurd (cc (k)); range = λ d k. absurd (cc (k)) }) (sent-by _ reply h)
 detach-sending false v after b l reply h = silent (quiet-by _ reply h refl)
 
 or-true : (a : Bool) → a || true ≡ true
@@ -269,10 +284,10 @@ or-true false = refl
 end-sending : (mapped : Bool) (v after : View) (b : EndBody) (reply : Reply) → mapped ≡ is_mapped v.session → is_over after.session ≡ true
     → cond mapped (reply_ending (end_body None) [] (ended_by Over Over v) given.Nothing) (record { sent = []; ended = ended_by Over Over v; given = given.Nothing }) ≡ reply
     → Sending v after (Some (heard.End b)) None reply
-end-sending true v after b reply is over h = others _ [] refl refl (record { mapped = λ k. sym is; ends = λ k. over; range = λ d k. absurd (cc (k)) }) (sent-by _ reply h)
+end-sending true v after b reply is over h = others _ [] refl refl (record { attaches = λ k. absurd (cc (k)); detaches = λ k. absurd (cc (k)); mapped = λ k. sym is; ends = λ k. over; range = λ d k. absurd (cc (k)) }) (sent-by _ reply h)
 end-sending false v after b reply is over h = silent (quiet-by _ reply h refl)
 
-body-sending : (v : View) (body : Option Performative) (payload : List ℕ) (reply : Reply) → body_answer v body payload ≡ Ok reply → Sending v (next_body v body payload) body None reply
+pub body-sending : (v : View) (body : Option Performative) (payload : List ℕ) (reply : Reply) → body_answer v body payload ≡ Ok reply → Sending v (next_body v body payload) body None reply
 body-sending v (Some (heard.Begin b)) payload reply h =
     let a = answered_Ok (first_refusal (begin_violations v)) no_reply reply h in
     silent (quiet-by no_reply reply a.replies refl)

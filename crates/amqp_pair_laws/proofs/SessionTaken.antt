@@ -45,7 +45,7 @@ session-taken ca cb b f x (others p payload t w beside is) of =
     let body = body-of x.entry.reply.sent p payload f is x.sent in
     by p w (subst (λ (o : Option Performative). IsOfSession o) body of) beside body
   where
-    by : (p : Performative) → tells_windows (Some p) ≡ false → IsOfSession (Some p) → Beside (at ca x.before) (next (at ca x.before) x.entry.step) p → f.body ≡ Some p → IsOk (heard_answer (at cb b) f)
+    by : (p : Performative) → tells_windows (Some p) ≡ false → IsOfSession (Some p) → Beside (at ca x.before) (next (at ca x.before) x.entry.step) (body_heard x.entry.step) (own_in x.entry.step) p → f.body ≡ Some p → IsOk (heard_answer (at cb b) f)
     by (heard.Disposition d) tells of beside body = disposition-taken (at cb b) f d (ready-by ca cb b f x (beside.mapped refl)) body (beside.range d refl)
     by (heard.End e) tells of beside body = end-taken (at cb b) f e (ready-by ca cb b f x (beside.mapped refl)) body
     by (heard.Begin e) tells of beside body = absurd (cc (tells))
