@@ -13,6 +13,8 @@ pub mod SlotSteps
 pub mod SlotKept
 pub mod SlotOf
 pub mod Named
+pub mod Doing
+pub mod SlotActs
 pub mod Credit
 pub mod Tags
 -- The next frame is taken, kind by kind.

@@ -40,11 +40,11 @@ use Rattle.amqp_pair_laws.proofs.Windows.{Agree, Knows, SendsNone, begin-knows, 
 -- # One journal
 
 -- its entries are replayed, and few
-replayed-by : (c : Config) (past : List Entry) → lag.AllFair sends hears IsFair c past → IsReplayed c past
+pub replayed-by : (c : Config) (past : List Entry) → lag.AllFair sends hears IsFair c past → IsReplayed c past
 replayed-by c [] h = tt
 replayed-by c (e ∷ before) h = (replayed-by c before h.0, h.1.answers)
 
-few-by : (c : Config) (past : List Entry) → lag.AllFair sends hears IsFair c past → length past ≤ 2 ^ 30
+pub few-by : (c : Config) (past : List Entry) → lag.AllFair sends hears IsFair c past → length past ≤ 2 ^ 30
 few-by c [] h = omega arith
 few-by c (e ∷ before) h =
     let room : length before < c.journal_limit = h.1.room in
