@@ -152,7 +152,7 @@ and-some-none false o n h = absurd (cc (n))
 end-there : (v : View) → IsSound v → (test : LinkView → Bool) (l : LinkView) → find test v.links ≡ Some l → is_some l.ours || is_some l.theirs ≡ true
 end-there v s test l h = every-found (λ l. has_end (keys l) ≡ true) test v.links l (every-unmapped keys (λ k. has_end k ≡ true) v.links s.links.ends) h
 
-free-ours : (v : View) (role : Role) (name : List ℕ) → is_some (find (is_ours role name) v.links) ≡ false → (o : Option LinkView) → find (has_name role name) v.links ≡ o → (shape o).ours ≡ None
+pub free-ours : (v : View) (role : Role) (name : List ℕ) → is_some (find (is_ours role name) v.links) ≡ false → (o : Option LinkView) → find (has_name role name) v.links ≡ o → (shape o).ours ≡ None
 free-ours v role name free None h = refl
 free-ours v role name free (Some l) h =
     and-some-none (has_name role name l) l.ours (found-passes (has_name role name) v.links l h) (every-found (λ l. is_ours role name l ≡ false) (has_name role name) v.links l (none-passes (is_ours role name) v.links free) h)
@@ -184,7 +184,7 @@ attach-joins v a s free =
     record {
       only = λ l h. (and-both (has_name a.role a.name l) (is_offered l) h).0;
       all = λ l h. offered-by (has_name a.role a.name l) l.ours l.theirs (found-passes (has_name a.role a.name) v.links l h)
-      (every-found (λ l. is_ours a.role a.name l ≡ false) (has_name a.role a.name) v.links l (none-passes (is_ours a.role a.name) v.links free) h) (end-there v s (has_name a.role a.name) l h);
+          (every-found (λ l. is_ours a.role a.name l ≡ false) (has_name a.role a.name) v.links l (none-passes (is_ours a.role a.name) v.links free) h) (end-there v s (has_name a.role a.name) l h);
     } in
     ap shape (joined-there v (is_offered_as a.role a.name) a.role a.name (attached_by_us b) (us-keeps b) m (find (has_name a.role a.name) v.links) refl)
     ∙ shape-asked b v.made a.role a.name (find (has_name a.role a.name) v.links)
@@ -219,7 +219,7 @@ met-joins v b s free =
     record {
       only = λ l h. (and-both (has_name role b.name l) (is_asked l) h).0;
       all = λ l h. asked-by (has_name role b.name l) l.ours l.theirs (found-passes (has_name role b.name) v.links l h)
-      (every-found (λ l. is_theirs role b.name l ≡ false) (has_name role b.name) v.links l (none-passes (is_theirs role b.name) v.links free) h) (end-there v s (has_name role b.name) l h);
+          (every-found (λ l. is_theirs role b.name l ≡ false) (has_name role b.name) v.links l (none-passes (is_theirs role b.name) v.links free) h) (end-there v s (has_name role b.name) l h);
     } in
     ap shape (joined-there v (is_asked_as role b.name) role b.name (attached_by_peer b) (peer-keeps b) m (find (has_name role b.name) v.links) refl)
     ∙ shape-met b v.made role b.name (find (has_name role b.name) v.links)

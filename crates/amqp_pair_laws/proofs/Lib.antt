@@ -24,3 +24,4 @@ pub mod EndTaken
 pub mod DispositionTaken
 pub mod FlowTaken
 pub mod SessionTaken
+pub mod AttachTaken

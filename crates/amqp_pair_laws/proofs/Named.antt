@@ -223,11 +223,12 @@ removed-there role name test (k ∷ ks) l apart found named =
   where
     unnamed : (ms : List LinkView) (k : LinkView) → has_name role name k ≡ true → Every (λ m. shares_name (keys k) (keys m) ≡ false) ms → Every (λ m. has_name role name m ≡ false) ms
     unnamed [] k n all = tt
-    unnamed (m ∷ ms) k n all =
-        (by-bool (has_name role name m)
-        (λ (t : has_name role name m ≡ true). let shared = named-shares role name k m n t in let differ = all.0 in absurd (cc (shared, differ)))
-        (λ (f : has_name role name m ≡ false). f),
-        unnamed ms k n all.1)
+    unnamed (m ∷ ms) k n all = (
+      by-bool (has_name role name m)
+          (λ (t : has_name role name m ≡ true). let shared = named-shares role name k m n t in let differ = all.0 in absurd (cc (shared, differ)))
+          (λ (f : has_name role name m ≡ false). f),
+      unnamed ms k n all.1,
+    )
 
 pub removed-other : (role : Role) (name : List ℕ) (test : LinkView → Bool) (links : List LinkView) (l : LinkView)
     → find test links ≡ Some l → has_name role name l ≡ false → find (has_name role name) (remove_first test links) ≡ find (has_name role name) links

@@ -369,22 +369,22 @@ acts =
       starts = λ i c. refl;
       goes_on = goes-on;
       legal = λ i c e past h lives.
-      let m = one-more i c e past h in
-      legal-by (act i c e past) (st i c past) (does-free i.0 i.1 (at c past) (next (at c past) e.step) (act i c e past) (sends e) m.does) (well i c past h.0 (lives-goes e past lives).lived);
+          let m = one-more i c e past h in
+          legal-by (act i c e past) (st i c past) (does-free i.0 i.1 (at c past) (next (at c past) e.step) (act i c e past) (sends e) m.does) (well i c past h.0 (lives-goes e past lives).lived);
       gone = λ i c e past h is. does-gone i.0 i.1 (at c past) (next (at c past) e.step) (act i c e past) (sends e) (one-more i c e past h).does is;
       silent = λ i c e past h none. does-silent i.0 i.1 (at c past) (next (at c past) e.step) (act i c e past) (sends e) (one-more i c e past h).does none;
       mute = λ i c e past l none. mute-by i.0 i.1 (at c past) e.step (sends e) l none;
       deaf = λ i c e past none. deaf-by i.0 i.1 (at c past) e.step (sends e) none;
       passes = λ i j ca cb e e' a b f m ha hb lives k sent heard'.
-      let x = one-more i ca e a ha in
-      let y = one-more j cb e' b hb in
-      let r = m.0 in
-      let n = m.1 in
-      let k' : kept (slot_of i.0 i.1 (at ca a).links) ≡ (slot_of (opposite i.0) i.1 (at cb b).links).theirs =
-      k ∙ (ap (λ (x : Role). (slot_of x j.1 (at cb b).links).theirs) r ∙ ap (λ (x : List ℕ). (slot_of (opposite i.0) x (at cb b).links).theirs) n) in
-      let o = (lives-goes e' b lives).lived in
-      let acts' = heard-act j.0 j.1 (at cb b) e'.step (sends e') f o heard' in
-      ap learns acts' ∙ rw (r, n) (does-pass i.0 i.1 (at ca a) (at cb b) (next (at ca a) e.step) (act i ca e a) f (sends e) x.does sent x.sound y.sound k');
+          let x = one-more i ca e a ha in
+          let y = one-more j cb e' b hb in
+          let r = m.0 in
+          let n = m.1 in
+          let k' : kept (slot_of i.0 i.1 (at ca a).links) ≡ (slot_of (opposite i.0) i.1 (at cb b).links).theirs =
+          k ∙ (ap (λ (x : Role). (slot_of x j.1 (at cb b).links).theirs) r ∙ ap (λ (x : List ℕ). (slot_of (opposite i.0) x (at cb b).links).theirs) n) in
+          let o = (lives-goes e' b lives).lived in
+          let acts' = heard-act j.0 j.1 (at cb b) e'.step (sends e') f o heard' in
+          ap learns acts' ∙ rw (r, n) (does-pass i.0 i.1 (at ca a) (at cb b) (next (at ca a) e.step) (act i ca e a) f (sends e) x.does sent x.sound y.sound k');
       lived = λ e past lives. (lives-goes e past lives).lived;
       behind = λ ca cb n a b t lives. behind-lives ca cb n a b t lives;
     }

@@ -36,3 +36,7 @@ IsDisposition _ = ⊥
 abbrev pub IsSessionFlow : Option Performative → Type 0
 IsSessionFlow (Some (heard.Flow b)) = b.handle ≡ None
 IsSessionFlow _ = ⊥
+
+abbrev pub IsAttach : Option Performative → Type 0
+IsAttach (Some (heard.Attach b)) = Unit {0}
+IsAttach _ = ⊥

@@ -1,3 +1,4 @@
+use Rattle.amqp_pair_laws.proofs.AttachTaken.{attaches-taken}
 use Rattle.amqp_pair_laws.proofs.Opens.{window-is-open}
 use Rattle.amqp_pair_laws.proofs.Phases.{phases-known}
 use Rattle.amqp_pair_laws.proofs.Over.{behind-lives}
@@ -28,3 +29,6 @@ returns-clause-lives t = λ ca cb n a b w lives. behind-lives ca cb n a b w live
 
 pub returns-clause-ids : goal.returns-clause-ids
 returns-clause-ids t = λ ca cb n a b w lives. ids-known ca cb n a b w lives
+
+pub returns-clause-attach : goal.returns-clause-attach
+returns-clause-attach t = λ ca cb n a b f w waits of. attaches-taken ca cb n a b f w waits of
