@@ -1,0 +1,27 @@
+-- Worlds cut back, and the induction over those where one end has heard all that the other sent.
+pub mod Lag
+-- What an accepted step sends.
+pub mod Sends
+-- What is known of every world where one end has heard all that the other sent: windows, phases, ids of deliveries, and slots of links.
+pub mod Windows
+pub mod Opens
+pub mod Phases
+pub mod Over
+pub mod Ids
+pub mod Slots
+pub mod SlotSteps
+pub mod SlotKept
+pub mod SlotOf
+pub mod Named
+pub mod Doing
+pub mod SlotActs
+pub mod Credit
+pub mod Tags
+-- The next frame is taken, kind by kind.
+pub mod Next
+pub mod BeginTaken
+pub mod EndTaken
+pub mod DispositionTaken
+pub mod FlowTaken
+pub mod SessionTaken
+pub mod AttachTaken

@@ -1,0 +1,10 @@
+-- What a reader must believe, in the order to read it.
+
+-- journals of two ends that are reached by moves
+pub mod Moves
+-- what is asked of the application
+pub mod Premise
+-- the moves of two sessions
+pub mod World
+-- frames that the other end takes
+pub mod Taken

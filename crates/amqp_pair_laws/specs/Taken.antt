@@ -1,0 +1,42 @@
+-- Frames that the other end takes: the next one on its way is no violation there.
+use Rattle.std.specs.Prelude.{ℕ, ◌≡◌, Option, None, Some, List, IsOk}
+use Rattle.amqp_frames.specs.declared.frame.Frame.{Frame}
+use Rattle.amqp_performatives.specs.declared.performative.Performative.{Performative}
+use Rattle.amqp_performatives.specs.declared.performative.Performative.TheVariants as heard
+use Rattle.amqp_rules.specs.declared.config.Config.{Config}
+use Rattle.amqp_rules.specs.Answer.{heard_answer}
+use Rattle.amqp_laws.specs.declared.entry.Entry.{Entry}
+use Rattle.amqp_laws.specs.At.{at}
+use Rattle.amqp_pair_laws.specs.Moves.{count, said_as}
+use Rattle.amqp_pair_laws.specs.World.{World, hears, sends}
+
+-- the first frame of a's that b has not heard
+abbrev pub IsNext : Frame → List Entry → List Entry → Type 0
+IsNext f a b = said_as sends (count hears b) a ≡ Some f
+
+-- in every world the next frame is no violation, where its body is of this kind
+abbrev pub AreTaken : (Option Performative → Type 0) → Type 0
+AreTaken Kind = (ca cb : Config) (n : ℕ) (a b : List Entry) (f : Frame) → World ca cb n a b → IsNext f a b → Kind f.body → IsOk (heard_answer (at cb b) f)
+
+-- # Kinds of frames
+
+abbrev pub IsBegin : Option Performative → Type 0
+IsBegin (Some (heard.Begin b)) = Unit {0}
+IsBegin _ = ⊥
+
+abbrev pub IsEnd : Option Performative → Type 0
+IsEnd (Some (heard.End b)) = Unit {0}
+IsEnd _ = ⊥
+
+abbrev pub IsDisposition : Option Performative → Type 0
+IsDisposition (Some (heard.Disposition b)) = Unit {0}
+IsDisposition _ = ⊥
+
+-- a flow that names no link
+abbrev pub IsSessionFlow : Option Performative → Type 0
+IsSessionFlow (Some (heard.Flow b)) = b.handle ≡ None
+IsSessionFlow _ = ⊥
+
+abbrev pub IsAttach : Option Performative → Type 0
+IsAttach (Some (heard.Attach b)) = Unit {0}
+IsAttach _ = ⊥

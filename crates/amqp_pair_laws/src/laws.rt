@@ -1,0 +1,27 @@
+//! The laws of worlds.
+ghost use Rattle.std.specs.Prelude.{ℕ, List, Some, ◌≡◌, ◌<◌, false};
+ghost use Rattle.amqp_frames.specs.declared.frame.Frame.{Frame};
+ghost use Rattle.amqp_performatives.specs.declared.bodies.TransferBody.{TransferBody};
+ghost use Rattle.amqp_performatives.specs.declared.performative.Performative.TheVariants.{Transfer};
+ghost use Rattle.amqp_rules.specs.declared.config.Config.{Config};
+ghost use Rattle.amqp_rules.specs.View.{is_over};
+ghost use Rattle.amqp_laws.specs.declared.entry.Entry.{Entry};
+ghost use Rattle.amqp_laws.specs.Live.{live};
+ghost use Rattle.amqp_laws.specs.At.{at};
+ghost use Rattle.amqp_pair_laws.specs.Premise.{ids_heard, ids_sent};
+ghost use Rattle.amqp_pair_laws.specs.World.{World, Tight};
+ghost use Rattle.amqp_pair_laws.specs.Taken.{AreTaken, IsNext, IsBegin, IsEnd, IsDisposition, IsSessionFlow, IsAttach};
+
+/// The laws of worlds; the crate's root says each in a sentence.
+pub fn laws()
+    ensures begin { AreTaken IsBegin }
+    ensures end { AreTaken IsEnd }
+    ensures disposition { AreTaken IsDisposition }
+    ensures session_flow { AreTaken IsSessionFlow }
+    ensures attach { AreTaken IsAttach }
+    ensures window { (ca cb : Config) (n : ℕ) (a b : List Entry) (f : Frame) (t : TransferBody) → World ca cb n a b → IsNext f a b → f.body ≡ Some (Transfer t)
+        → is_over (at cb b).session ≡ false → 0 < (at cb b).windows.incoming }
+    ensures begun { (ca cb : Config) (n : ℕ) (a b : List Entry) → Tight ca cb n a b → (at cb b).session.begin_heard ≡ (at ca a).session.begin_sent }
+    ensures lives { (ca cb : Config) (n : ℕ) (a b : List Entry) → Tight ca cb n a b → is_over (at cb b).session ≡ false → is_over (at ca a).session ≡ false }
+    ensures ids { (ca cb : Config) (n : ℕ) (a b : List Entry) → Tight ca cb n a b → is_over (at cb b).session ≡ false → ids_heard (live b) ≡ ids_sent (live a) }
+{}

@@ -1,0 +1,20 @@
+//! Two ends that speak with each other: sessions whose journals are reached by moves, each end's own operations and the hearing of the other's next
+//! frame (`specs/World`). Both are within their limits, short of their journal limits, and dispose only deliveries that they heard. What holds of
+//! every such world, as `laws::laws` says it:
+//!
+//! | clause | law |
+//! |---|---|
+//! | `begin` | a begin that comes next is no violation |
+//! | `end` | nor is an end |
+//! | `disposition` | nor is a disposition |
+//! | `session_flow` | nor is a flow that names no link |
+//! | `attach` | nor is an attach |
+//! | `window` | a transfer that comes next finds the incoming window open |
+//! | `begun` | an end that has heard all that the other sent has heard its begin where it was sent |
+//! | `lives` | and where its session is not over, the other's is not over |
+//! | `ids` | and then it has heard first transfers of the same ids as the other sent, in the same order |
+//!
+//! Not stated here, and not proved: that detaches, transfers and flows of links are no violation, and what is taken and learnt.
+#![tactic(auto)]
+
+pub mod laws;
