@@ -33,7 +33,7 @@ use Rattle.amqp_shared.specs.Units.{numbered_from}
 use Rattle.amqp_shared.proofs.Numbering.{taken-append}
 
 pub stands : (k : Core) → Grows k k 0
-stands k = record { popped = refl; more = []; all = sym (append-nil (units k.log)); journal = sym (add-zero (length k.log.journal)) }
+stands k = record { popped = refl; settings = refl; more = []; all = sym (append-nil (units k.log)); journal = sym (add-zero (length k.log.journal)) }
 
 pub stays : (k l : Core) → l ≡ k → Grows k l 0
 stays k l e = subst (λ (x : Core). Grows k x 0) (sym e) (stands k)
@@ -44,6 +44,7 @@ steps k l s r w e =
     subst (λ (x : Core). Grows k x 1) (sym e)
     (record {
       popped = refl;
+      settings = refl;
       more = octets_sent (record { step = s; reply = r });
       all = logged-behind k.log (record { step = s; reply = r }) w;
       journal = length-append k.log.journal (record { step = s; reply = r } ∷ []);
@@ -53,7 +54,7 @@ steps k l s r w e =
 pub sends : (k l : Core) (p : Phase) (x : List ℕ) → l ≡ in_phase p (sending x k) → Grows k l 0
 sends k l p x e =
     subst (λ (y : Core). Grows k y 0) (sym e)
-    (record { popped = refl; more = x ∷ []; all = put-behind k.log x; journal = sym (add-zero (length k.log.journal)) })
+    (record { popped = refl; settings = refl; more = x ∷ []; all = put-behind k.log x; journal = sym (add-zero (length k.log.journal)) })
 
 entries : (before after : List Entry) (b : Bool) (given : Given) → AddsEntry before after b given → length after ≡ length before + cond b 1 0
 entries before after true given (e, is, gives) = ap length is ∙ length-append before (e ∷ [])
@@ -62,7 +63,7 @@ entries before after false given (same, gives) = ap length same ∙ sym (add-zer
 onward : (k l : Core) (n : ℕ) → Onward k l → Within k → length l.log.journal ≡ length k.log.journal + n → Grows k l n
 onward k l n o w h =
     let b = o.behind w in
-    record { popped = o.popped; more = b.more; all = b.all; journal = h }
+    record { popped = o.popped; settings = o.limits; more = b.more; all = b.all; journal = h }
 
 -- a feed that takes octets, or answers a violation
 fed-grows : (c d : Connection) (piece : List ℕ) (fed : Fed) → Within c.core → Feeds c piece (Ok fed) d → Grows c.core d.core (cond fed.stepped 1 0)

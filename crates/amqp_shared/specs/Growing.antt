@@ -7,4 +7,5 @@ pub record Grows (old new : Core) (steps : ℕ) : Type 0 where
   pub popped : new.log.popped ≡ old.log.popped
   pub more : List (List ℕ)
   pub all : units new.log ≡ units old.log ++ more
+  pub settings : new.log.config ≡ old.log.config
   pub journal : length new.log.journal ≡ length old.log.journal + steps

@@ -3,4 +3,5 @@ pub mod Units
 pub mod Session
 pub mod Passes
 pub mod Growing
+pub mod Waking
 pub mod Consuming

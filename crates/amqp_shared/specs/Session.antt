@@ -19,14 +19,15 @@ use Rattle.amqp_shared.specs.Units.{moved_of, unmoved}
 use Rattle.std.specs.Prelude.{Option}
 
 -- What holds of a locked session at all times: the passes made the journal's steps; what was pushed is what left the connection; and units wait in
--- it only where the ring had no free slot when it was last looked at.
-pub record IsHeld (c : Connection) (total : ℕ) (pushed : List frame.Unit) (free : ℕ) (ring own : Option Ring) (parts : ℕ) : Type 0 where
+-- it only where the ring had no free slot when it was last looked at. The limit is the journal's.
+pub record IsHeld (c : Connection) (total : ℕ) (pushed : List frame.Unit) (free limit : ℕ) (ring own : Option Ring) (parts : ℕ) : Type 0 where
   pub counted : total ≡ length c.core.log.journal
   pub pushed_is : pushed ≡ moved_of c
   pub no_more_moved : c.core.log.popped ≤ length (units c.core.log)
   pub full : c.core.log.popped < length (units c.core.log) → free ≡ 0
   pub ring_is : ring ≡ own
   pub all_parts : parts ≡ 65536
+  pub limited : limit ≡ c.core.log.config.journal_limit
 
 -- the operation was done, and units may have been moved to the ring
 pub record Makes (old : Connection) (o : Op) (gives : Given) (new : Connection) : Type 0 where

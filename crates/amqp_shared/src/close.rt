@@ -68,7 +68,7 @@ impl<N: Name> Shared<N> {
         ensures none_waits { IfOk result (λ c. backlog_of c.conn ≡ []) }
         ensures taken { IfOk result (λ c. c.taken ≡ length writer) }
         ensures steps { IfOk result (λ c. total_made passes.items ≡ length c.conn.core.log.journal) }
-        ensures refusal { IfErr result (λ e. IsCloseReason (total_parts passes.items) (total_made passes.items) (length e.locked.core.log.journal) e.reason) }
+        ensures refusal { IfErr result (λ e. IsCloseReason (total_parts passes.items) (total_made passes.items) (length e.locked.conn.core.log.journal) e.reason) }
         ensures back { IfErr result (λ e. (e.passes.items ≡ passes.items) × (e.writer ≡ writer)) }
     {
         let Shared { locked, conditions } = self;
@@ -83,12 +83,12 @@ fn close<N: Name>(
     passes: Vec<Pass<N>>,
     writer: WriterEnd<N>,
 ) -> Result<Closed, CloseRefusal<N>>
-    ensures conn { IfOk result (λ c. MovesUnits locked c.conn) }
+    ensures conn { IfOk result (λ c. MovesUnits locked.conn c.conn) }
     ensures units { IfOk result (λ c. writer ++ c.left.items ≡ units_of c.conn) }
     ensures none_waits { IfOk result (λ c. backlog_of c.conn ≡ []) }
     ensures taken { IfOk result (λ c. c.taken ≡ length writer) }
     ensures steps { IfOk result (λ c. total_made passes.items ≡ length c.conn.core.log.journal) }
-    ensures refusal { IfErr result (λ e. IsCloseReason (total_parts passes.items) (total_made passes.items) (length e.locked.core.log.journal) e.reason) }
+    ensures refusal { IfErr result (λ e. IsCloseReason (total_parts passes.items) (total_made passes.items) (length e.locked.conn.core.log.journal) e.reason) }
     ensures back { IfErr result (λ e. (e.locked ≡ locked) × (e.passes.items ≡ passes.items) × (e.writer ≡ writer)) }
 {
     let (parts, made) = totals(passes.as_slice());
@@ -130,10 +130,10 @@ fn take_apart<N: Name>(
     left: Vec<Unit>,
 ) -> Closed
     requires parts { parts ≡ total_parts passes.items }
-    requires steps { parts ≢ 65536 → total_made passes.items ≡ length locked.core.log.journal }
+    requires steps { parts ≢ 65536 → total_made passes.items ≡ length locked.conn.core.log.journal }
     requires empty { (left.items ≡ []) × (vec_len left ≡ 0) }
-    requires room { length (units locked.core.log) ≤ length writer + vec_capacity left }
-    ensures conn { MovesUnits locked result.conn }
+    requires room { length (units locked.conn.core.log) ≤ length writer + vec_capacity left }
+    ensures conn { MovesUnits locked.conn result.conn }
     ensures units { writer ++ result.left.items ≡ units_of result.conn }
     ensures none_waits { backlog_of result.conn ≡ [] }
     ensures taken { result.taken ≡ length writer }
@@ -144,8 +144,7 @@ fn take_apart<N: Name>(
         book,
         producer,
         limit: _,
-        awaited: _,
-        callers: _,
+        waiters: _,
     } = locked;
     let WriterEnd {
         consumer,

@@ -71,7 +71,7 @@ fn apply<N: Name>(
     pass: &mut Pass<N>,
     op: Op,
 ) -> Result<(), Refusal>
-    ensures tells { Tells (mutex_guard_value guard.old) op result (mutex_guard_value guard.new) }
+    ensures tells { Tells (mutex_guard_value guard.old).conn op result (mutex_guard_value guard.new).conn }
     ensures ok { OnOk result (pass.new ≡ raised pass.old) }
     ensures err { OnErr result (pass.new ≡ pass.old) }
 {
@@ -94,7 +94,7 @@ fn dispose<N: Name>(
     item: &Taken,
     state: DeliveryState,
 ) -> Result<(), Refusal>
-    ensures disposes { Disposes (mutex_guard_value guard.old) item.now state result (mutex_guard_value guard.new) }
+    ensures disposes { Disposes (mutex_guard_value guard.old).conn item.now state result (mutex_guard_value guard.new).conn }
     ensures pass { StepsUpTo 1 pass.old pass.new }
 {
     if item.settled {
@@ -120,7 +120,7 @@ fn dispose_and_grant<N: Name>(
     state: DeliveryState,
     credit: u32,
 ) -> Result<(), Refusal>
-    ensures settles { Settles (mutex_guard_value guard.old) item.now state credit result (mutex_guard_value guard.new) }
+    ensures settles { Settles (mutex_guard_value guard.old).conn item.now state credit result (mutex_guard_value guard.new).conn }
     ensures pass { StepsUpTo 2 pass.old pass.new }
 {
     match dispose(shared, guard, pass, item, state) {

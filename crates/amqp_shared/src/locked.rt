@@ -1,5 +1,5 @@
 //! What lies under the lock.
-ghost use Rattle.std.specs.Prelude.{◌≡◌, ◌≢◌, ◌<◌, ◌≤◌, ◌^◌, ◌+◌, ◌-◌, ◌↔◌, [], length, drop, IfOk, IfErr, IfSome, IfNone, IsTrue, IsFalse, OnErr, OnOk, Ok};
+ghost use Rattle.std.specs.Prelude.{◌≡◌, ◌≢◌, ◌<◌, ◌≤◌, ◌^◌, ◌+◌, ◌-◌, ◌↔◌, [], length, drop, true, false, IfOk, IfErr, IfSome, IfNone, IsTrue, IsFalse, OnErr, OnOk, Ok};
 ghost use Rattle.amqp_journal.specs.Units.{units};
 ghost use Rattle.amqp_conn.specs.Connection.{connection, in_phase};
 ghost use Rattle.amqp_conn.specs.Feeding.{Feeds, MovesOn};
@@ -7,6 +7,7 @@ ghost use Rattle.amqp_conn.specs.Calling.{Closes};
 ghost use Rattle.amqp_shared.specs.Passes.{raised, CountsStep};
 ghost use Rattle.amqp_shared.specs.Session.{Makes, IsReceipt, IsRefused, Fits};
 ghost use Rattle.amqp_shared.specs.Units.{MovesUnits, unmoved};
+ghost use Rattle.amqp_shared.specs.Waking.{Held, told_of_units, units_came, with_want, with_units, waits_for, is_ended, is_full};
 
 use crate::growing::{
     do_operation, feed_octets, feed_shared_octets, push_units, put_close, recall, steps_of,
@@ -14,7 +15,7 @@ use crate::growing::{
 use crate::name::{Name, Numbered};
 use crate::pass::Pass;
 use crate::receipt::receipt_of;
-use crate::waiting::{Callers, Want};
+use crate::waiting::{Waiters, Want, is_closed};
 use amqp_conn::{CloseRefusal, Conn, ConnFault, Fed, Phase};
 use amqp_frames::AmqpError;
 use amqp_journal::receipt::Receipt;
@@ -29,7 +30,7 @@ use std::alloc::Global;
 use std::marker::Model;
 use std::sync::ledger::Book;
 
-/// What lies under the lock. Contracts see it as its connection: the passes made the journal's steps, and the units that left the connection were
+/// What lies under the lock. Contracts see it as its connection, and who waits for what: the passes made the journal's steps, and the units that left the connection were
 /// pushed to the writer's ring, in their order.
 #[derive(Drop)]
 pub struct Locked<N: Name> {
@@ -38,58 +39,58 @@ pub struct Locked<N: Name> {
     pub(crate) producer: Producer<Unit, Global, Numbered>,
     /// How many entries the journal may have.
     pub(crate) limit: u32,
-    /// The least number past which units are awaited; none where no thread awaits units.
-    pub(crate) awaited: Option<u64>,
-    pub(crate) callers: Callers,
+    pub(crate) waiters: Waiters,
 }
 
 impl<N: Name> Model for Locked<N> {
     ghost use Rattle.rtrb.specs.Ring.{sent, known_free};
-    ghost use Rattle.amqp_conn.specs.Connection.{Connection};
     ghost use Rattle.amqp_shared.specs.Ring.{pushes_to};
     ghost use Rattle.amqp_shared.specs.Session.{IsHeld};
+    ghost use Rattle.amqp_shared.specs.Waking.{Held};
     ghost use Rattle.amqp_types.specs.contracts.value.Value as value;
     ghost use Rattle.std.specs.Coded.{codes};
 
-    ghost Value = { Connection };
+    ghost Value = { Held };
 
     ghost coded = { Prim.hlevel (codes, value.the_row.coded) };
 
-    ghost view = { λ l. l.conn };
+    ghost view = { λ l. record { conn = l.conn; waiters = l.waiters } };
 
-    ghost invariant = { λ l. IsHeld l.conn l.book.total (sent l.producer) (known_free l.producer) (pushes_to l.producer) N.ring N.parts };
+    ghost invariant = { λ l. IsHeld l.conn l.book.total (sent l.producer) (known_free l.producer) l.limit (pushes_to l.producer) N.ring N.parts };
 }
 
 impl<N: Name> Locked<N> {
     /// The connection: its phase, its journal, its endpoint.
     pub fn conn(&self) -> &Conn
-        ensures { result.now ≡ self.now }
+        ensures { result.now ≡ self.now.conn }
     {
         &self.conn
     }
 
     /// Moves units to the ring, as many as fit.
     pub(crate) fn move_units(&mut self)
-        ensures { MovesUnits self.old self.new }
+        ensures moves { MovesUnits self.old.conn self.new.conn }
+        ensures waiters { self.new.waiters ≡ self.old.waiters }
     {
         push_units(&mut self.conn, &mut self.producer);
     }
 
     /// The octets ended.
     pub(crate) fn lost(&mut self)
-        ensures { self.new ≡ connection (in_phase Phase.Closed self.old.core) [] }
+        ensures { self.new ≡ record self.old { conn = connection (in_phase Phase.Closed self.old.conn.core) [] } }
     {
         self.conn.lost();
     }
 
     /// An operation, counted in the pass.
     pub(crate) fn apply(&mut self, pass: &mut Pass<N>, op: &Op) -> Result<(Receipt, Given), Refusal>
-        ensures step { IfOk result (λ r. Makes self.old op.now r.1 self.new) }
+        ensures step { IfOk result (λ r. Makes self.old.conn op.now r.1 self.new.conn) }
         ensures fits { IfOk result (λ r. Fits op.now r.1) }
-        ensures receipt { IfOk result (λ r. IsReceipt self.new.core.log op.now r.1 r.0) }
+        ensures receipt { IfOk result (λ r. IsReceipt self.new.conn.core.log op.now r.1 r.0) }
         ensures place { IfOk result (λ r. pass.old.made ≤ r.0.place) }
         ensures pass { OnOk result (pass.new ≡ raised pass.old) }
-        ensures refusal { IfErr result (λ e. IsRefused self.old op.now e) }
+        ensures waiters { self.new.waiters ≡ self.old.waiters }
+        ensures refusal { IfErr result (λ e. IsRefused self.old.conn op.now e) }
         ensures err { OnErr result ((self.new ≡ self.old) × (pass.new ≡ pass.old)) }
     {
         recall(&self.conn);
@@ -106,9 +107,10 @@ impl<N: Name> Locked<N> {
 
     /// A feed, whose step is counted in the pass.
     pub(crate) fn feed(&mut self, pass: &mut Pass<N>, piece: &[u8]) -> Result<Fed, ConnFault>
-        ensures fed { Feeds self.old piece.now result (unmoved self.old self.new) }
+        ensures fed { Feeds self.old.conn piece.now result (unmoved self.old.conn self.new.conn) }
         ensures progress { piece.now ≢ [] → MovesOn result }
-        ensures more { self.old.core.log.popped ≤ self.new.core.log.popped }
+        ensures more { self.old.conn.core.log.popped ≤ self.new.conn.core.log.popped }
+        ensures waiters { self.new.waiters ≡ self.old.waiters }
         ensures pass { CountsStep result pass.old pass.new }
     {
         recall(&self.conn);
@@ -126,9 +128,10 @@ impl<N: Name> Locked<N> {
         from: usize,
     ) -> Result<Fed, ConnFault>
         requires { from ≤ length shared.now }
-        ensures fed { Feeds self.old (drop from shared.now) result (unmoved self.old self.new) }
+        ensures fed { Feeds self.old.conn (drop from shared.now) result (unmoved self.old.conn self.new.conn) }
         ensures progress { drop from shared.now ≢ [] → MovesOn result }
-        ensures more { self.old.core.log.popped ≤ self.new.core.log.popped }
+        ensures more { self.old.conn.core.log.popped ≤ self.new.conn.core.log.popped }
+        ensures waiters { self.new.waiters ≡ self.old.waiters }
         ensures pass { CountsStep result pass.old pass.new }
     {
         recall(&self.conn);
@@ -140,9 +143,10 @@ impl<N: Name> Locked<N> {
 
     /// Puts out our close.
     pub(crate) fn shut(&mut self, error: Option<Boxed<AmqpError>>) -> Result<(), CloseRefusal>
-        ensures closes { Closes self.old.core error result (unmoved self.old self.new).core }
-        ensures unread { self.new.unread ≡ self.old.unread }
-        ensures more { self.old.core.log.popped ≤ self.new.core.log.popped }
+        ensures closes { Closes self.old.conn.core error result (unmoved self.old.conn self.new.conn).core }
+        ensures unread { self.new.conn.unread ≡ self.old.conn.unread }
+        ensures more { self.old.conn.core.log.popped ≤ self.new.conn.core.log.popped }
+        ensures waiters { self.new.waiters ≡ self.old.waiters }
         ensures err { OnErr result (self.new ≡ self.old) }
     {
         match put_close(&mut self.conn, error) {
@@ -156,67 +160,75 @@ impl<N: Name> Locked<N> {
 
     /// How many units were put out.
     pub(crate) fn put_out(&self) -> u64
-        ensures { result ≡ length (units self.now.core.log) }
+        ensures { result ≡ length (units self.now.conn.core.log) }
     {
         self.conn.logged().put_out()
     }
 
     /// Units past this number are awaited.
     pub(crate) fn await_units(&mut self, seen: u64)
-        ensures { self.new ≡ self.old }
+        ensures { self.new ≡ record self.old { waiters = with_units seen self.old.waiters } }
     {
-        self.awaited = Some(match self.awaited {
-            Some(least) => least.min(seen),
-            None => seen,
-        });
+        self.waiters = self.waiters.with_units(seen);
     }
 
-    /// Units that are awaited were put out, or the connection has ended: nobody awaits them any more.
+    /// Whether units that are awaited were put out, or the connection has ended while some are awaited: nobody awaits them any more.
     pub(crate) fn end_await_units(&mut self) -> bool
-        ensures { self.new ≡ self.old }
+        ensures waiters { self.new ≡ record self.old { waiters = told_of_units self.old.conn self.old.waiters } }
+        ensures came { result ≡ units_came self.old.conn self.old.waiters.units }
     {
-        match self.awaited {
-            Some(seen) if seen < self.put_out() || self.is_closed() => {
-                self.awaited = None;
-                true
-            }
-            _ => false,
+        let came = self.units_came();
+        if came {
+            self.waiters.units = None;
+        }
+        came
+    }
+
+    fn units_came(&self) -> bool
+        ensures { result ≡ units_came self.now.conn self.now.waiters.units }
+    {
+        match self.waiters.units {
+            Some(seen) => seen < self.put_out() || self.is_closed(),
+            None => false,
         }
     }
 
     /// A caller waits for this.
     pub(crate) fn wait_for(&mut self, want: Want)
-        ensures { self.new ≡ self.old }
+        ensures { self.new ≡ record self.old { waiters = with_want want true self.old.waiters } }
     {
-        self.callers = self.callers.set(want, true);
+        self.waiters = self.waiters.set(want, true);
     }
 
     /// Whether callers wait for this: none do any more.
     pub(crate) fn end_wait_for(&mut self, want: Want) -> bool
-        ensures { self.new ≡ self.old }
+        ensures waiters { self.new ≡ record self.old { waiters = with_want want false self.old.waiters } }
+        ensures waited { result ≡ waits_for want self.old.waiters }
     {
-        let waited = self.callers.wait_for(want);
-        self.callers = self.callers.set(want, false);
+        let waited = self.waiters.wait_for(want);
+        self.waiters = self.waiters.set(want, false);
         waited
     }
 
     /// The connection has ended.
     pub(crate) fn is_closed(&self) -> bool
-        ensures { IsTrue result ↔ (self.now.core.phase ≡ Phase.Closed) }
+        ensures { result ≡ is_ended self.now.conn.core.phase }
     {
-        self.conn.phase() == Phase::Closed
+        is_closed(&self.conn)
     }
 
     /// The journal has as many entries as it may.
-    pub(crate) fn is_at_limit(&self) -> bool {
+    pub(crate) fn is_at_limit(&self) -> bool
+        ensures { result ≡ is_full self.now.conn }
+    {
         self.conn.logged().journal().len() >= self.limit as usize
     }
 
     /// What is told to a writer that has seen so many units: how many were put out, and whether the connection has ended. None where there are no
     /// more, and it has not.
     pub(crate) fn news(&self, seen: u64) -> Option<(u64, bool)>
-        ensures some { IfSome result (λ r. (r.0 ≡ length (units self.now.core.log)) × (IsTrue r.1 ↔ (self.now.core.phase ≡ Phase.Closed)) × (IsFalse r.1 → seen < r.0)) }
-        ensures none { IfNone result ((length (units self.now.core.log) ≤ seen) × (self.now.core.phase ≢ Phase.Closed)) }
+        ensures some { IfSome result (λ r. (r.0 ≡ length (units self.now.conn.core.log)) × (r.1 ≡ is_ended self.now.conn.core.phase) × (IsFalse r.1 → seen < r.0)) }
+        ensures none { IfNone result ((length (units self.now.conn.core.log) ≤ seen) × (IsFalse (is_ended self.now.conn.core.phase))) }
     {
         let count = self.put_out();
         let closed = self.is_closed();

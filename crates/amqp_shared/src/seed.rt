@@ -37,7 +37,7 @@ impl Model for Seed {
 
     ghost view = { λ s. record { conn = s.conn; name = s.blank.name; parts = s.blank.parts; ring = pushes_to s.producer } };
 
-    ghost invariant = { λ s. (s.conn.core.log.journal ≡ []) × (s.conn.core.log.popped ≡ 0) × (sent s.producer ≡ []) × (received s.consumer ≡ []) × (pops_from s.consumer ≡ pushes_to s.producer) × (s.blank.parts ≡ 65536) };
+    ghost invariant = { λ s. (s.conn.core.log.journal ≡ []) × (s.conn.core.log.popped ≡ 0) × (sent s.producer ≡ []) × (received s.consumer ≡ []) × (pops_from s.consumer ≡ pushes_to s.producer) × (s.blank.parts ≡ 65536) × (s.limit ≡ s.conn.core.log.config.journal_limit) };
 }
 
 impl Seed {

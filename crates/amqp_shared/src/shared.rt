@@ -1,5 +1,5 @@
 //! A connection that threads share, and the calls on the session that is lent under its lock.
-ghost use Rattle.std.specs.Prelude.{◌≡◌, ◌≢◌, ◌<◌, ◌≤◌, [], length, drop, IfOk, IfErr, OnOk, OnErr, IsFalse};
+ghost use Rattle.std.specs.Prelude.{◌≡◌, ◌≢◌, ◌<◌, ◌≤◌, [], length, drop, false, IfOk, IfErr, OnOk, OnErr, IsFalse};
 ghost use Rattle.std.specs.Sync.Mutex.{mutex_guard_value};
 ghost use Rattle.amqp_conn.specs.Connection.{connection, in_phase};
 ghost use Rattle.amqp_conn.specs.Feeding.{Feeds, MovesOn};
@@ -7,13 +7,16 @@ ghost use Rattle.amqp_conn.specs.Calling.{Closes, due_in};
 ghost use Rattle.amqp_shared.specs.Passes.{IsNamed, raised, CountsStep};
 ghost use Rattle.amqp_shared.specs.Session.{Makes, IsDone, IsReceipt, IsRefused, Fits, EndsWait, IsDueAtOnce, Calls};
 ghost use Rattle.amqp_shared.specs.Units.{MovesUnits, unmoved};
+ghost use Rattle.amqp_shared.specs.Waking.{IsTold, brought_by_op, brought_by_feed, told_of, told_of_units, with_want, is_ended};
+ghost use Rattle.amqp_journal.specs.Units.{units};
+ghost use Rattle.amqp_shared.specs.declared.waiting.Change.TheVariants.{Ends};
 
 use crate::growing::push_units;
 use crate::locked::Locked;
 use crate::name::Name;
 use crate::pass::Pass;
 use crate::seed::Seed;
-use crate::waiting::{Callers, Change, Conditions, Want, awaited_by, brought, brought_by};
+use crate::waiting::{Change, Conditions, Waiters, Want, awaited_by, brought, brought_by};
 use crate::writer::WriterEnd;
 use amqp_conn::{CloseRefusal, ConnFault, Fed, Phase};
 use amqp_frames::AmqpError;
@@ -56,8 +59,7 @@ pub fn open_shared<N: Name>(seed: Seed) -> (Shared<N>, Pass<N>, WriterEnd<N>)
             book,
             producer,
             limit,
-            awaited: None,
-            callers: Callers::NONE,
+            waiters: Waiters::NONE,
         }),
         Pass {
             share,
@@ -97,23 +99,18 @@ impl<N: Name> Shared<N> {
         pass: &mut Pass<N>,
         op: &Op,
     ) -> Result<(Receipt, Given), Refusal>
-        ensures step { IfOk result (λ r. Makes (mutex_guard_value guard.old) op.now r.1 (mutex_guard_value guard.new)) }
+        ensures step { IfOk result (λ r. Makes (mutex_guard_value guard.old).conn op.now r.1 (mutex_guard_value guard.new).conn) }
         ensures fits { IfOk result (λ r. Fits op.now r.1) }
-        ensures receipt { IfOk result (λ r. IsReceipt (mutex_guard_value guard.new).core.log op.now r.1 r.0) }
+        ensures receipt { IfOk result (λ r. IsReceipt (mutex_guard_value guard.new).conn.core.log op.now r.1 r.0) }
         ensures place { IfOk result (λ r. pass.old.made ≤ r.0.place) }
         ensures pass { OnOk result (pass.new ≡ raised pass.old) }
-        ensures refusal { IfErr result (λ e. IsRefused (mutex_guard_value guard.old) op.now e) }
+        ensures told { OnOk result (IsTold (brought_by_op op.now) (mutex_guard_value guard.old) (mutex_guard_value guard.new)) }
+        ensures refusal { IfErr result (λ e. IsRefused (mutex_guard_value guard.old).conn op.now e) }
         ensures err { OnErr result ((mutex_guard_value guard.new ≡ mutex_guard_value guard.old) × (pass.new ≡ pass.old)) }
     {
         match guard.apply(pass, op) {
             Ok(done) => {
-                self.wake_writer(guard);
-                let change = if guard.is_at_limit() {
-                    Change::Ends
-                } else {
-                    brought_by(op)
-                };
-                self.wake_callers(guard, change);
+                self.tell(guard, brought_by(op));
                 Ok(done)
             }
             Err(refusal) => Err(refusal),
@@ -131,19 +128,15 @@ impl<N: Name> Shared<N> {
         pass: &mut Pass<N>,
         piece: &[u8],
     ) -> Result<Fed, ConnFault>
-        ensures fed { Feeds (mutex_guard_value guard.old) piece.now result (unmoved (mutex_guard_value guard.old) (mutex_guard_value guard.new)) }
+        ensures fed { Feeds (mutex_guard_value guard.old).conn piece.now result (unmoved (mutex_guard_value guard.old).conn (mutex_guard_value guard.new).conn) }
         ensures progress { piece.now ≢ [] → MovesOn result }
-        ensures more { (mutex_guard_value guard.old).core.log.popped ≤ (mutex_guard_value guard.new).core.log.popped }
+        ensures more { (mutex_guard_value guard.old).conn.core.log.popped ≤ (mutex_guard_value guard.new).conn.core.log.popped }
         ensures pass { CountsStep result pass.old pass.new }
+        ensures told { IsTold (brought_by_feed (mutex_guard_value guard.new).conn result) (mutex_guard_value guard.old) (mutex_guard_value guard.new) }
     {
         let result = guard.feed(pass, piece);
-        let change = if guard.is_at_limit() {
-            Change::Ends
-        } else {
-            brought(guard.conn(), &result)
-        };
-        self.wake_writer(guard);
-        self.wake_callers(guard, change);
+        let change = brought(guard.conn(), &result);
+        self.tell(guard, change);
         result
     }
 
@@ -160,19 +153,15 @@ impl<N: Name> Shared<N> {
         from: usize,
     ) -> Result<Fed, ConnFault>
         requires { from ≤ length shared.now }
-        ensures fed { Feeds (mutex_guard_value guard.old) (drop from shared.now) result (unmoved (mutex_guard_value guard.old) (mutex_guard_value guard.new)) }
+        ensures fed { Feeds (mutex_guard_value guard.old).conn (drop from shared.now) result (unmoved (mutex_guard_value guard.old).conn (mutex_guard_value guard.new).conn) }
         ensures progress { drop from shared.now ≢ [] → MovesOn result }
-        ensures more { (mutex_guard_value guard.old).core.log.popped ≤ (mutex_guard_value guard.new).core.log.popped }
+        ensures more { (mutex_guard_value guard.old).conn.core.log.popped ≤ (mutex_guard_value guard.new).conn.core.log.popped }
         ensures pass { CountsStep result pass.old pass.new }
+        ensures told { IsTold (brought_by_feed (mutex_guard_value guard.new).conn result) (mutex_guard_value guard.old) (mutex_guard_value guard.new) }
     {
         let result = guard.feed_shared(pass, shared, from);
-        let change = if guard.is_at_limit() {
-            Change::Ends
-        } else {
-            brought(guard.conn(), &result)
-        };
-        self.wake_writer(guard);
-        self.wake_callers(guard, change);
+        let change = brought(guard.conn(), &result);
+        self.tell(guard, change);
         result
     }
 
@@ -186,15 +175,15 @@ impl<N: Name> Shared<N> {
         guard: &mut MutexGuard<'_, Locked<N>>,
         error: Option<Boxed<AmqpError>>,
     ) -> Result<(), CloseRefusal>
-        ensures closes { Closes (mutex_guard_value guard.old).core error result (unmoved (mutex_guard_value guard.old) (mutex_guard_value guard.new)).core }
-        ensures unread { (mutex_guard_value guard.new).unread ≡ (mutex_guard_value guard.old).unread }
-        ensures more { (mutex_guard_value guard.old).core.log.popped ≤ (mutex_guard_value guard.new).core.log.popped }
+        ensures closes { Closes (mutex_guard_value guard.old).conn.core error result (unmoved (mutex_guard_value guard.old).conn (mutex_guard_value guard.new).conn).core }
+        ensures unread { (mutex_guard_value guard.new).conn.unread ≡ (mutex_guard_value guard.old).conn.unread }
+        ensures more { (mutex_guard_value guard.old).conn.core.log.popped ≤ (mutex_guard_value guard.new).conn.core.log.popped }
+        ensures told { OnOk result (IsTold Ends (mutex_guard_value guard.old) (mutex_guard_value guard.new)) }
         ensures err { OnErr result (mutex_guard_value guard.new ≡ mutex_guard_value guard.old) }
     {
         match guard.shut(error) {
             Ok(()) => {
-                self.wake_writer(guard);
-                self.wake_callers(guard, Change::Ends);
+                self.tell(guard, Change::Ends);
                 Ok(())
             }
             Err(refusal) => Err(refusal),
@@ -203,16 +192,17 @@ impl<N: Name> Shared<N> {
 
     /// The octets ended, as `Conn::lost`.
     pub fn lost(&self, guard: &mut MutexGuard<'_, Locked<N>>)
-        ensures { mutex_guard_value guard.new ≡ connection (in_phase Phase.Closed (mutex_guard_value guard.old).core) [] }
+        ensures lost { (mutex_guard_value guard.new).conn ≡ connection (in_phase Phase.Closed (mutex_guard_value guard.old).conn.core) [] }
+        ensures told { IsTold Ends (mutex_guard_value guard.old) (mutex_guard_value guard.new) }
     {
         guard.lost();
-        self.wake_writer(guard);
-        self.wake_callers(guard, Change::Ends);
+        self.tell(guard, Change::Ends);
     }
 
     /// Moves units to the ring, as many as fit. It takes no memory.
     pub fn move_units(&self, guard: &mut MutexGuard<'_, Locked<N>>)
-        ensures { MovesUnits (mutex_guard_value guard.old) (mutex_guard_value guard.new) }
+        ensures moves { MovesUnits (mutex_guard_value guard.old).conn (mutex_guard_value guard.new).conn }
+        ensures waiters { (mutex_guard_value guard.new).waiters ≡ (mutex_guard_value guard.old).waiters }
     {
         guard.move_units();
     }
@@ -232,13 +222,13 @@ impl<N: Name> Shared<N> {
         op: &Op,
     ) -> (MutexGuard<'b, Locked<N>>, Result<(Receipt, Given), Refusal>)
         ensures fits { IfOk result.1 (λ r. Fits op.now r.1) }
-        ensures receipt { IfOk result.1 (λ r. IsReceipt (mutex_guard_value result.0).core.log op.now r.1 r.0) }
+        ensures receipt { IfOk result.1 (λ r. IsReceipt (mutex_guard_value result.0).conn.core.log op.now r.1 r.0) }
         ensures place { IfOk result.1 (λ r. pass.old.made ≤ r.0.place) }
         ensures pass { OnOk result.1 (pass.new ≡ raised pass.old) }
-        ensures done { IfOk result.1 (λ r. IsDone op.now r.1 (mutex_guard_value result.0)) }
-        ensures refusal { IfErr result.1 (λ e. IsRefused (mutex_guard_value result.0) op.now e × EndsWait e) }
+        ensures done { IfOk result.1 (λ r. IsDone op.now r.1 (mutex_guard_value result.0).conn) }
+        ensures refusal { IfErr result.1 (λ e. IsRefused (mutex_guard_value result.0).conn op.now e × EndsWait e) }
         ensures err { OnErr result.1 (pass.new ≡ pass.old) }
-        ensures at_once { IsDueAtOnce (due_in (mutex_guard_value guard.entry).core.phase (mutex_guard_value guard.entry).core.log op.now) → Calls (mutex_guard_value guard.entry) op.now result.1 (mutex_guard_value result.0) }
+        ensures at_once { IsDueAtOnce (due_in (mutex_guard_value guard.entry).conn.core.phase (mutex_guard_value guard.entry).conn.core.log op.now) → Calls (mutex_guard_value guard.entry).conn op.now result.1 (mutex_guard_value result.0).conn }
     {
         let mut guard = guard;
         for _ in rt.forever() {
@@ -260,11 +250,26 @@ impl<N: Name> Shared<N> {
     pub fn wait_units<R: Wait>(&self, rt: &R, seen: u64) -> (u64, bool)
         ensures { (IsFalse result.1) → seen < result.0 }
     {
+        let (guard, news) = self.news_past(rt, seen);
+        drop(guard);
+        news
+    }
+
+    /// What `wait_units` answers, of the session whose guard it gives back.
+    fn news_past<'b, R: Wait>(
+        &'b self,
+        rt: &R,
+        seen: u64,
+    ) -> (MutexGuard<'b, Locked<N>>, (u64, bool))
+        ensures count { result.1.0 ≡ length (units (mutex_guard_value result.0).conn.core.log) }
+        ensures ended { result.1.1 ≡ is_ended (mutex_guard_value result.0).conn.core.phase }
+        ensures past { IsFalse result.1.1 → seen < result.1.0 }
+    {
         let mut guard = self.locked.lock(rt);
         for _ in rt.forever() {
             self.move_units(&mut guard);
             if let Some(news) = guard.news(seen) {
-                return news;
+                return (guard, news);
             }
             guard.await_units(seen);
             guard = self.conditions.units.wait(rt, guard);
@@ -272,9 +277,23 @@ impl<N: Name> Shared<N> {
         unreachable!()
     }
 
+    /// Tells all who await what has come: units, and what the change may have brought, which is anything where the journal is full.
+    fn tell(&self, guard: &mut MutexGuard<'_, Locked<N>>, change: Change)
+        ensures conn { (mutex_guard_value guard.new).conn ≡ (mutex_guard_value guard.old).conn }
+        ensures told { IsTold change (mutex_guard_value guard.old) (mutex_guard_value guard.new) }
+    {
+        self.wake_writer(guard);
+        let change = if guard.is_at_limit() {
+            Change::Ends
+        } else {
+            change
+        };
+        self.wake_callers(guard, change);
+    }
+
     /// Wakes those that wait for units, where there are some now.
     fn wake_writer(&self, guard: &mut MutexGuard<'_, Locked<N>>)
-        ensures { mutex_guard_value guard.new ≡ mutex_guard_value guard.old }
+        ensures { mutex_guard_value guard.new ≡ record (mutex_guard_value guard.old) { waiters = told_of_units (mutex_guard_value guard.old).conn (mutex_guard_value guard.old).waiters } }
     {
         if guard.end_await_units() {
             self.conditions.units.notify_all();
@@ -283,7 +302,7 @@ impl<N: Name> Shared<N> {
 
     /// Wakes callers who wait for what the change may have brought.
     fn wake_callers(&self, guard: &mut MutexGuard<'_, Locked<N>>, change: Change)
-        ensures { mutex_guard_value guard.new ≡ mutex_guard_value guard.old }
+        ensures { mutex_guard_value guard.new ≡ record (mutex_guard_value guard.old) { waiters = told_of change (mutex_guard_value guard.old).waiters } }
     {
         match change {
             Change::Nothing => {}
@@ -296,8 +315,9 @@ impl<N: Name> Shared<N> {
         }
     }
 
+    /// The one place in which callers are woken: where some wait for this, and none do any more.
     fn wake(&self, guard: &mut MutexGuard<'_, Locked<N>>, want: Want)
-        ensures { mutex_guard_value guard.new ≡ mutex_guard_value guard.old }
+        ensures { mutex_guard_value guard.new ≡ record (mutex_guard_value guard.old) { waiters = with_want want false (mutex_guard_value guard.old).waiters } }
     {
         if guard.end_wait_for(want) {
             self.conditions.of(want).notify_all();

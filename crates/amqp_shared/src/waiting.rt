@@ -1,7 +1,10 @@
 //! What threads wait for, and what may bring it.
+ghost use Rattle.std.specs.Prelude.{◌≡◌, ◌-◌, length, slice_get, Ok};
+ghost use Rattle.amqp_shared.specs.Waking.{with_want, waits_for, with_units, awaited_by, brought_by_op, brought_by_feed, brought_in, brought_by, brought_by_step, brought_by_frame, brought_by_body, is_ended};
+
 use amqp_conn::{Conn, ConnFault, Fed, Phase};
 use amqp_frames::{Frame, Performative};
-use amqp_laws::entry::Step;
+use amqp_laws::entry::{Entry, Step};
 use amqp_rules::op::Op;
 use amqp_rules::reply::Given;
 use std::sync::Condvar;
@@ -56,50 +59,77 @@ impl Conditions {
     }
 }
 
-/// For what some caller waits.
+/// Who waits for what.
 #[derive(Clone, Copy)]
-pub(crate) struct Callers {
-    room: bool,
-    delivery: bool,
-    outcome: bool,
+pub(crate) struct Waiters {
+    /// The least number past which units are awaited; none where no thread awaits units.
+    pub(crate) units: Option<u64>,
+    /// Some caller waits for credit or a window.
+    pub(crate) room: bool,
+    /// Some caller waits for a delivery.
+    pub(crate) delivery: bool,
+    /// Some caller waits for what the peer tells of a delivery.
+    pub(crate) outcome: bool,
 }
 
-impl Callers {
-    pub(crate) const NONE: Callers = Callers {
+impl Waiters {
+    pub(crate) const NONE: Waiters = Waiters {
+        units: None,
         room: false,
         delivery: false,
         outcome: false,
     };
 
     /// The same but for this.
-    pub(crate) fn set(self, want: Want, waits: bool) -> Callers {
+    pub(crate) fn set(self, want: Want, waits: bool) -> Waiters
+        ensures { result ≡ with_want want waits self }
+    {
         match want {
-            Want::Room => Callers {
+            Want::Room => Waiters {
                 room: waits,
                 ..self
             },
-            Want::Delivery => Callers {
+            Want::Delivery => Waiters {
                 delivery: waits,
                 ..self
             },
-            Want::Outcome => Callers {
+            Want::Outcome => Waiters {
                 outcome: waits,
                 ..self
             },
         }
     }
 
-    pub(crate) fn wait_for(self, want: Want) -> bool {
+    /// Whether some caller waits for this.
+    pub(crate) fn wait_for(self, want: Want) -> bool
+        ensures { result ≡ waits_for want self }
+    {
         match want {
             Want::Room => self.room,
             Want::Delivery => self.delivery,
             Want::Outcome => self.outcome,
         }
     }
+
+    /// The same, where units past this number are awaited too.
+    pub(crate) fn with_units(self, seen: u64) -> Waiters
+        ensures { result ≡ with_units seen self }
+    {
+        let least = match self.units {
+            Some(least) if least <= seen => least,
+            _ => seen,
+        };
+        Waiters {
+            units: Some(least),
+            ..self
+        }
+    }
 }
 
 /// What is awaited where an operation finds nothing: taking awaits a delivery, learning what the peer tells of one.
-pub(crate) fn awaited_by(op: &Op) -> Want {
+pub(crate) fn awaited_by(op: &Op) -> Want
+    ensures { result ≡ awaited_by op.now }
+{
     match op {
         Op::Learn { .. } => Want::Outcome,
         _ => Want::Delivery,
@@ -108,7 +138,9 @@ pub(crate) fn awaited_by(op: &Op) -> Want {
 
 /// What an operation may bring to others who wait: its link or its session is gone. No other one brings anything to who waits already: credit, a
 /// window, a delivery and an outcome come from the peer.
-pub(crate) fn brought_by(op: &Op) -> Change {
+pub(crate) fn brought_by(op: &Op) -> Change
+    ensures { result ≡ brought_by_op op.now }
+{
     match op {
         Op::Detach { .. } | Op::End { .. } => Change::Ends,
         Op::Begin
@@ -128,42 +160,81 @@ pub(crate) fn brought_by(op: &Op) -> Change {
 }
 
 /// What octets that were fed may have brought.
-pub(crate) fn brought(conn: &Conn, answer: &Result<Fed, ConnFault>) -> Change {
+pub(crate) fn brought(conn: &Conn, answer: &Result<Fed, ConnFault>) -> Change
+    ensures { result ≡ brought_by_feed conn.now answer.now }
+{
     match answer {
-        Ok(fed) => {
-            if fed.stepped {
-                stepped(conn, &fed.given)
-            } else if conn.phase() == Phase::Closed {
-                Change::Ends
-            } else {
-                Change::Nothing
-            }
-        }
+        Ok(fed) => of_fed(conn, fed),
         Err(ConnFault::NoMemory) => Change::Nothing,
         Err(_) => Change::Ends,
     }
 }
 
-/// What the step of a feed may have brought, which gave this.
-fn stepped(conn: &Conn, given: &Given) -> Change {
-    if let Given::Ready(_, _) = given {
-        return Change::Brings(Want::Delivery);
+/// What they brought that were taken.
+fn of_fed(conn: &Conn, fed: &Fed) -> Change
+    ensures { result ≡ brought_by_feed conn.now (Ok fed.now) }
+{
+    if fed.stepped {
+        return stepped(conn.logged().journal(), &fed.given);
     }
-    match conn.logged().journal().last() {
-        Some(entry) => in_step(&entry.step),
+    if is_closed(conn) {
+        Change::Ends
+    } else {
+        Change::Nothing
+    }
+}
+
+/// The connection has ended.
+pub(crate) fn is_closed(conn: &Conn) -> bool
+    ensures { result ≡ is_ended conn.now.core.phase }
+{
+    match conn.phase() {
+        Phase::Closed => true,
+        Phase::AwaitHeader | Phase::AwaitOpen | Phase::Running | Phase::Closing => false,
+    }
+}
+
+/// What the journal's last step may have brought, which gave this.
+fn stepped(journal: &[Entry], given: &Given) -> Change
+    ensures { result ≡ brought_in (slice_get journal.now (length journal.now - 1)) given.now }
+{
+    match journal.last() {
+        Some(entry) => by_step(&entry.step, given),
         None => Change::Nothing,
     }
 }
 
-/// An open may bring anything; an operation of a feed's own answers a violation, and ends a link or the session.
-fn in_step(step: &Step) -> Change {
-    match step {
-        Step::Heard(frame) => in_frame(frame.get()),
-        Step::Opened(_) | Step::Own(_) => Change::Ends,
+/// A step by which a delivery becomes ready brings one.
+fn by_step(step: &Step, given: &Given) -> Change
+    ensures { result ≡ brought_by step.now given.now }
+{
+    match given {
+        Given::Ready(_, _) => Change::Brings(Want::Delivery),
+        Given::Link(_)
+        | Given::Offered(_)
+        | Given::Attached(_)
+        | Given::Gone(_)
+        | Given::Delivery(_)
+        | Given::Taken(_)
+        | Given::Learned(_)
+        | Given::Nothing => in_step(step),
     }
 }
 
-fn in_frame(frame: &Frame) -> Change {
+/// An open may bring anything.
+fn in_step(step: &Step) -> Change
+    ensures { result ≡ brought_by_step step.now }
+{
+    match step {
+        Step::Heard(frame) => in_frame(frame.get()),
+        Step::Own(op) => brought_by(op),
+        Step::Opened(_) => Change::Ends,
+    }
+}
+
+fn in_frame(frame: &Frame) -> Change
+    ensures { result ≡ brought_by_frame frame.now.body }
+{
     match &frame.body {
         Some(body) => in_body(body),
         None => Change::Nothing,
@@ -172,7 +243,9 @@ fn in_frame(frame: &Frame) -> Change {
 
 /// A flow gives credit and windows (part 2, 2.5.6 and 2.6.7), a disposition tells outcomes (part 2, 2.7.6). A transfer by which no delivery
 /// becomes ready brings nothing.
-fn in_body(body: &Performative) -> Change {
+fn in_body(body: &Performative) -> Change
+    ensures { result ≡ brought_by_body body.now }
+{
     match body {
         Performative::Flow(_) => Change::Brings(Want::Room),
         Performative::Transfer(_) => Change::Nothing,

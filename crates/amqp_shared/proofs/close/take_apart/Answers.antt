@@ -6,6 +6,7 @@ use Rattle.amqp_conn.specs.Connection.{Connection}
 use Rattle.amqp_journal.specs.Log.{Log}
 use Rattle.amqp_shared.proofs.Numbering.{taken-length, waiting-none}
 use Rattle.amqp_shared.specs.Units.{units_of, backlog_of, unmoved}
+use Rattle.amqp_shared.specs.Waking.{Held}
 use Rattle.amqp_shared.proofs.close.take_apart.Goals as goal
 
 pub returns-clause-units : goal.returns-clause-units
@@ -32,7 +33,7 @@ empty_backlog-requires g c =
     let ring = b.value in
     let out = c.put_out.ensures.count ∙ ap (λ (l : Log). length (units l)) c.logged.ensures in
     let room = c.requires.room in
-    let whole : length (units c.args.locked.core.log) ≡ length (units log) = ap (λ (x : Connection). length (units x.core.log)) (sym c.locked.view_is) in
+    let whole : length (units c.args.locked.conn.core.log) ≡ length (units log) = ap (λ (x : Held). length (units x.conn.core.log)) (sym c.locked.view_is) in
     let writer : length c.args.writer ≡ length past = ap length (sym c.writer.view_is ∙ sym b.looked.1) in
     let filled : vec_len c.empty_ring.new.left ≡ length c.empty_ring.new.left.items = search rules in
     let many = ap length c.empty_ring.ensures.items ∙ length-append c.args.left.items known in
@@ -43,9 +44,9 @@ empty_backlog-requires g c =
 pub returns-clause-conn : goal.returns-clause-conn
 returns-clause-conn g c =
     let new = c.empty_backlog.new.conn in
-    let rest = subst (λ (x : Connection). unmoved x new ≡ x) c.locked.view_is c.empty_backlog.ensures.conn in
+    let rest = subst (λ (x : Held). unmoved x.conn new ≡ x.conn) c.locked.view_is c.empty_backlog.ensures.conn in
     let same = ap (λ (x : Connection). length (units x.core.log)) c.empty_backlog.ensures.conn in
-    let old = ap (λ (x : Connection). x.core.log.popped) c.locked.view_is in
+    let old = ap (λ (x : Held). x.conn.core.log.popped) c.locked.view_is in
     let some = c.locked.invariant.no_more_moved in
     let all = c.empty_backlog.ensures.all in
     record { rest = rest; more = omega (arith, same, old, some, all) }

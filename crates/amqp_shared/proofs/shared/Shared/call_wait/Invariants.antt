@@ -7,5 +7,5 @@ use Rattle.amqp_shared.proofs.shared.Shared.call_wait.Given as goal
 abbrev pub invariant-loop : goal.invariant-loop
 invariant-loop g l =
     (l.pass ≡ l.initial.pass)
-    × (IsDueAtOnce (due_in (mutex_guard_value l.initial.guard).core.phase (mutex_guard_value l.initial.guard).core.log l.fn.op)
-    → mutex_guard_value l.guard ≡ mutex_guard_value l.initial.guard)
+    × (IsDueAtOnce (due_in (mutex_guard_value l.initial.guard).conn.core.phase (mutex_guard_value l.initial.guard).conn.core.log l.fn.op)
+    → (mutex_guard_value l.guard).conn ≡ (mutex_guard_value l.initial.guard).conn)

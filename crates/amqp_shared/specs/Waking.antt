@@ -1,0 +1,130 @@
+-- What a step may make possible for those who wait, and who is told of it. A caller waits for credit or a window, for a delivery, or for what the peer
+-- tells of a delivery; a writer waits for units.
+use Rattle.std.specs.Prelude.{ℕ, ◌≡◌, ◌-◌, ◌||◌, Bool, true, false, cond, nat_le, nat_lt, Option, Some, None, Result, Ok, Err, List, length, slice_get}
+use Rattle.amqp_performatives.specs.declared.performative.Performative.{Performative}
+use Rattle.amqp_performatives.specs.declared.performative.Performative.TheVariants as says
+use Rattle.amqp_rules.specs.declared.op.Op.{Op}
+use Rattle.amqp_rules.specs.declared.op.Op.TheVariants as op
+use Rattle.amqp_rules.specs.declared.reply.Given.{Given}
+use Rattle.amqp_rules.specs.declared.reply.Given.TheVariants as given
+use Rattle.amqp_laws.specs.declared.entry.Entry.{Entry}
+use Rattle.amqp_laws.specs.declared.entry.Step.{Step}
+use Rattle.amqp_laws.specs.declared.entry.Step.TheVariants.{Opened, Own, Heard}
+use Rattle.amqp_journal.specs.Units.{units}
+use Rattle.amqp_conn.specs.declared.phase.Phase.{Phase}
+use Rattle.amqp_conn.specs.declared.phase.Phase.TheVariants as phase
+use Rattle.amqp_conn.specs.declared.fault.ConnFault.{ConnFault}
+use Rattle.amqp_conn.specs.declared.fault.ConnFault.TheVariants as fault
+use Rattle.amqp_conn.specs.declared.fed.Fed.{Fed}
+use Rattle.amqp_conn.specs.Connection.{Connection}
+use Rattle.amqp_shared.specs.declared.waiting.Want.{Want}
+use Rattle.amqp_shared.specs.declared.waiting.Want.TheVariants.{Room, Delivery, Outcome}
+use Rattle.amqp_shared.specs.declared.waiting.Change.{Change}
+use Rattle.amqp_shared.specs.declared.waiting.Change.TheVariants.{Nothing, Brings, Ends}
+use Rattle.amqp_shared.specs.declared.waiting.Waiters.{Waiters}
+
+-- what lies under the lock: the connection, and who waits for what
+pub record Held : Type 0 where
+  pub conn : Connection
+  pub waiters : Waiters
+
+-- # What a step may bring
+
+-- Of our operations, a detach (part 2, 2.6.6) and an end (part 2, 2.5.2) end a link or all of them: what is awaited there does not come any more. No
+-- other one brings anything to who waits: credit, a window, a delivery and an outcome come from the peer.
+abbrev pub brought_by_op : Op → Change
+brought_by_op (op.Detach link error) = Ends
+brought_by_op (op.End error) = Ends
+brought_by_op _ = Nothing
+
+-- Of what the peer says, a flow gives credit and windows (part 2, 2.6.7 and 2.5.6), and a disposition tells of deliveries (part 2, 2.7.6). A transfer brings
+-- a delivery only where one becomes ready by it. All others begin or end what is waited on.
+abbrev pub brought_by_body : Performative → Change
+brought_by_body (says.Flow body) = Brings Room
+brought_by_body (says.Disposition body) = Brings Outcome
+brought_by_body (says.Transfer body) = Nothing
+brought_by_body _ = Ends
+
+-- an empty frame says nothing (part 2, 2.4.5)
+abbrev pub brought_by_frame : Option Performative → Change
+brought_by_frame None = Nothing
+brought_by_frame (Some body) = brought_by_body body
+
+abbrev pub brought_by_step : Step → Change
+brought_by_step (Opened max) = Ends
+brought_by_step (Own o) = brought_by_op o
+brought_by_step (Heard f) = brought_by_frame f.body
+
+-- a step by which a delivery becomes ready brings one
+abbrev pub brought_by : Step → Given → Change
+brought_by step (given.Ready link id) = Brings Delivery
+brought_by step _ = brought_by_step step
+
+abbrev pub brought_in : Option Entry → Given → Change
+brought_in None gives = Nothing
+brought_in (Some e) gives = brought_by e.step gives
+
+abbrev pub is_ended : Phase → Bool
+is_ended phase.Closed = true
+is_ended _ = false
+
+-- Octets bring what their step does. The peer's close and a fault end all; want of memory has changed nothing.
+abbrev pub brought_by_feed : Connection → Result Fed ConnFault → Change
+brought_by_feed c (Ok fed) =
+    cond fed.stepped (brought_in (slice_get c.core.log.journal (length c.core.log.journal - 1)) fed.given) (cond (is_ended c.core.phase) Ends Nothing)
+brought_by_feed c (Err fault.NoMemory) = Nothing
+brought_by_feed c (Err _) = Ends
+
+-- a full journal refuses all that comes
+abbrev pub is_full : Connection → Bool
+is_full c = nat_le c.core.log.config.journal_limit (length c.core.log.journal)
+
+abbrev pub brought : Connection → Change → Change
+brought c change = cond (is_full c) Ends change
+
+-- # What is awaited
+
+-- where an operation finds nothing: learning awaits what the peer tells of a delivery, taking a delivery
+abbrev pub awaited_by : Op → Want
+awaited_by (op.Learn link) = Outcome
+awaited_by _ = Delivery
+
+abbrev pub waits_for : Want → Waiters → Bool
+waits_for Room w = w.room
+waits_for Delivery w = w.delivery
+waits_for Outcome w = w.outcome
+
+-- whether a caller waits for this, and all else as before
+abbrev pub with_want : Want → Bool → Waiters → Waiters
+with_want Room waits w = record w { room = waits }
+with_want Delivery waits w = record w { delivery = waits }
+with_want Outcome waits w = record w { outcome = waits }
+
+abbrev pub least_awaited : Option ℕ → ℕ → ℕ
+least_awaited None seen = seen
+least_awaited (Some least) seen = cond (nat_le least seen) least seen
+
+-- units past this number are awaited too: the least number of all who wait stands for them
+abbrev pub with_units : ℕ → Waiters → Waiters
+with_units seen w = record w { units = Some (least_awaited w.units seen) }
+
+-- # Who is told
+
+-- there are more units than somebody awaits, or there will be none
+abbrev pub units_came : Connection → Option ℕ → Bool
+units_came c None = false
+units_came c (Some seen) = nat_lt seen (length (units c.core.log)) || is_ended c.core.phase
+
+-- those who wait for units are told where there are some
+abbrev pub told_of_units : Connection → Waiters → Waiters
+told_of_units c w = cond (units_came c w.units) (record w { units = None }) w
+
+-- those who wait for what the change may bring are told, and no other
+abbrev pub told_of : Change → Waiters → Waiters
+told_of Nothing w = w
+told_of (Brings want) w = with_want want false w
+told_of Ends w = record w { room = false; delivery = false; outcome = false }
+
+-- whoever awaits what this change brought is told, and nobody else: who was told awaits nothing any more
+abbrev pub IsTold : Change → Held → Held → Type 0
+IsTold change old new = new.waiters ≡ told_of (brought new.conn change) (told_of_units new.conn old.waiters)
