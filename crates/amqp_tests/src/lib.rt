@@ -9,6 +9,7 @@
 //! | `decoder` | performatives in front of octets |
 //! | `frames` | frames written and read, however they are cut |
 //! | `deliveries` | unsettled deliveries, and deliveries that are cut over transfers |
+//! | `messages` | sections of messages |
 //! | `conn` | a whole connection |
 //! | `script`, `driven` | an endpoint and a connection that lines drive |
 #![tactic(auto)]
@@ -25,6 +26,8 @@ mod driven;
 mod flow;
 #[cfg(test)]
 mod frames;
+#[cfg(test)]
+mod messages;
 #[cfg(test)]
 mod performatives;
 #[cfg(test)]
