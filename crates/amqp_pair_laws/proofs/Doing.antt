@@ -15,7 +15,7 @@ use Rattle.amqp_rules.specs.declared.reply.Reply.{Reply}
 use Rattle.amqp_rules.specs.declared.reply.Given.TheVariants as given
 use Rattle.amqp_rules.specs.declared.violation.Violation.{Violation}
 use Rattle.amqp_rules.specs.declared.violation.ViolationKind.TheVariants.{OutOfSession, BadHandle}
-use Rattle.amqp_rules.specs.View.{EndView, LinkView, View, handle_of, has_name, has_number, has_peer_handle, holds, is_attached, is_asked_as, is_offered_as, is_offered, is_asked, is_ours, is_over, is_theirs, new_link, opposite, remove_first, same_role, takes_frames}
+use Rattle.amqp_rules.specs.View.{EndView, LinkView, View, handle_of, has_name, has_number, has_peer_handle, holds, is_attached, is_asked_as, is_offered_as, is_offered, is_asked, is_mapped, is_ours, is_over, is_theirs, new_link, opposite, remove_first, same_role, takes_frames}
 use Rattle.amqp_rules.specs.Refusing.{first_refusal, if_there, unlinked}
 use Rattle.amqp_rules.specs.Opened.{no_reply}
 use Rattle.amqp_rules.specs.Sending.{frame_of, reply_ending, sends_ending}
@@ -94,9 +94,9 @@ IsApart role name v (Some f) = IsApartIn role name v f.body
 -- by the links before and after
 pub data Doing (role : Role) (name : List ℕ) (v after' : View) (act : Act EndView) (sent : Option Frame) : Type 0 where
   idles : act ≡ idle → (is_over after'.session ≡ false → slot_of role name after'.links ≡ slot_of role name v.links) → IsApart role name v sent → Doing role name v after' act sent
-  asking : (b : AttachBody) (f : Frame) → act ≡ asks (end_of b) → sent ≡ Some f → f.body ≡ Some (heard.Attach b) → same_role role b.role && pointwise nat_eq name b.name ≡ true
+  asking : (b : AttachBody) (f : Frame) → takes_frames v.session ≡ true → act ≡ asks (end_of b) → sent ≡ Some f → f.body ≡ Some (heard.Attach b) → same_role role b.role && pointwise nat_eq name b.name ≡ true
       → (slot_of role name v.links).ours ≡ None → slot_of role name after'.links ≡ after (asks (end_of b)) (slot_of role name v.links) → Doing role name v after' act sent
-  meeting : (b : AttachBody) → act ≡ meets (end_of b) → sent ≡ None → (slot_of role name v.links).theirs ≡ None
+  meeting : (b : AttachBody) → takes_frames v.session ≡ true → act ≡ meets (end_of b) → sent ≡ None → (slot_of role name v.links).theirs ≡ None
       → slot_of role name after'.links ≡ after (meets (end_of b)) (slot_of role name v.links) → Doing role name v after' act sent
   leaving : (l : LinkView) (f : Frame) (d : DetachBody) → act ≡ leaves → sent ≡ Some f → f.body ≡ Some (heard.Detach d) → d.handle ≡ handle_of l.ours → slot_of role name v.links ≡ shape (Some l)
       → find (has_name role name) v.links ≡ Some l → is_attached l ≡ true → slot_of role name after'.links ≡ after leaves (slot_of role name v.links) → Doing role name v after' act sent
@@ -197,13 +197,14 @@ attach-does role name v a reply h s =
     let f = frame_of (Some (heard.Attach b)) [] in
     let sent : frame_among reply.sent ≡ Some f = ap (λ (r : Reply). frame_among r.sent) (sym k.replies) in
     let free : is_some (find (is_ours a.role a.name) v.links) ≡ false = k.none_holds.1.0 in
+    let takes : takes_frames v.session ≡ true = (and-both v.session.begin_sent (takes_frames v.session) (not-false (is_mapped v.session) k.none_holds.0)).1 in
     subst (λ (o : Option Frame). Doing role name v (next_attach v a) (asks_of role name o) o) (sym sent)
     (by-bool (same_role role a.role && pointwise nat_eq name a.name)
     (λ (t : same_role role a.role && pointwise nat_eq name a.name ≡ true).
     let both = and-both (same_role role a.role) (pointwise nat_eq name a.name) t in
     let r : role ≡ a.role = role-same role a.role both.0 in
     let n : name ≡ a.name = texts-same name a.name both.1 in
-    asking b f (rw t refl) refl refl t (rw (r, n) (free-ours v a.role a.name free (find (has_name a.role a.name) v.links) refl)) (rw (r, n) (attach-joins v a s free)))
+    asking b f takes (rw t refl) refl refl t (rw (r, n) (free-ours v a.role a.name free (find (has_name a.role a.name) v.links) refl)) (rw (r, n) (attach-joins v a s free)))
     (λ (d : same_role role a.role && pointwise nat_eq name a.name ≡ false).
     idles (rw d refl)
     (λ o. ap shape (joined-other v (is_offered_as a.role a.name) a.role a.name role name (attached_by_us b) (us-keeps b) (λ l h. (and-both (has_name a.role a.name l) (is_offered l) h).0) d))
@@ -230,6 +231,7 @@ attach-heard-does role name v b reply h s =
     let k = answered_Ok (first_refusal (attach_violations v b)) (attach_heard_reply v b) reply h in
     let rows = no_refusal (attach_violations v b) k.none in
     let free : is_some (find (is_theirs (opposite b.role) b.name) v.links) ≡ false = rows.1.1.0 in
+    let takes : takes_frames v.session ≡ true = not-false (takes_frames v.session) rows.0 in
     let sent : frame_among reply.sent ≡ None = ap (λ (r : Reply). frame_among r.sent) (sym k.replies) in
     subst (λ (o : Option Frame). Doing role name v (next_attach_heard v b) (body_act role name v (Some (heard.Attach b))) o) (sym sent)
     (by-bool (same_role role (opposite b.role) && pointwise nat_eq name b.name)
@@ -237,7 +239,7 @@ attach-heard-does role name v b reply h s =
     let both = and-both (same_role role (opposite b.role)) (pointwise nat_eq name b.name) t in
     let r : role ≡ opposite b.role = role-same role (opposite b.role) both.0 in
     let n : name ≡ b.name = texts-same name b.name both.1 in
-    meeting b (rw t refl) refl (rw (r, n) (free-theirs v (opposite b.role) b.name free (find (has_name (opposite b.role) b.name) v.links) refl)) (rw (r, n) (met-joins v b s free)))
+    meeting b takes (rw t refl) refl (rw (r, n) (free-theirs v (opposite b.role) b.name free (find (has_name (opposite b.role) b.name) v.links) refl)) (rw (r, n) (met-joins v b s free)))
     (λ (d : same_role role (opposite b.role) && pointwise nat_eq name b.name ≡ false).
     idles (rw d refl)
     (λ o. ap shape (joined-other v (is_asked_as (opposite b.role) b.name) (opposite b.role) b.name role name (attached_by_peer b) (peer-keeps b) (λ l h. (and-both (has_name (opposite b.role) b.name l) (is_asked l) h).0) d))

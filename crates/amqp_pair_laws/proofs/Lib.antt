@@ -25,3 +25,4 @@ pub mod DispositionTaken
 pub mod FlowTaken
 pub mod SessionTaken
 pub mod AttachTaken
+pub mod DetachTaken

@@ -20,6 +20,8 @@ use Rattle.amqp_rules.proofs.Listed.{by-bool}
 use Rattle.amqp_laws.specs.declared.entry.Entry.{Entry}
 use Rattle.amqp_laws.specs.declared.entry.Step.{Step}
 use Rattle.amqp_laws.specs.declared.entry.Step.TheVariants.{Opened, Own, Heard}
+use Rattle.amqp_laws.specs.Past.{some_entry}
+use Rattle.amqp_laws.specs.Said.{hears_begin}
 use Rattle.amqp_laws.specs.Live.{live}
 use Rattle.amqp_laws.specs.Session.{session_at}
 use Rattle.amqp_laws.specs.At.{at}
@@ -42,8 +44,8 @@ use Rattle.amqp_pair_laws.proofs.Windows.{lives-goes, or-none}
 does-after : (role : Role) (name : List ℕ) (v after' : View) (act : Act EndView) (sent : Option Frame) → Doing role name v after' act sent → is_over after'.session ≡ false
     → slot_of role name after'.links ≡ after act (slot_of role name v.links)
 does-after role name v after' act sent (idles is same apart) o = rw is (same o)
-does-after role name v after' act sent (asking b f is s body n free to) o = rw is to
-does-after role name v after' act sent (meeting b is s free to) o = rw is to
+does-after role name v after' act sent (asking b f takes is s body n free to) o = rw is to
+does-after role name v after' act sent (meeting b takes is s free to) o = rw is to
 does-after role name v after' act sent (leaving l f d is s body h at' there attached' to) o = rw is to
 does-after role name v after' act sent (going l d is s h at' there theirs to) o = rw is to
 
@@ -57,23 +59,23 @@ IsFree goes s = Unit {0}
 
 does-free : (role : Role) (name : List ℕ) (v after' : View) (act : Act EndView) (sent : Option Frame) → Doing role name v after' act sent → IsFree act (slot_of role name v.links)
 does-free role name v after' act sent (idles is same apart) = subst (λ (a : Act EndView). IsFree a (slot_of role name v.links)) (sym is) tt
-does-free role name v after' act sent (asking b f is s body n free to) = subst (λ (a : Act EndView). IsFree a (slot_of role name v.links)) (sym is) free
-does-free role name v after' act sent (meeting b is s free to) = subst (λ (a : Act EndView). IsFree a (slot_of role name v.links)) (sym is) free
+does-free role name v after' act sent (asking b f takes is s body n free to) = subst (λ (a : Act EndView). IsFree a (slot_of role name v.links)) (sym is) free
+does-free role name v after' act sent (meeting b takes is s free to) = subst (λ (a : Act EndView). IsFree a (slot_of role name v.links)) (sym is) free
 does-free role name v after' act sent (leaving l f d is s body h at' there attached' to) =
     subst (λ (a : Act EndView). IsFree a (slot_of role name v.links)) (sym is) (ap (λ (s : Slot EndView). attached s) at' ∙ attached')
 does-free role name v after' act sent (going l d is s h at' there theirs to) = subst (λ (a : Act EndView). IsFree a (slot_of role name v.links)) (sym is) tt
 
 does-gone : (role : Role) (name : List ℕ) (v after' : View) (act : Act EndView) (sent : Option Frame) → Doing role name v after' act sent → act ≡ goes → is_some (slot_of role name v.links).theirs ≡ true
 does-gone role name v after' act sent (idles is same apart) g = absurd (cc (is, g))
-does-gone role name v after' act sent (asking b f is s body n free to) g = absurd (cc (is, g))
-does-gone role name v after' act sent (meeting b is s free to) g = absurd (cc (is, g))
+does-gone role name v after' act sent (asking b f takes is s body n free to) g = absurd (cc (is, g))
+does-gone role name v after' act sent (meeting b takes is s free to) g = absurd (cc (is, g))
 does-gone role name v after' act sent (leaving l f d is s body h at' there attached' to) g = absurd (cc (is, g))
 does-gone role name v after' act sent (going l d is s h at' there theirs to) g = ap (λ (s : Slot EndView). is_some s.theirs) at' ∙ theirs
 
 does-silent : (role : Role) (name : List ℕ) (v after' : View) (act : Act EndView) (sent : Option Frame) → Doing role name v after' act sent → sent ≡ None → tells act (slot_of role name v.links) ≡ None
 does-silent role name v after' act sent (idles is same apart) none = rw is refl
-does-silent role name v after' act sent (asking b f is s body n free to) none = absurd (cc (s, none))
-does-silent role name v after' act sent (meeting b is s free to) none = rw is refl
+does-silent role name v after' act sent (asking b f takes is s body n free to) none = absurd (cc (s, none))
+does-silent role name v after' act sent (meeting b takes is s free to) none = rw is refl
 does-silent role name v after' act sent (leaving l f d is s body h at' there attached' to) none = absurd (cc (s, none))
 does-silent role name v after' act sent (going l d is s h at' there theirs to) none =
     by-bool (is_attached l)
@@ -117,28 +119,28 @@ well-after goes s f w = refl
 
 -- # One journal
 
-abbrev st : Role × List ℕ → Config → List Entry → Slot EndView
+abbrev pub st : Role × List ℕ → Config → List Entry → Slot EndView
 st i c past = slot_of i.0 i.1 (at c past).links
 
-abbrev act : Role × List ℕ → Config → Entry → List Entry → Act EndView
+abbrev pub act : Role × List ℕ → Config → Entry → List Entry → Act EndView
 act i c e past = step_act i.0 i.1 (at c past) e.step (sends e)
 
 -- the slots of the two ends that are one: of one name, and of opposite roles
 abbrev Meets : Role × List ℕ → Role × List ℕ → Type 0
 Meets i j = (j.0 ≡ opposite i.0) × (j.1 ≡ i.1)
 
-abbrev Lives : List Entry → Type 0
+abbrev pub Lives : List Entry → Type 0
 Lives past = is_over (session_at (live past)) ≡ false
 
-abbrev AllFair : Config → List Entry → Type 0
+abbrev pub AllFair : Config → List Entry → Type 0
 AllFair = lag.AllFair sends hears IsFair
 
-record OneMore (i : Role × List ℕ) (c : Config) (e : Entry) (past : List Entry) : Type 0 where
-  sound : IsSound (at c past)
-  goes_on : at c (e ∷ past) ≡ next (at c past) e.step
-  does : Doing i.0 i.1 (at c past) (next (at c past) e.step) (act i c e past) (sends e)
+pub record OneMore (i : Role × List ℕ) (c : Config) (e : Entry) (past : List Entry) : Type 0 where
+  pub sound : IsSound (at c past)
+  pub goes_on : at c (e ∷ past) ≡ next (at c past) e.step
+  pub does : Doing i.0 i.1 (at c past) (next (at c past) e.step) (act i c e past) (sends e)
 
-one-more : (i : Role × List ℕ) (c : Config) (e : Entry) (past : List Entry) → AllFair c (e ∷ past) → OneMore i c e past
+pub one-more : (i : Role × List ℕ) (c : Config) (e : Entry) (past : List Entry) → AllFair c (e ∷ past) → OneMore i c e past
 one-more i c e past h =
     let r = replayed-by c past h.0 in
     let few = few-by c past h.0 in
@@ -211,6 +213,64 @@ deaf-by role name v (Own (Detach link error)) sent none = by (is_some sent) (fin
     by true (Some k) = one (has_name role name k)
 deaf-by role name v (Own op) sent none = refl
 deaf-by role name v (Heard f) sent none = absurd (cc (none))
+
+-- # A peer's attach is heard only after its begin
+
+does-begun : (role : Role) (name : List ℕ) (v after' : View) (act : Act EndView) (sent : Option Frame) → Doing role name v after' act sent → v.session.begin_heard ≡ false
+    → (slot_of role name v.links).theirs ≡ None → (after act (slot_of role name v.links)).theirs ≡ None
+does-begun role name v after' act sent (idles is same apart) u none = rw is none
+does-begun role name v after' act sent (asking b f takes is s body n free to) u none = rw is none
+does-begun role name v after' act sent (meeting b takes is s free to) u none = let k = rw u at takes in absurd (cc (k))
+does-begun role name v after' act sent (leaving l f d is s body h at' there attached' to) u none = rw is none
+does-begun role name v after' act sent (going l d is s h at' there theirs to) u none = rw is refl
+
+pub begun-first : (i : Role × List ℕ) (c : Config) (past : List Entry) → AllFair c past → Lives past → (at c past).session.begin_heard ≡ false → (st i c past).theirs ≡ None
+begun-first i c [] h lives u = refl
+begun-first i c (e ∷ past) h lives u =
+    let m = one-more i c e past h in
+    let g = lives-goes e past lives in
+    let both = or-none (hears_begin e) (some_entry hears_begin (live past)) (ap (some_entry hears_begin) (sym g.is_live) ∙ u) in
+    let before = begun-first i c past h.0 g.lived both.1 in
+    ap (λ (s : Slot EndView). s.theirs) (goes-on i c e past h lives) ∙ does-begun i.0 i.1 (at c past) (next (at c past) e.step) (act i c e past) (sends e) m.does both.1 before
+
+-- # A detach comes from a link
+
+-- the link on which a detach was sent
+pub record DetachSent (v : View) (d : DetachBody) : Type 0 where
+  pub test : LinkView → Bool
+  pub link : LinkView
+  pub found : find test v.links ≡ Some link
+  pub handle : d.handle ≡ handle_of link.ours
+  pub attached : is_attached link ≡ true
+
+apart-detach : (role : Role) (name : List ℕ) (v : View) (o : Option Performative) (d : DetachBody) → IsApartIn role name v o → o ≡ Some (heard.Detach d) → DetachSent v d
+apart-detach role name v o d x is =
+    let y : IsOther role name v d = subst (λ (o : Option Performative). IsApartIn role name v o) is x in
+    record { test = y.test; link = y.link; found = y.found; handle = y.handle; attached = y.attached }
+
+same-detach : (a b : DetachBody) (o : Option Performative) → o ≡ Some (heard.Detach a) → o ≡ Some (heard.Detach b) → b.handle ≡ a.handle
+same-detach a b o e f = let x : ◌≡◌ {A = Option Performative} (Some (heard.Detach b)) (Some (heard.Detach a)) = sym f ∙ e in let y : b ≡ a = cc x in ap (λ (d : DetachBody). d.handle) y
+
+pub does-detach : (role : Role) (name : List ℕ) (v after' : View) (act : Act EndView) (f : Frame) (sent : Option Frame) (d : DetachBody) → Doing role name v after' act sent → sent ≡ Some f → f.body ≡ Some (heard.Detach d) → DetachSent v d
+does-detach role name v after' act f sent d (idles is same apart) e body =
+    apart-detach role name v f.body d (subst (λ (o : Option Frame). IsApart role name v o) e apart) body
+does-detach role name v after' act f sent d (asking b g takes is s body' n free to) e body =
+    let one : g ≡ f = (let x : ◌≡◌ {A = Option Frame} (Some g) (Some f) = sym s ∙ e in cc x) in
+    let here : f.body ≡ Some (heard.Attach b) = ap (λ (f : Frame). f.body) (sym one) ∙ body' in
+    absurd (cc (here, body))
+does-detach role name v after' act f sent d (meeting b takes is s free to) e body = absurd (cc (s, e))
+does-detach role name v after' act f sent d (leaving l g d' is s body' h at' there attached' to) e body =
+    let one : g ≡ f = (let x : ◌≡◌ {A = Option Frame} (Some g) (Some f) = sym s ∙ e in cc x) in
+    let here : f.body ≡ Some (heard.Detach d') = ap (λ (f : Frame). f.body) (sym one) ∙ body' in
+    record { test = has_name role name; link = l; found = there; handle = same-detach d' d f.body here body ∙ h; attached = attached' }
+does-detach role name v after' act f sent d (going l d' is s h at' there theirs to) e body =
+    by-bool (is_attached l)
+    (λ (t : is_attached l ≡ true).
+    let s' = rw t at s in
+    let one : frame_of (Some (heard.Detach d')) [] ≡ f = (let x : ◌≡◌ {A = Option Frame} (Some (frame_of (Some (heard.Detach d')) [])) (Some f) = sym s' ∙ e in cc x) in
+    let here : f.body ≡ Some (heard.Detach d') = ap (λ (f : Frame). f.body) (sym one) in
+    record { test = has_name role name; link = l; found = there; handle = same-detach d' d f.body here body ∙ h; attached = t })
+    (λ (u : is_attached l ≡ false). let s' = rw u at s in absurd (cc (s', e)))
 
 -- # A frame passes
 
@@ -330,12 +390,12 @@ does-pass : (role : Role) (name : List ℕ) (va vb after' : View) (act : Act End
 does-pass role name va vb after' act f sent (idles is same apart) e sa sb k =
     let here : IsApartIn role name va f.body = subst (λ (o : Option Frame). IsApart role name va o) e apart in
     rw is (apart-idle role name va vb f.body sa sb k here)
-does-pass role name va vb after' act f sent (asking b g is s body n free to) e sa sb k =
+does-pass role name va vb after' act f sent (asking b g takes is s body n free to) e sa sb k =
     let one : g ≡ f = (let x : ◌≡◌ {A = Option Frame} (Some g) (Some f) = sym s ∙ e in cc x) in
     let here : f.body ≡ Some (heard.Attach b) = ap (λ (f : Frame). f.body) (sym one) ∙ body in
     let o = opposite-same role b.role in
     rw (is, here, o, n) refl
-does-pass role name va vb after' act f sent (meeting b is s free to) e sa sb k = absurd (cc (s, e))
+does-pass role name va vb after' act f sent (meeting b takes is s free to) e sa sb k = absurd (cc (s, e))
 does-pass role name va vb after' act f sent (leaving l g d is s body h at' there attached' to) e sa sb k =
     let one : g ≡ f = (let x : ◌≡◌ {A = Option Frame} (Some g) (Some f) = sym s ∙ e in cc x) in
     let here : f.body ≡ Some (heard.Detach d) = ap (λ (f : Frame). f.body) (sym one) ∙ body in

@@ -40,3 +40,7 @@ IsSessionFlow _ = ⊥
 abbrev pub IsAttach : Option Performative → Type 0
 IsAttach (Some (heard.Attach b)) = Unit {0}
 IsAttach _ = ⊥
+
+abbrev pub IsDetach : Option Performative → Type 0
+IsDetach (Some (heard.Detach b)) = Unit {0}
+IsDetach _ = ⊥

@@ -10,7 +10,7 @@ ghost use Rattle.amqp_laws.specs.Live.{live};
 ghost use Rattle.amqp_laws.specs.At.{at};
 ghost use Rattle.amqp_pair_laws.specs.Premise.{ids_heard, ids_sent};
 ghost use Rattle.amqp_pair_laws.specs.World.{World, Tight};
-ghost use Rattle.amqp_pair_laws.specs.Taken.{AreTaken, IsNext, IsBegin, IsEnd, IsDisposition, IsSessionFlow, IsAttach};
+ghost use Rattle.amqp_pair_laws.specs.Taken.{AreTaken, IsNext, IsBegin, IsEnd, IsDisposition, IsSessionFlow, IsAttach, IsDetach};
 
 /// The laws of worlds; the crate's root says each in a sentence.
 pub fn laws()
@@ -19,6 +19,7 @@ pub fn laws()
     ensures disposition { AreTaken IsDisposition }
     ensures session_flow { AreTaken IsSessionFlow }
     ensures attach { AreTaken IsAttach }
+    ensures detach { AreTaken IsDetach }
     ensures window { (ca cb : Config) (n : ℕ) (a b : List Entry) (f : Frame) (t : TransferBody) → World ca cb n a b → IsNext f a b → f.body ≡ Some (Transfer t)
         → is_over (at cb b).session ≡ false → 0 < (at cb b).windows.incoming }
     ensures begun { (ca cb : Config) (n : ℕ) (a b : List Entry) → Tight ca cb n a b → (at cb b).session.begin_heard ≡ (at ca a).session.begin_sent }

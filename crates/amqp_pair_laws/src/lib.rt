@@ -9,12 +9,13 @@
 //! | `disposition` | nor is a disposition |
 //! | `session_flow` | nor is a flow that names no link |
 //! | `attach` | nor is an attach |
+//! | `detach` | nor is a detach |
 //! | `window` | a transfer that comes next finds the incoming window open |
 //! | `begun` | an end that has heard all that the other sent has heard its begin where it was sent |
 //! | `lives` | and where its session is not over, the other's is not over |
 //! | `ids` | and then it has heard first transfers of the same ids as the other sent, in the same order |
 //!
-//! Not stated here, and not proved: that detaches, transfers and flows of links are no violation, and what is taken and learnt.
+//! Not stated here, and not proved: that transfers and flows of links are no violation, and what is taken and learnt.
 #![tactic(auto)]
 
 pub mod laws;

@@ -1,3 +1,4 @@
+use Rattle.amqp_pair_laws.proofs.DetachTaken.{detaches-taken}
 use Rattle.amqp_pair_laws.proofs.AttachTaken.{attaches-taken}
 use Rattle.amqp_pair_laws.proofs.Opens.{window-is-open}
 use Rattle.amqp_pair_laws.proofs.Phases.{phases-known}
@@ -32,3 +33,6 @@ returns-clause-ids t = λ ca cb n a b w lives. ids-known ca cb n a b w lives
 
 pub returns-clause-attach : goal.returns-clause-attach
 returns-clause-attach t = λ ca cb n a b f w waits of. attaches-taken ca cb n a b f w waits of
+
+pub returns-clause-detach : goal.returns-clause-detach
+returns-clause-detach t = λ ca cb n a b f w waits of. detaches-taken ca cb n a b f w waits of
