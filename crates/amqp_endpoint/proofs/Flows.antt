@@ -21,13 +21,14 @@ use Rattle.amqp_rules.specs.View.{View, LinkView, is_attached, takes_frames, has
 use Rattle.amqp_endpoint.specs.declared.plan.Session.{Session}
 use Rattle.amqp_endpoint.specs.declared.plan.Plan.{Plan}
 use Rattle.amqp_endpoint.specs.Stores.{StoresView}
+use Rattle.amqp_endpoint.specs.declared.endpoint.flow.Flowing.{Flowing}
 use Rattle.amqp_endpoint.specs.Flowing.{session_ahead, session_after, windows_told_by, sends_echo, echo_plan}
-use Rattle.amqp_endpoint.specs.Plan.{AreShort, IsCounted, IsKept, Plans, flags_of, plan_reply, view_of}
+use Rattle.amqp_endpoint.specs.Plan.{AreShort, IsCounted, IsKept, IsPlan, flags_of, plan_reply, view_of}
 use Rattle.amqp_endpoint.proofs.Plans.{change-alike, short-found, shorter}
 use Rattle.amqp_endpoint.proofs.Rows.{expects-same}
 
 echo-reply : (v : View) (session : Session) (fate : Fate) (echo : Bool) (body : FlowBody)
-    → cond echo (reply_of (Some (Flow body)) [] given.Nothing) no_reply ≡ plan_reply (echo_plan session fate echo body) v
+    → cond echo (reply_of (Some (Flow body)) [] given.Nothing) no_reply ≡ plan_reply (echo_plan (record { session = session; fate = fate; echo = echo; body = body })) v
 echo-reply v session fate true body = refl
 echo-reply v session fate false body = refl
 
@@ -62,22 +63,19 @@ leaves-is : (k : ℕ) (s : Session) (st : StoresView) (b : FlowBody) (links : Li
     → next_flow (view_of k s st) b ≡ view_of (k + 1) (session_after b s) (record { links = record { made = st.links.made; list = links }; tables = st.tables })
 leaves-is k s st b links h = rw h refl
 
-planned-echo : (k : ℕ) (s : Session) (st : StoresView) (b : FlowBody) (f : Fate) (o : Option LinkView) (r : Result Plan Violation) → IsKept k s st
+planned-echo : (k : ℕ) (s : Session) (st : StoresView) (b : FlowBody) (f : Fate) (o : Option LinkView) (x : Flowing) → IsKept k s st
     → flow_answer (view_of k s st) b ≡ Ok (flow_reply (sends_echo s.begin_sent b) (session_after b s).windows o)
     → next_flow (view_of k s st) b ≡ view_of (k + 1) (session_after b s) (record { links = links_after f st.links; tables = st.tables })
     → IsFit f st.links → AreShort (k + 1) f
-    → MatchResult r
-    (λ p. p ≡ echo_plan (session_after b s) f (sends_echo s.begin_sent b) (echo_body (session_after b s).windows o))
-    (λ e. e ≡ no_memory)
-    → Plans no_memory (view_of k s st) (flow_answer (view_of k s st) b) (next_flow (view_of k s st) b) r
-planned-echo k s st b f o (Ok p) i due leaves fit short h =
+    → x ≡ record { session = session_after b s; fate = f; echo = sends_echo s.begin_sent b; body = echo_body (session_after b s).windows o }
+    → IsPlan {E = Violation} (view_of k s st) (flow_answer (view_of k s st) b) (next_flow (view_of k s st) b) (echo_plan x)
+planned-echo k s st b f o x i due leaves fit short h =
     rw h
     record {
-      due = rw due (ap (λ x. Ok x) (echo-reply (view_of k s st) (session_after b s) f (sends_echo s.begin_sent b) (echo_body (session_after b s).windows o)));
+      due = rw due (ap (λ y. Ok y) (echo-reply (view_of k s st) (session_after b s) f (sends_echo s.begin_sent b) (echo_body (session_after b s).windows o)));
       leaves = leaves;
       sound = record { fit = fit; short = short; counted = counted-after k s st b i; alone = tt };
     }
-planned-echo k s st b f o (Err e) i due leaves fit short h = inr (rw due refl, h)
 
 -- # A flow of the session alone
 
@@ -91,14 +89,12 @@ named-none o links h = rw h refl
 links-none : (b : FlowBody) (o : Option ℕ) (links : List LinkView) → o ≡ None → flow_links b o links ≡ links
 links-none b o links h = rw h refl
 
-pub session-flow-plan : (k : ℕ) (s : Session) (st : StoresView) (b : FlowBody) (r : Result Plan Violation) → IsKept k s st
+pub session-flow-plan : (k : ℕ) (s : Session) (st : StoresView) (b : FlowBody) (x : Flowing) → IsKept k s st
     → takes_frames (flags_of s) ≡ true → b.handle ≡ None → session_ahead s.begin_sent b s.windows ≡ false
-    → MatchResult r
-    (λ p. p ≡ echo_plan (session_after b s) Stay (sends_echo s.begin_sent b) (echo_body (session_after b s).windows None))
-    (λ e. e ≡ no_memory)
-    → Plans no_memory (view_of k s st) (flow_answer (view_of k s st) b) (next_flow (view_of k s st) b) r
-session-flow-plan k s st b r i takes names ahead h =
-    planned-echo k s st b Stay None r i
+    → x ≡ record { session = session_after b s; fate = Stay; echo = sends_echo s.begin_sent b; body = echo_body (session_after b s).windows None }
+    → IsPlan {E = Violation} (view_of k s st) (flow_answer (view_of k s st) b) (next_flow (view_of k s st) b) (echo_plan x)
+session-flow-plan k s st b x i takes names ahead h =
+    planned-echo k s st b Stay None x i
     (answer-is k s st b None takes (none-named b.handle b st.links.list refl names) ahead (named-none b.handle st.links.list names) refl)
     (leaves-is k s st b st.links.list (links-none b b.handle st.links.list names))
     tt tt h
@@ -145,16 +141,14 @@ passed-body w b l e = rw (left-stays b l e, left-not_attached l e) refl
 passed-behind : (b : FlowBody) (l : LinkView) → l.left ≡ true → is_ahead_of_link b (Some l) ≡ false
 passed-behind b l e = rw (left-not_attached l e) refl
 
-pub passed-flow-plan : (k h : ℕ) (s : Session) (st : StoresView) (b : FlowBody) (l : LinkView) (r : Result Plan Violation) → IsKept k s st
+pub passed-flow-plan : (k h : ℕ) (s : Session) (st : StoresView) (b : FlowBody) (l : LinkView) (x : Flowing) → IsKept k s st
     → takes_frames (flags_of s) ≡ true → b.handle ≡ Some h → IsFirst (has_peer_handle h) st.links.list l → l.left ≡ true → session_ahead s.begin_sent b s.windows ≡ false
-    → MatchResult r
-    (λ p. p ≡ echo_plan (session_after b s) Stay (sends_echo s.begin_sent b) (echo_body (session_after b s).windows None))
-    (λ e. e ≡ no_memory)
-    → Plans no_memory (view_of k s st) (flow_answer (view_of k s st) b) (next_flow (view_of k s st) b) r
-passed-flow-plan k h s st b l r i takes names called left ahead m =
-    planned-echo k s st b Stay (Some (flow_link b l)) r i
+    → x ≡ record { session = session_after b s; fate = Stay; echo = sends_echo s.begin_sent b; body = echo_body (session_after b s).windows None }
+    → IsPlan {E = Violation} (view_of k s st) (flow_answer (view_of k s st) b) (next_flow (view_of k s st) b) (echo_plan x)
+passed-flow-plan k h s st b l x i takes names called left ahead m =
+    planned-echo k s st b Stay (Some (flow_link b l)) x i
     (answer-is k s st b (Some l) takes (no-other b h st.links.list l names called) ahead (named-is b.handle h st.links.list l names called) (passed-behind b l left))
-    (leaves-is k s st b st.links.list (links-are b b.handle h st.links.list l (λ x. x) names called (left-stays b l left) ∙ stays-first (has_number l.number) st.links.list))
+    (leaves-is k s st b st.links.list (links-are b b.handle h st.links.list l (λ m. m) names called (left-stays b l left) ∙ stays-first (has_number l.number) st.links.list))
     tt tt (rw (passed-body (session_after b s).windows b l left) m)
 
 pub marks-sending : (m : Marks) (b : FlowBody) (l : LinkView) → l.left ≡ false → with_marks m l ≡ flow_link b l → m.sending ≡ l.sending
@@ -167,15 +161,13 @@ marks-sending m b l e h = ap (λ x. x.sending) h ∙ by l.left e
 pub told-by : (s t : Session) (x y : LinkView) (body : FlowBody) → body ≡ echo_body s.windows (Some x) → s ≡ t → x ≡ y → body ≡ echo_body t.windows (Some y)
 told-by s t x y body h e f = rw (← e, ← f) h
 
-pub link-flow-plan : (k h key : ℕ) (s : Session) (st : StoresView) (b : FlowBody) (l : LinkView) (marks : Marks) (r : Result Plan Violation) → IsKept k s st
+pub link-flow-plan : (k h key : ℕ) (s : Session) (st : StoresView) (b : FlowBody) (l : LinkView) (marks : Marks) (x : Flowing) → IsKept k s st
     → takes_frames (flags_of s) ≡ true → b.handle ≡ Some h → IsFirst (has_peer_handle h) st.links.list l → session_ahead s.begin_sent b s.windows ≡ false
     → is_ahead_of_link b (Some l) ≡ false → with_marks marks l ≡ flow_link b l → marks.sending ≡ l.sending
-    → MatchResult r
-    (λ p. p ≡ echo_plan (session_after b s) (Marked key l.number marks) (sends_echo s.begin_sent b) (echo_body (session_after b s).windows (Some (flow_link b l))))
-    (λ e. e ≡ no_memory)
-    → Plans no_memory (view_of k s st) (flow_answer (view_of k s st) b) (next_flow (view_of k s st) b) r
-link-flow-plan k h key s st b l marks r i takes names called ahead behind m sending q =
-    planned-echo k s st b (Marked key l.number marks) (Some (flow_link b l)) r i
+    → x ≡ record { session = session_after b s; fate = (Marked key l.number marks); echo = sends_echo s.begin_sent b; body = echo_body (session_after b s).windows (Some (flow_link b l)) }
+    → IsPlan {E = Violation} (view_of k s st) (flow_answer (view_of k s st) b) (next_flow (view_of k s st) b) (echo_plan x)
+link-flow-plan k h key s st b l marks x i takes names called ahead behind m sending q =
+    planned-echo k s st b (Marked key l.number marks) (Some (flow_link b l)) x i
     (answer-is k s st b (Some l) takes (no-other b h st.links.list l names called) ahead (named-is b.handle h st.links.list l names called) behind)
     (leaves-is k s st b _ (links-are b b.handle h st.links.list l (with_marks marks) names called (rw m refl)))
     tt (rw sending (shorter k _ (short-found k (has_peer_handle h) st.links.list l i.short called.found))) q

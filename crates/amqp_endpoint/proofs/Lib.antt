@@ -1,3 +1,4 @@
+pub mod Refused
 pub mod Sent
 pub mod Kept
 pub mod Hearing
@@ -9,7 +10,6 @@ pub mod Credits
 pub mod Leaves
 pub mod Flows
 pub mod Offers
-pub mod Unmade
 pub mod Answering
 pub mod Carried
 pub mod Heard

@@ -1,5 +1,9 @@
 -- A step that is done at once: what it gives, and what it leaves.
-use Rattle.std.specs.Prelude.{ℕ, ◌≡◌, Option, Result, Ok, Err, List, map, option_to_list}
+use Rattle.std.specs.Prelude.{ℕ, ◌≡◌, Bool, true, false, Option, Some, Result, Ok, Err, List, map, option_to_list}
+use Rattle.amqp_performatives.specs.declared.performative.Performative.{Performative}
+use Rattle.amqp_performatives.specs.declared.performative.Performative.TheVariants.{Transfer}
+use Rattle.amqp_rules.specs.declared.op.Op.{Op}
+use Rattle.amqp_rules.specs.declared.op.Op.TheVariants.{Start, Learn, Take}
 use Rattle.amqp_rules.specs.declared.reply.Reply.{Reply}
 use Rattle.amqp_rules.specs.declared.reply.Taken.{Taken}
 use Rattle.amqp_rules.specs.declared.reply.Learned.{Learned}
@@ -55,3 +59,14 @@ take_plan v key link taken = quiet_plan (session_in v) (fate.Taken key link) Sta
 
 abbrev pub learn_plan : View → ℕ → ℕ → Learned → Plan
 learn_plan v key link learned = quiet_plan (session_in v) (fate.Learnt key link) Stay (given.Learned learned)
+
+-- the operations that are done by a plan
+abbrev pub is_planned : Op → Bool
+is_planned (Start link tag format settled payload more) = false
+is_planned (Learn link) = false
+is_planned (Take link) = false
+is_planned _ = true
+
+abbrev pub is_transfer : Option Performative → Bool
+is_transfer (Some (Transfer b)) = true
+is_transfer _ = false

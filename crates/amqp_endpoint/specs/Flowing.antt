@@ -4,8 +4,8 @@ use Rattle.amqp_performatives.specs.declared.bodies.FlowBody.{FlowBody}
 use Rattle.amqp_flow.specs.Windows.{WindowsView, session_is_ahead, windows_begun, windows_heard, windows_renewed}
 use Rattle.amqp_performatives.specs.declared.performative.Performative.TheVariants.{Flow}
 use Rattle.amqp_links.specs.declared.credit.Credit.{Credit}
+use Rattle.amqp_endpoint.specs.declared.endpoint.flow.Flowing.{Flowing}
 use Rattle.amqp_endpoint.specs.declared.plan.Session.{Session}
-use Rattle.amqp_links.specs.declared.fate.Fate.{Fate}
 use Rattle.amqp_endpoint.specs.declared.plan.Plan.{Plan}
 use Rattle.amqp_deliveries.specs.declared.change.Change.TheVariants.{Stay}
 use Rattle.amqp_rules.specs.declared.reply.Given.TheVariants as given
@@ -42,5 +42,5 @@ abbrev pub echo_sent : Bool → FlowBody → Option Sent
 echo_sent true body = Some (sent_of (Some (Flow body)) [])
 echo_sent false body = None
 
-abbrev pub echo_plan : Session → Fate → Bool → FlowBody → Plan
-echo_plan session fate echo body = record { session = session; fate = fate; change = Stay; sent = echo_sent echo body; given = given.Nothing }
+abbrev pub echo_plan : Flowing → Plan
+echo_plan f = record { session = f.session; fate = f.fate; change = Stay; sent = echo_sent f.echo f.body; given = given.Nothing }

@@ -2,7 +2,6 @@ pub mod Stores
 pub mod Plan
 pub mod Taking
 pub mod Starting
-pub mod Making
 pub mod Granting
 pub mod Leaving
 pub mod Disposing

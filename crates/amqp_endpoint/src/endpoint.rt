@@ -69,7 +69,7 @@ impl Model for Endpoint {
 impl Endpoint {
     /// Does what was planned of this endpoint, since when no step was done: its reply, and a handle of the octets that are sent. All memory is
     /// asked for before anything changes.
-    pub fn commit(&mut self, plan: Plan) -> Result<(Reply, Option<Bytes>), AllocError>
+    pub(crate) fn commit(&mut self, plan: Plan) -> Result<(Reply, Option<Bytes>), AllocError>
         requires steps { self.old.steps < 2 ^ 30 }
         requires sound { IsSound self.old plan }
         ensures reply { IfOk result (λ both. both.0 ≡ plan_reply plan self.old) }

@@ -1,8 +1,8 @@
 //! One end of an AMQP 1.0 session (OASIS AMQP 1.0 part 2, 2.5 to 2.7): it takes the application's operations and the frames that are
 //! heard, and answers each with the frames to send. It keeps no history and does no input or output.
 //!
-//! A step is planned, then committed: a plan changes nothing, and is refused or owns all that the step needs; `commit` asks for the memory
-//! that is left to ask for, and then changes what cannot fail. `own` and `heard` do both at once, the frequent kinds without a whole plan.
+//! A step is checked, made, then changed: its check asks for no memory, and is all that `refusal` and `violation` are; what owns memory is made
+//! next, mostly as a plan; and the change cannot fail once its own room is there. `own` and `heard` do all three.
 //!
 //! With n links and u unsettled deliveries, beside the octets of the frames that are sent:
 //!

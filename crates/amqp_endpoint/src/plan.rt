@@ -110,7 +110,7 @@ pub(crate) fn plan_quiet(session: Session, fate: Fate, change: Change, given: Gi
 
 impl Plan {
     /// What the application is told, once more.
-    pub fn given(&self) -> Result<Given, AllocError>
+    pub(crate) fn given(&self) -> Result<Given, AllocError>
         ensures { IfOk result (λ given. given ≡ self.now.given) }
     {
         self.given.clone()

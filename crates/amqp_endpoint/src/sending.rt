@@ -1,12 +1,13 @@
 //! Frames as they are sent: all on channel 0, each with its octets.
-ghost use Rattle.std.specs.Prelude.{◌≡◌, ◌<◌, vec_capacity, vec_len, ◌⊎◌, ◌∷◌, Some, None, IfOk, MatchResult, [], option_map, option_to_list};
+ghost use Rattle.std.specs.Prelude.{ℕ, Option, ◌≡◌, ◌<◌, vec_capacity, vec_len, ◌⊎◌, ◌∷◌, Some, None, IfOk, MatchResult, [], option_map, option_to_list};
 ghost use Rattle.amqp_endpoint.specs.Plan.{octets_sent};
-ghost use Rattle.amqp_rules.specs.Sending.{told, frame_refused, sent_of};
+ghost use Rattle.amqp_frames.specs.Measuring.{Measures};
+ghost use Rattle.amqp_rules.specs.Sending.{told, frame_of, frame_refused, sent_of};
 
 use crate::cutting::Cutter;
 use crate::refusal::Refusal;
 use crate::reply::Sent;
-use amqp_frames::{Frame, FrameRefusal, Performative, append_frame, frame_refusal};
+use amqp_frames::{Frame, FrameRefusal, Measured, Performative, append_frame, frame_refusal};
 use amqp_types::Items;
 use bytes::Bytes;
 use std::alloc::{AllocError, Global};
@@ -77,13 +78,22 @@ fn told_refusal(fault: Option<FrameRefusal>) -> Option<Refusal>
 
 /// Why a frame is not sent to a peer that takes frames of `max` octets, want of memory aside. It asks for no memory.
 pub(crate) fn sending_refusal(
-    body: &Option<Performative>,
+    body: Option<Performative>,
     payload: &[u8],
     max: u32,
 ) -> Option<Refusal>
-    ensures { result ≡ frame_refused max body.now payload.now }
+    ensures { result ≡ frame_refused max body payload.now }
 {
-    told_refusal(frame_refusal(0, body, payload, max))
+    let fault = frame_refusal(0, &body, payload, max);
+    drop(body);
+    told_refusal(fault)
+}
+
+/// Why a frame without a payload is not sent that measures so.
+pub(crate) fn measured_refusal(measured: Result<Measured, FrameRefusal>) -> Option<Refusal>
+    ensures { (max : ℕ) (body : Option Performative) → Measures measured (frame_of body []) max → result ≡ frame_refused max body [] }
+{
+    told_refusal(measured.err())
 }
 
 /// The frame with its octets, for a peer that takes frames of `max` octets. Memory is asked for once no other refusal is due.
@@ -190,9 +200,7 @@ pub(crate) fn cut_sharing(
     if let Ok(handle) = payload.clone() {
         return write_cut(alloc, cutter, body, handle, max);
     }
-    let refusal = sending_refusal(&body, payload, max);
-    drop(body);
-    Err(refusal.unwrap_or(Refusal::NoMemory))
+    Err(sending_refusal(body, payload, max).unwrap_or(Refusal::NoMemory))
 }
 
 /// As `write`, of a frame that carries this payload, of which it takes a handle. Where there is none, what the frame is refused for comes first.
@@ -207,9 +215,7 @@ pub(crate) fn write_sharing(
     if let Ok(handle) = payload.clone() {
         return write(alloc, body, handle, max);
     }
-    let refusal = sending_refusal(&body, payload, max);
-    drop(body);
-    Err(refusal.unwrap_or(Refusal::NoMemory))
+    Err(sending_refusal(body, payload, max).unwrap_or(Refusal::NoMemory))
 }
 
 impl Written {

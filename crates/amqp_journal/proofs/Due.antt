@@ -1,6 +1,7 @@
 -- What is due where the journal is not full, and what a plan makes of it.
 use Rattle.std.proofs.Common.{◌≡◌, ◌<◌, ◌≤◌, ℕ, Bool, true, false, cond, Option, Result, Ok, Err, List, length, refl, sym, ap, ◌∙◌, subst, arith, inl, inr, ◌⊎◌, ⊎_elim, nat_le}
-use Rattle.std.specs.Prelude.{IsOk}
+use Rattle.std.specs.Prelude.{IsOk, unwrap_or}
+use Rattle.std.specs.Result.{result_err}
 use Rattle.std.proofs.lemmas.Bool.Decides.{nat_tests}
 use Rattle.amqp_frames.specs.declared.frame.Frame.{Frame}
 use Rattle.amqp_rules.specs.declared.op.Op.{Op}
@@ -16,6 +17,7 @@ use Rattle.amqp_rules.specs.View.{View}
 use Rattle.amqp_rules.specs.Answer.{own_answer, heard_answer, next_own, next_heard}
 use Rattle.amqp_endpoint.specs.declared.done.Done.{Done}
 use Rattle.amqp_endpoint.specs.Doing.{IsDone, IsDoneOnce}
+use Rattle.amqp_endpoint.specs.Plan.{IsRefused}
 use Rattle.amqp_laws.specs.Lawful.{Answers, next}
 use Rattle.amqp_laws.specs.declared.entry.Step.{Step}
 use Rattle.amqp_laws.specs.declared.entry.Step.TheVariants.{Own, Heard}
@@ -61,6 +63,14 @@ opened-open l room = rw (not-full (length l.journal) l.config.journal_limit room
 -- this refusal is due, or one for want of memory
 refused-as : {E : Type 0} (memory e : E) (due answer : Result Reply E) → due ≡ answer → (answer ≡ Err e) ⊎ (IsOk answer × (e ≡ memory)) → IsRefusal memory due e
 refused-as {E} memory e due answer same r = subst (λ (x : Result Reply E). IsRefusal memory x e) (sym same) r
+
+-- the refusal that is due, or else want of memory
+pub refused-or : {E : Type 0} (memory : E) (answer : Result Reply E) (due : Option E) → due ≡ result_err answer → IsRefused memory answer (unwrap_or due memory)
+refused-or {E} memory answer due h = rw h (by answer)
+  where
+    by : (a : Result Reply E) → IsRefused memory a (unwrap_or (result_err a) memory)
+    by (Ok reply) = inr (refl, refl)
+    by (Err e) = inl refl
 
 -- a reply is due, and memory is wanting
 wanting : {E : Type 0} (memory : E) (due : Result Reply E) (reply : Reply) → due ≡ Ok reply → IsRefusal memory due memory

@@ -342,13 +342,7 @@ fn own_refused(endpoint: &Endpoint, op: &Op) -> Refusal
     requires { endpoint.now.steps < 2 ^ 30 }
     ensures { IsRefused Refusal.NoMemory (own_answer endpoint.now op.now) result }
 {
-    match endpoint.plan_own(op) {
-        Ok(plan) => {
-            drop(plan);
-            Refusal::NoMemory
-        }
-        Err(refusal) => refusal,
-    }
+    endpoint.refusal(op).unwrap_or(Refusal::NoMemory)
 }
 
 /// What a frame that is heard violates, or want of memory.
@@ -357,13 +351,8 @@ fn heard_refused(endpoint: &Endpoint, frame: &Frame) -> Violation
     requires { endpoint.now.steps < 2 ^ 30 }
     ensures { IsRefused no_memory (heard_answer endpoint.now frame.now) result }
 {
-    match endpoint.plan_heard(frame) {
-        Ok(plan) => {
-            drop(plan);
-            Violation::unlinked(ViolationKind::NoMemory)
-        }
-        Err(violation) => violation,
-    }
+    let wanting = Violation::unlinked(ViolationKind::NoMemory);
+    endpoint.violation(frame).unwrap_or(wanting)
 }
 
 /// Room for one entry and one unit more.

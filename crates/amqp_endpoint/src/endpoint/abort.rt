@@ -1,5 +1,6 @@
 //! Abort: the unfinished delivery is given up, and ended (part 2, 2.7.5).
 ghost use Rattle.std.specs.Prelude.{◌≡◌, ◌<◌, ◌^◌, Some, Err, IfOk, MatchResult};
+ghost use Rattle.std.specs.Result.{result_err};
 ghost use Rattle.amqp_rules.specs.Abort.{aborted, abort_answer, abort_refusals, next_abort};
 ghost use Rattle.amqp_endpoint.specs.Aborting.{IsAborted};
 ghost use Rattle.amqp_endpoint.specs.Plan.{Plans};
@@ -10,6 +11,7 @@ use crate::endpoint::onlink::OnLink;
 use crate::plan::{Plan, plan_sending};
 use crate::refusal::Refusal;
 use crate::reply::Given;
+use crate::sending::sending_refusal;
 use amqp_deliveries::Change;
 use amqp_frames::Role;
 use amqp_links::credit::same_role;
@@ -57,6 +59,19 @@ impl Endpoint {
                 marks,
             },
         })
+    }
+
+    /// The refusal that is due.
+    pub(crate) fn refuse_abort(&self, link: u32) -> Option<Refusal>
+        ensures { result ≡ result_err (abort_answer self.now link) }
+    {
+        match self.check_abort(link) {
+            Err(refusal) => Some(refusal),
+            Ok(aborted) => {
+                let body = later_body(aborted.on.handle, None, Some(true));
+                sending_refusal(body, &[], self.session.max_frame)
+            }
+        }
     }
 
     /// Gives the unfinished delivery up. O(log n) for n links, and for as many unsettled deliveries.

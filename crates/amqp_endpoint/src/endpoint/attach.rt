@@ -1,5 +1,6 @@
 //! Attach: a link is asked for, or the peer's attach is answered (part 2, 2.6.3 and 2.7.3).
 ghost use Rattle.std.specs.Prelude.{◌≡◌, Some, None, [], Err, MatchResult, IfOk, cond};
+ghost use Rattle.std.specs.Result.{result_err};
 ghost use Rattle.amqp_flow.specs.Credit.{count_given};
 ghost use Rattle.amqp_links.specs.Credits.{credit_in, role_of};
 ghost use Rattle.amqp_performatives.specs.declared.performative.Performative.TheVariants as body;
@@ -13,7 +14,7 @@ use crate::endpoint::Endpoint;
 use crate::plan::Plan;
 use crate::refusal::Refusal;
 use crate::reply::Given;
-use crate::sending::write;
+use crate::sending::{measured_refusal, write};
 use amqp_deliveries::Change;
 use amqp_frames::{AttachBody, AttachParts, Performative, Role, measure_attach};
 use amqp_links::credit::Credit;
@@ -96,10 +97,7 @@ fn attach_refusal(wanted: &Wanted<'_>, handle: u32, max: u32) -> Option<Refusal>
         initial_delivery_count: count_told(wanted.role, wanted.count),
         max_message_size: size_told(wanted.max_message),
     };
-    match measure_attach(&parts, max) {
-        Ok(_) => None,
-        Err(fault) => Some(Refusal::from(fault)),
-    }
+    measured_refusal(measure_attach(&parts, max))
 }
 
 fn copy_terminus(terminus: &Option<Boxed<Value>>) -> Result<Option<Boxed<Value>>, AllocError>
@@ -240,6 +238,16 @@ impl Endpoint {
             handle,
             marks,
         })
+    }
+
+    /// The refusal that is due.
+    pub(crate) fn refuse_attach(&self, wanted: &Wanted<'_>) -> Option<Refusal>
+        ensures { result ≡ result_err (attach_answer self.now (wanted_of wanted.now)) }
+    {
+        match self.check_attach(wanted) {
+            Ok(_) => None,
+            Err(refusal) => Some(refusal),
+        }
     }
 
     /// Attaches a link. O(log n) for n links.

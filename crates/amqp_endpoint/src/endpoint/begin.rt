@@ -1,7 +1,7 @@
 //! Begin: the session is begun, or the peer's begin is answered (part 2, 2.5.1 and 2.7.2).
 ghost use Rattle.std.specs.Prelude.{◌≡◌, Some, None, if◌then◌else◌};
+ghost use Rattle.std.specs.Result.{result_err};
 ghost use Rattle.amqp_rules.specs.Begin.{begin_answer, begin_body, next_begin};
-ghost use Rattle.amqp_endpoint.specs.Making.{Makes};
 ghost use Rattle.amqp_endpoint.specs.Plan.{Plans};
 
 use crate::endpoint::Endpoint;
@@ -9,6 +9,7 @@ use crate::endpoint::telling::OUTGOING_WINDOW;
 use crate::plan::{Plan, plan_sending};
 use crate::refusal::Refusal;
 use crate::reply::Given;
+use crate::sending::measured_refusal;
 use amqp_deliveries::Change;
 use amqp_frames::{BeginBody, Performative, measure_begin};
 use amqp_links::fate::Fate;
@@ -41,45 +42,39 @@ impl Endpoint {
         }
     }
 
-    /// The begin, behind its pointer. Memory is asked for once its frame was measured.
-    fn make_begin(&self) -> Result<Option<Performative>, Refusal>
-        ensures { Makes self.now.max_frame (begin_body self.now) result }
+    /// The refusal that is due.
+    pub(crate) fn refuse_begin(&self) -> Option<Refusal>
+        ensures { result ≡ result_err (begin_answer self.now) }
     {
-        let told = self.begin_told();
-        match measure_begin(&told, self.session.max_frame) {
-            Err(fault) => {
-                drop(told);
-                Err(Refusal::from(fault))
-            }
-            Ok(_) => match Boxed::new(self.alloc, told) {
-                Ok(body) => Ok(Some(Performative::Begin(body))),
-                Err(_) => Err(Refusal::NoMemory),
-            },
+        if !self.session.may_begin() {
+            return Some(Refusal::AlreadyBegun);
         }
+        let told = self.begin_told();
+        let refusal = measured_refusal(measure_begin(&told, self.session.max_frame));
+        drop(told);
+        refusal
     }
 
     /// Begins the session. O(1).
     pub(crate) fn plan_begin(&self) -> Result<Plan, Refusal>
         ensures { Plans Refusal.NoMemory self.now (begin_answer self.now) (next_begin self.now) result }
     {
-        if !self.session.may_begin() {
-            return Err(Refusal::AlreadyBegun);
+        if let Some(refusal) = self.refuse_begin() {
+            return Err(refusal);
         }
-        match self.make_begin() {
-            Err(refusal) => Err(refusal),
-            Ok(body) => {
-                let mut session = self.session;
-                session.begin_sent = true;
-                session.windows.renew();
-                plan_sending(
-                    self.alloc,
-                    session,
-                    Fate::Stay,
-                    Change::Stay,
-                    body,
-                    Given::Nothing,
-                )
-            }
-        }
+        let Ok(body) = Boxed::new(self.alloc, self.begin_told()) else {
+            return Err(Refusal::NoMemory);
+        };
+        let mut session = self.session;
+        session.begin_sent = true;
+        session.windows.renew();
+        plan_sending(
+            self.alloc,
+            session,
+            Fate::Stay,
+            Change::Stay,
+            Some(Performative::Begin(body)),
+            Given::Nothing,
+        )
     }
 }

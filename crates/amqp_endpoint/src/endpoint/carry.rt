@@ -1,6 +1,7 @@
 //! Carry: a further transfer of the unfinished delivery (part 2, 2.6.14 and 2.7.5).
 ghost use Rattle.std.specs.Prelude.{◌≡◌, ◌<◌, ◌+◌, ◌^◌, length, Err, IfOk, MatchResult};
 ghost use Rattle.amqp_flow.specs.Windows.{windows_sent};
+ghost use Rattle.std.specs.Result.{result_err};
 ghost use Rattle.amqp_rules.specs.Carry.{carry_answer, carry_on, carry_refusals, later_body, next_carry};
 ghost use Rattle.amqp_endpoint.specs.Plan.{IsShort, Plans};
 ghost use Rattle.amqp_endpoint.specs.Taking.{IsTaken};
@@ -12,7 +13,7 @@ use crate::endpoint::telling::flag;
 use crate::plan::{Plan, Session};
 use crate::refusal::Refusal;
 use crate::reply::Given;
-use crate::sending::write_sharing;
+use crate::sending::{sending_refusal, write_sharing};
 use amqp_deliveries::Change;
 use amqp_frames::{Performative, Role, TransferBody};
 use amqp_links::credit::same_role;
@@ -90,6 +91,20 @@ impl Endpoint {
             handle: l.our_handle(),
             marks,
         })
+    }
+
+    /// The refusal that is due.
+    pub(crate) fn refuse_carry(&self, link: u32, payload: &[u8], more: bool) -> Option<Refusal>
+        requires { self.now.steps < 2 ^ 30 }
+        ensures { result ≡ result_err (carry_answer self.now link payload.now more) }
+    {
+        match self.check_carry(link, payload, more) {
+            Err(refusal) => Some(refusal),
+            Ok(on) => {
+                let body = later_body(on.handle, flag(more), None);
+                sending_refusal(body, payload, self.session.max_frame)
+            }
+        }
     }
 
     /// Sends more of the unfinished delivery. O(log n) for n links.

@@ -9,7 +9,7 @@ use crate::endpoint::Endpoint;
 use crate::plan::Plan;
 use crate::refusal::Refusal;
 use crate::reply::Given;
-use crate::sending::write;
+use crate::sending::{measured_refusal, write};
 use amqp_deliveries::Change;
 use amqp_frames::{AmqpError, DetachBody, Performative, measure_detach};
 use amqp_links::fate::Fate;
@@ -28,10 +28,7 @@ pub(crate) struct Leaving {
 fn detach_refusal(handle: u32, error: &Option<Boxed<AmqpError>>, max: u32) -> Option<Refusal>
     ensures { result ≡ frame_refused max (detach_body handle (Some true) error.now) [] }
 {
-    match measure_detach(handle, Some(true), error, max) {
-        Ok(_) => None,
-        Err(fault) => Some(Refusal::from(fault)),
-    }
+    measured_refusal(measure_detach(handle, Some(true), error, max))
 }
 
 fn copy_error(error: &Option<Boxed<AmqpError>>) -> Result<Option<Boxed<AmqpError>>, AllocError>
@@ -45,7 +42,11 @@ fn copy_error(error: &Option<Boxed<AmqpError>>) -> Result<Option<Boxed<AmqpError
 
 impl Endpoint {
     /// The first refusal that is due, or where the link is.
-    fn check_detach(&self, link: u32, error: &Option<Boxed<AmqpError>>) -> Result<Leaving, Refusal>
+    pub(crate) fn check_detach(
+        &self,
+        link: u32,
+        error: &Option<Boxed<AmqpError>>,
+    ) -> Result<Leaving, Refusal>
         ensures { MatchResult result (IsLeft self.now link error.now) (λ e. detach_answer self.now link error.now ≡ Err e) }
     {
         if !self.session.is_mapped() {

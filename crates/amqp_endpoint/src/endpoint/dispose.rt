@@ -3,6 +3,7 @@ ghost use Rattle.std.specs.Prelude.{◌≡◌, [], None, Some, Err, MatchOption,
 ghost use Rattle.amqp_rules.specs.Dispose.{dispose_answer, dispose_body, dispose_refusals, is_backwards, is_empty, next_dispose, waits_for_sender};
 ghost use Rattle.std.specs.Prelude.{filter};
 ghost use Rattle.std.specs.List.{list_any};
+ghost use Rattle.std.specs.Result.{result_err};
 ghost use Rattle.amqp_events.specs.States.{is_fixed};
 ghost use Rattle.amqp_events.specs.Unsettled.{covers};
 ghost use Rattle.amqp_deliveries.specs.Held.{items_of};
@@ -18,7 +19,7 @@ use crate::endpoint::telling::flag;
 use crate::plan::Plan;
 use crate::refusal::Refusal;
 use crate::reply::Given;
-use crate::sending::write;
+use crate::sending::{measured_refusal, write};
 use amqp_deliveries::{Change, Disposition, Held, Span};
 use amqp_flow::serial::Serial;
 use amqp_frames::{DeliveryState, DispositionBody, Performative, Role, measure_disposition};
@@ -78,17 +79,9 @@ impl Said<'_> {
 fn dispose_refusal(role: Role, said: Said<'_>, max: u32) -> Option<Refusal>
     ensures { result ≡ frame_refused max (dispose_body role (said_in said.entry)) [] }
 {
-    match measure_disposition(
-        role,
-        said.first,
-        Some(said.last),
-        flag(said.settled),
-        said.state,
-        max,
-    ) {
-        Ok(_) => None,
-        Err(fault) => Some(Refusal::from(fault)),
-    }
+    let last = Some(said.last);
+    let settled = flag(said.settled);
+    measured_refusal(measure_disposition(role, said.first, last, settled, said.state, max))
 }
 
 /// The range runs backwards: it spans 2^31 ids or more.
@@ -144,9 +137,9 @@ fn held_refusal(held: &Held, role: Role, said: Said<'_>) -> Option<Refusal>
 }
 
 impl Endpoint {
-    /// The first refusal that is due.
-    fn dispose_refusal(&self, role: Role, said: Said<'_>) -> Option<Refusal>
-        ensures { MatchOption result ((first_refusal (dispose_refusals self.now role (said_in said.entry)) ≡ None) × (frame_refused self.now.max_frame (dispose_body role (said_in said.entry)) [] ≡ None)) (λ e. dispose_answer self.now role (said_in said.entry) ≡ Err e) }
+    /// The refusal that is due.
+    pub(crate) fn refuse_dispose(&self, role: Role, said: Said<'_>) -> Option<Refusal>
+        ensures { result ≡ result_err (dispose_answer self.now role (said_in said.entry)) }
     {
         if !self.session.is_mapped() {
             return Some(Refusal::NotMapped);
@@ -165,7 +158,7 @@ impl Endpoint {
     pub(crate) fn plan_dispose(&self, role: Role, said: Said<'_>) -> Result<Plan, Refusal>
         ensures { Plans Refusal.NoMemory self.now (dispose_answer self.now role (said_in said.entry)) (next_dispose self.now role (said_in said.entry)) result }
     {
-        if let Some(refusal) = self.dispose_refusal(role, said) {
+        if let Some(refusal) = self.refuse_dispose(role, said) {
             return Err(refusal);
         }
         let Ok(sent) = said.kept() else {

@@ -1,19 +1,19 @@
 //! A step done at once: the kinds that are most frequent by a way of their own, without a plan, and the others by their plan.
-ghost use Rattle.std.specs.Prelude.{◌≡◌, ◌<◌, ◌^◌, Some, IfOk, OnErr};
-ghost use Rattle.amqp_rules.specs.Answer.{own_answer, next_own, heard_answer, next_heard};
-ghost use Rattle.amqp_performatives.specs.declared.performative.Performative.TheVariants.{Transfer};
+ghost use Rattle.std.specs.Prelude.{◌≡◌, ◌<◌, ◌^◌, ◌+◌, None, true, false, IfOk, OnErr};
+ghost use Rattle.amqp_rules.specs.Answer.{own_answer, next_own, body_answer, next_body, heard_answer, next_heard};
+ghost use Rattle.amqp_rules.specs.Opened.{no_reply};
 ghost use Rattle.amqp_rules.specs.Refusing.{no_memory};
-ghost use Rattle.amqp_endpoint.specs.Doing.{Does, DoesOnce};
+ghost use Rattle.amqp_endpoint.specs.Doing.{Does, DoesOnce, is_planned, is_transfer};
 ghost use Rattle.amqp_endpoint.specs.Plan.{IsRefused, IsSound, octets_sent, plan_reply, planned};
 
-use crate::done::Done;
+use crate::done::{Done, quiet_done};
 use crate::endpoint::Endpoint;
 use crate::op::Op;
 use crate::plan::Plan;
 use crate::refusal::Refusal;
-use crate::reply::Reply;
+use crate::reply::{Given, Reply};
 use crate::violation::{Violation, ViolationKind};
-use amqp_frames::{Frame, Performative, TransferBody};
+use amqp_frames::{Frame, Performative};
 use bytes::Bytes;
 use std::alloc::AllocError;
 
@@ -52,7 +52,8 @@ impl Endpoint {
     /// Does an operation by its plan.
     #[inline(never)]
     fn own_planned(&mut self, op: &Op) -> Result<Done, Refusal>
-        requires { self.old.steps < 2 ^ 30 }
+        requires steps { self.old.steps < 2 ^ 30 }
+        requires planned { is_planned op.now ≡ true }
         ensures done { Does Refusal.NoMemory (own_answer self.old op.now) (next_own self.old op.now) self.new result }
         ensures err { OnErr result (self.new ≡ self.old) }
     {
@@ -66,11 +67,12 @@ impl Endpoint {
         }
     }
 
-    /// Takes a frame that is heard by its plan.
+    /// Takes a frame that is heard and not dropped by its plan.
     #[inline(never)]
     fn heard_planned(&mut self, frame: &Frame) -> Result<Done, Violation>
-        requires { self.old.steps < 2 ^ 30 }
-        ensures done { Does no_memory (heard_answer self.old frame.now) (next_heard self.old frame.now) self.new result }
+        requires steps { self.old.steps < 2 ^ 30 }
+        requires planned { is_transfer frame.now.body ≡ false }
+        ensures done { Does no_memory (body_answer self.old frame.now.body frame.now.payload) (next_body self.old frame.now.body frame.now.payload) self.new result }
         ensures err { OnErr result (self.new ≡ self.old) }
     {
         let plan = match self.plan_heard(frame) {
@@ -127,22 +129,22 @@ impl Endpoint {
         ensures done { Does no_memory (heard_answer self.old frame.now) (next_heard self.old frame.now) self.new result }
         ensures err { OnErr result (self.new ≡ self.old) }
     {
+        if self.drops(&frame.body) {
+            return Ok(self.drop_heard());
+        }
         match &frame.body {
-            Some(Performative::Transfer(body)) => self.heard_transfer(frame, body),
+            Some(Performative::Transfer(body)) => self.transfer(body, &frame.payload),
             _ => self.heard_planned(frame),
         }
     }
 
-    /// Takes a transfer that is heard: once our end was sent it is dropped.
-    fn heard_transfer(&mut self, frame: &Frame, body: &TransferBody) -> Result<Done, Violation>
-        requires steps { self.old.steps < 2 ^ 30 }
-        requires body { frame.now.body ≡ Some (Transfer body.now) }
-        ensures done { Does no_memory (heard_answer self.old frame.now) (next_heard self.old frame.now) self.new result }
-        ensures err { OnErr result (self.new ≡ self.old) }
+    /// A frame is dropped.
+    fn drop_heard(&mut self) -> Done
+        requires { self.old.steps < 2 ^ 30 }
+        ensures done { result ≡ record { reply = no_reply; octets = None; given = Given.Nothing } }
+        ensures next { self.new ≡ record self.old { steps = self.old.steps + 1 } }
     {
-        if self.session.is_ending() {
-            return self.heard_planned(frame);
-        }
-        self.transfer(body, &frame.payload)
+        self.steps += 1;
+        quiet_done(self.alloc, Given::Nothing, Given::Nothing)
     }
 }

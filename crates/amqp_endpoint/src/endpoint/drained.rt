@@ -1,5 +1,6 @@
 //! Drained: the credit that is left is given up, as the peer's drain wishes (part 2, 2.6.7).
 ghost use Rattle.std.specs.Prelude.{◌≡◌, true, Some, Err, MatchResult};
+ghost use Rattle.std.specs.Result.{result_err};
 ghost use Rattle.amqp_flow.specs.Sender.{sender_drained};
 ghost use Rattle.amqp_rules.specs.Drained.{drained, drained_refusals, drained_answer, next_drained};
 ghost use Rattle.amqp_rules.specs.Telling.{sender_flow};
@@ -14,6 +15,7 @@ use crate::endpoint::telling::OUTGOING_WINDOW;
 use crate::plan::{Plan, plan_sending};
 use crate::refusal::Refusal;
 use crate::reply::Given;
+use crate::sending::sending_refusal;
 use amqp_deliveries::Change;
 use amqp_flow::sender::SenderCredit;
 use amqp_flow::windows::Windows;
@@ -81,6 +83,19 @@ impl Endpoint {
             handle: l.our_handle(),
             marks,
         })
+    }
+
+    /// The refusal that is due.
+    pub(crate) fn refuse_drained(&self, link: u32) -> Option<Refusal>
+        ensures { result ≡ result_err (drained_answer self.now link) }
+    {
+        match self.check_drained(link) {
+            Err(refusal) => Some(refusal),
+            Ok(on) => {
+                let told = drained_flow(&self.session.windows, on.handle, &on.marks);
+                sending_refusal(Some(Performative::Flow(told)), &[], self.session.max_frame)
+            }
+        }
     }
 
     /// Gives up the credit that is left. O(log n) for n links.

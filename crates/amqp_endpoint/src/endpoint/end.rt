@@ -1,13 +1,14 @@
 //! End: we end the session, and all its links are gone (part 2, 2.5.2 and 2.7.8).
 ghost use Rattle.std.specs.Prelude.{◌≡◌, IfOk};
-ghost use Rattle.amqp_rules.specs.End.{end_answer, end_body, next_end};
-ghost use Rattle.amqp_endpoint.specs.Making.{Makes};
+ghost use Rattle.std.specs.Result.{result_err};
+ghost use Rattle.amqp_rules.specs.End.{end_answer, next_end};
 ghost use Rattle.amqp_endpoint.specs.Plan.{Plans};
 
 use crate::endpoint::Endpoint;
 use crate::plan::{Plan, plan_sending};
 use crate::refusal::Refusal;
 use crate::reply::Given;
+use crate::sending::measured_refusal;
 use amqp_deliveries::Change;
 use amqp_frames::{AmqpError, EndBody, Performative, measure_end};
 use amqp_links::fate::Fate;
@@ -23,41 +24,36 @@ fn copy_error(error: &Option<Boxed<AmqpError>>) -> Result<Option<Boxed<AmqpError
     }
 }
 
-/// The end with this error. The error is copied once the frame was measured.
-fn make_end(error: &Option<Boxed<AmqpError>>, max: u32) -> Result<Option<Performative>, Refusal>
-    ensures { Makes max (end_body error.now) result }
-{
-    match measure_end(error, max) {
-        Err(fault) => Err(Refusal::from(fault)),
-        Ok(_) => match copy_error(error) {
-            Ok(error) => Ok(Some(Performative::End(EndBody { error }))),
-            Err(_) => Err(Refusal::NoMemory),
-        },
-    }
-}
-
 impl Endpoint {
+    /// The refusal that is due.
+    pub(crate) fn refuse_end(&self, error: &Option<Boxed<AmqpError>>) -> Option<Refusal>
+        ensures { result ≡ result_err (end_answer self.now error.now) }
+    {
+        if !self.session.is_mapped() {
+            return Some(Refusal::NotMapped);
+        }
+        measured_refusal(measure_end(error, self.session.max_frame))
+    }
+
     /// Ends the session. All links and all unsettled deliveries are gone.
     pub(crate) fn plan_end(&self, error: &Option<Boxed<AmqpError>>) -> Result<Plan, Refusal>
         ensures { Plans Refusal.NoMemory self.now (end_answer self.now error.now) (next_end self.now) result }
     {
-        if !self.session.is_mapped() {
-            return Err(Refusal::NotMapped);
+        if let Some(refusal) = self.refuse_end(error) {
+            return Err(refusal);
         }
-        match make_end(error, self.session.max_frame) {
-            Err(refusal) => Err(refusal),
-            Ok(body) => {
-                let mut session = self.session;
-                session.end_sent = true;
-                plan_sending(
-                    self.alloc,
-                    session,
-                    Fate::AllGone,
-                    Change::Over,
-                    body,
-                    Given::Nothing,
-                )
-            }
-        }
+        let Ok(error) = copy_error(error) else {
+            return Err(Refusal::NoMemory);
+        };
+        let mut session = self.session;
+        session.end_sent = true;
+        plan_sending(
+            self.alloc,
+            session,
+            Fate::AllGone,
+            Change::Over,
+            Some(Performative::End(EndBody { error })),
+            Given::Nothing,
+        )
     }
 }

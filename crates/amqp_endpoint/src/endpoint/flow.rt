@@ -1,10 +1,11 @@
 //! A flow that is heard.
 ghost use Rattle.std.specs.Prelude.{◌≡◌, true, false, cond, is_some, None, Some, MatchOption, MatchResult};
+ghost use Rattle.std.specs.Result.{result_err};
 ghost use Rattle.amqp_flow.specs.Windows.{windows_renewed};
 ghost use Rattle.amqp_links.specs.Links.{IsFirst};
 ghost use Rattle.amqp_links.specs.Marks.{with_marks};
 ghost use Rattle.amqp_endpoint.specs.Flowing.{credit_ahead, echo_plan, session_after, sends_echo, session_ahead, windows_told_by, IsCreditAfter};
-ghost use Rattle.amqp_endpoint.specs.Plan.{Plans};
+ghost use Rattle.amqp_endpoint.specs.Plan.{Checks, Plans};
 ghost use Rattle.amqp_rules.specs.Flow.{
   session_part,
   link_part,
@@ -149,16 +150,25 @@ fn heard_marks(b: &FlowBody, l: &Link) -> Option<Marks>
     Some(marks)
 }
 
-/// The plan that sends this flow in return, or none.
-fn plan_echo(
-    alloc: Global,
-    session: Session,
-    fate: Fate,
-    echo: bool,
-    body: FlowBody,
-) -> Result<Plan, Violation>
-    ensures { MatchResult result (λ p. p ≡ echo_plan session fate echo body) (λ e. e ≡ no_memory) }
+/// What a flow leaves: the session and what becomes of the links; and whether a flow is sent in return, and which.
+#[derive(Drop)]
+pub(crate) struct Flowing {
+    pub(crate) session: Session,
+    pub(crate) fate: Fate,
+    pub(crate) echo: bool,
+    pub(crate) body: FlowBody,
+}
+
+/// The plan of a flow that leaves this.
+fn plan_echo(alloc: Global, flowing: Flowing) -> Result<Plan, Violation>
+    ensures { MatchResult result (λ p. p ≡ echo_plan flowing) (λ e. e ≡ no_memory) }
 {
+    let Flowing {
+        session,
+        fate,
+        echo,
+        body,
+    } = flowing;
     if echo {
         let body = Some(Performative::Flow(body));
         plan_answering(alloc, session, fate, Change::Stay, body, Given::Nothing)
@@ -182,48 +192,58 @@ fn flow_in_return(windows: &Windows, l: &Link, marks: &Marks) -> FlowBody
 
 impl Endpoint {
     /// A flow of the session alone.
-    fn plan_session_flow(&self, b: &FlowBody) -> Result<Plan, Violation>
+    fn check_session_flow(&self, b: &FlowBody) -> Result<Flowing, Violation>
         requires takes { takes_frames self.now.session ≡ true }
         requires names { b.now.handle ≡ None }
-        ensures { Plans no_memory self.now (flow_answer self.now b.now) (next_flow self.now b.now) result }
+        ensures { Checks self.now (flow_answer self.now b.now) (next_flow self.now b.now) echo_plan result }
     {
         let Some(session) = heard_session(b, self.session) else {
             return Err(Violation::unlinked(ViolationKind::CountAhead));
         };
         let echo = sends_echo(&session, b);
         let body = session_flow(&session.windows);
-        plan_echo(self.alloc, session, Fate::Stay, echo, body)
+        Ok(Flowing {
+            session,
+            fate: Fate::Stay,
+            echo,
+            body,
+        })
     }
 
     /// A flow of a link that we have left: the link stays as it is.
-    fn plan_passed_flow(&self, b: &FlowBody, handle: u32, l: &Link) -> Result<Plan, Violation>
+    fn check_passed_flow(&self, b: &FlowBody, handle: u32, l: &Link) -> Result<Flowing, Violation>
         requires takes { takes_frames self.now.session ≡ true }
         requires names { b.now.handle ≡ Some handle }
         requires called { IsFirst (has_peer_handle handle) self.now.links l.now }
         requires left { l.now.left ≡ true }
-        ensures { Plans no_memory self.now (flow_answer self.now b.now) (next_flow self.now b.now) result }
+        ensures { Checks self.now (flow_answer self.now b.now) (next_flow self.now b.now) echo_plan result }
     {
         let Some(session) = heard_session(b, self.session) else {
             return Err(Violation::unlinked(ViolationKind::CountAhead));
         };
         let echo = sends_echo(&session, b);
         let body = session_flow(&session.windows);
-        plan_echo(self.alloc, session, Fate::Stay, echo, body)
+        Ok(Flowing {
+            session,
+            fate: Fate::Stay,
+            echo,
+            body,
+        })
     }
 
     /// A flow of a link that we have not left.
-    fn plan_link_flow(
+    fn check_link_flow(
         &self,
         b: &FlowBody,
         handle: u32,
         key: usize,
         l: &Link,
-    ) -> Result<Plan, Violation>
+    ) -> Result<Flowing, Violation>
         requires takes { takes_frames self.now.session ≡ true }
         requires names { b.now.handle ≡ Some handle }
         requires called { IsFirst (has_peer_handle handle) self.now.links l.now }
         requires left { l.now.left ≡ false }
-        ensures { Plans no_memory self.now (flow_answer self.now b.now) (next_flow self.now b.now) result }
+        ensures { Checks self.now (flow_answer self.now b.now) (next_flow self.now b.now) echo_plan result }
     {
         let Some(session) = heard_session(b, self.session) else {
             return Err(Violation::unlinked(ViolationKind::CountAhead));
@@ -238,26 +258,54 @@ impl Endpoint {
             number: l.number(),
             marks,
         };
-        plan_echo(self.alloc, session, fate, echo, body)
+        Ok(Flowing {
+            session,
+            fate,
+            echo,
+            body,
+        })
+    }
+
+    /// What a flow violates, or what it leaves. O(log n) for n links.
+    fn check_flow(&self, b: &FlowBody) -> Result<Flowing, Violation>
+        ensures { Checks self.now (flow_answer self.now b.now) (next_flow self.now b.now) echo_plan result }
+    {
+        if !self.session.takes_frames() {
+            return Err(Violation::unlinked(ViolationKind::OutOfSession));
+        }
+        let Some(handle) = b.handle else {
+            return self.check_session_flow(b);
+        };
+        let Some(found) = self.stores.links.by_peer_handle(handle) else {
+            return Err(Violation::unlinked(ViolationKind::BadHandle));
+        };
+        if found.link.has_left() {
+            self.check_passed_flow(b, handle, found.link)
+        } else {
+            self.check_link_flow(b, handle, found.key, found.link)
+        }
+    }
+
+    /// What a flow violates.
+    pub(crate) fn flow_violation(&self, b: &FlowBody) -> Option<Violation>
+        ensures { result ≡ result_err (flow_answer self.now b.now) }
+    {
+        match self.check_flow(b) {
+            Ok(flowing) => {
+                drop(flowing);
+                None
+            }
+            Err(violation) => Some(violation),
+        }
     }
 
     /// A flow that is heard. O(log n) for n links.
     pub(crate) fn plan_flow(&self, b: &FlowBody) -> Result<Plan, Violation>
         ensures { Plans no_memory self.now (flow_answer self.now b.now) (next_flow self.now b.now) result }
     {
-        if !self.session.takes_frames() {
-            return Err(Violation::unlinked(ViolationKind::OutOfSession));
-        }
-        let Some(handle) = b.handle else {
-            return self.plan_session_flow(b);
-        };
-        let Some(found) = self.stores.links.by_peer_handle(handle) else {
-            return Err(Violation::unlinked(ViolationKind::BadHandle));
-        };
-        if found.link.has_left() {
-            self.plan_passed_flow(b, handle, found.link)
-        } else {
-            self.plan_link_flow(b, handle, found.key, found.link)
+        match self.check_flow(b) {
+            Ok(flowing) => plan_echo(self.alloc, flowing),
+            Err(violation) => Err(violation),
         }
     }
 }

@@ -1,5 +1,6 @@
 //! Grant: the peer may begin so many deliveries, or is asked to use them up (part 2, 2.6.7).
 ghost use Rattle.std.specs.Prelude.{◌≡◌, Bool, Some, None, Err, MatchResult};
+ghost use Rattle.std.specs.Result.{result_err};
 ghost use Rattle.amqp_flow.specs.Receiver.{granted};
 ghost use Rattle.amqp_rules.specs.Grant.{granted_on, grant_refusals, grant_answer, grant_flow, next_grant};
 ghost use Rattle.amqp_rules.specs.Refusing.{first_refusal};
@@ -15,6 +16,7 @@ use crate::endpoint::telling::{OUTGOING_WINDOW, flag};
 use crate::plan::{Plan, plan_sending};
 use crate::refusal::Refusal;
 use crate::reply::Given;
+use crate::sending::sending_refusal;
 use amqp_deliveries::Change;
 use amqp_flow::receiver::ReceiverCredit;
 use amqp_flow::refusal::GrantRefusal;
@@ -91,6 +93,25 @@ impl Endpoint {
                     handle: l.our_handle(),
                     marks,
                 })
+            }
+        }
+    }
+
+    /// The refusal that is due.
+    pub(crate) fn refuse_grant(
+        &self,
+        link: u32,
+        credit: u32,
+        drain: bool,
+        echo: bool,
+    ) -> Option<Refusal>
+        ensures { result ≡ result_err (grant_answer self.now link credit drain echo) }
+    {
+        match self.check_grant(link, credit, drain) {
+            Err(refusal) => Some(refusal),
+            Ok(on) => {
+                let told = grant_flow(&self.session.windows, on.handle, &on.marks, drain, echo);
+                sending_refusal(Some(Performative::Flow(told)), &[], self.session.max_frame)
             }
         }
     }

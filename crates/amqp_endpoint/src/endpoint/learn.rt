@@ -2,18 +2,16 @@
 ghost use Rattle.std.specs.Prelude.{◌≡◌, ◌<◌, ◌^◌, IfOk, MatchResult, OnErr};
 ghost use Rattle.amqp_rules.specs.Learn.{learn_answer, learned_of, next_learn};
 ghost use Rattle.amqp_endpoint.specs.Doing.{Does, DoesOnce, learn_plan};
-ghost use Rattle.amqp_endpoint.specs.Plan.{IsPlan, IsRefused, Plans};
+ghost use Rattle.amqp_endpoint.specs.Plan.{Checks, IsPlan, IsRefused};
 
 use crate::done::{Done, quiet_done, quiet_reply};
 use crate::endpoint::Endpoint;
 use crate::endpoint::dispose::copy_state;
-use crate::plan::{Plan, plan_quiet};
 use crate::refusal::Refusal;
 use crate::reply::{Given, Learned, Reply};
-use amqp_deliveries::{Change, Telling};
+use amqp_deliveries::Telling;
 use amqp_frames::Role;
 use amqp_links::credit::same_role;
-use amqp_links::fate::Fate;
 use amqp_types::Boxed;
 use bytes::Bytes;
 use std::alloc::AllocError;
@@ -33,51 +31,47 @@ fn learned_of(told: &Telling) -> Result<Learned, AllocError>
 }
 
 impl Endpoint {
-    /// What was told first, with the key of its link; also of a link that we are leaving. O(log n) for n links.
-    fn first_learned(&self, link: u32) -> Result<(usize, Boxed<Learned>), Refusal>
-        ensures { MatchResult result (λ both. IsPlan self.now (learn_answer self.now link) (next_learn self.now link) (learn_plan self.now both.0 link both.1)) (λ e. IsRefused Refusal.NoMemory (learn_answer self.now link) e) }
+    /// The first refusal that is due, or what was told first, with the key of its link; also of a link that we are leaving. O(log n) for n
+    /// links.
+    pub(crate) fn check_learn(&self, link: u32) -> Result<(usize, &Telling), Refusal>
+        ensures { Checks self.now (learn_answer self.now link) (next_learn self.now link) (λ both. learn_plan self.now both.0 link (learned_of both.1.now)) result }
     {
         let Some(found) = self.stores.links.by_number(link) else {
             return Err(Refusal::NoLink);
         };
-        let l = found.link;
-        if !same_role(Role::Sender, l.role()) {
+        if !same_role(Role::Sender, found.link.role()) {
             return Err(Refusal::WrongRole);
         }
-        let Some(told) = l.first_told() else {
-            return Err(Refusal::Nothing);
+        match found.link.first_told() {
+            Some(told) => Ok((found.key, told)),
+            None => Err(Refusal::Nothing),
+        }
+    }
+
+    /// What was told first is made.
+    fn make_learned(&self, link: u32) -> Result<(usize, Boxed<Learned>), Refusal>
+        ensures { MatchResult result (λ both. IsPlan self.now (learn_answer self.now link) (next_learn self.now link) (learn_plan self.now both.0 link both.1)) (λ e. IsRefused Refusal.NoMemory (learn_answer self.now link) e) }
+    {
+        let (key, told) = match self.check_learn(link) {
+            Ok(both) => both,
+            Err(refusal) => return Err(refusal),
         };
         let Ok(learned) = learned_of(told) else {
             return Err(Refusal::NoMemory);
         };
         match Boxed::new(self.alloc, learned) {
-            Ok(learned) => Ok((found.key, learned)),
+            Ok(learned) => Ok((key, learned)),
             Err(_) => Err(Refusal::NoMemory),
         }
     }
 
     /// Learns what was told first.
-    pub(crate) fn plan_learn(&self, link: u32) -> Result<Plan, Refusal>
-        ensures { Plans Refusal.NoMemory self.now (learn_answer self.now link) (next_learn self.now link) result }
-    {
-        match self.first_learned(link) {
-            Ok((key, learned)) => Ok(plan_quiet(
-                self.session,
-                Fate::Learnt { key, number: link },
-                Change::Stay,
-                Given::Learned(learned),
-            )),
-            Err(refusal) => Err(refusal),
-        }
-    }
-
-    /// The same at once.
     pub(crate) fn learn(&mut self, link: u32) -> Result<Done, Refusal>
         requires { self.old.steps < 2 ^ 30 }
         ensures done { Does Refusal.NoMemory (learn_answer self.old link) (next_learn self.old link) self.new result }
         ensures err { OnErr result (self.new ≡ self.old) }
     {
-        let (key, learned) = match self.first_learned(link) {
+        let (key, learned) = match self.make_learned(link) {
             Ok(both) => both,
             Err(refusal) => return Err(refusal),
         };
@@ -94,13 +88,13 @@ impl Endpoint {
         ))
     }
 
-    /// The same at once, where what it tells is wanted once.
+    /// The same, where what it tells is wanted once.
     pub(crate) fn learn_once(&mut self, link: u32) -> Result<(Reply, Option<Bytes>), Refusal>
         requires { self.old.steps < 2 ^ 30 }
         ensures done { DoesOnce Refusal.NoMemory (learn_answer self.old link) (next_learn self.old link) self.new result }
         ensures err { OnErr result (self.new ≡ self.old) }
     {
-        let (key, learned) = match self.first_learned(link) {
+        let (key, learned) = match self.make_learned(link) {
             Ok(both) => both,
             Err(refusal) => return Err(refusal),
         };

@@ -1,5 +1,6 @@
 //! Offer: the peer is told how many messages are available (part 2, 2.6.7).
 ghost use Rattle.std.specs.Prelude.{◌≡◌, [], Err, MatchResult};
+ghost use Rattle.std.specs.Result.{result_err};
 ghost use Rattle.amqp_performatives.specs.declared.bodies.Role.TheVariants.{Sender};
 ghost use Rattle.amqp_endpoint.specs.Plan.{Plans};
 ghost use Rattle.amqp_endpoint.specs.Taking.{IsTaken};
@@ -12,6 +13,7 @@ use crate::endpoint::telling::standing_flow;
 use crate::plan::{Plan, plan_sending};
 use crate::refusal::Refusal;
 use crate::reply::Given;
+use crate::sending::sending_refusal;
 use amqp_deliveries::Change;
 use amqp_frames::Performative;
 use amqp_links::fate::Fate;
@@ -41,6 +43,19 @@ impl Endpoint {
             handle: l.our_handle(),
             marks,
         })
+    }
+
+    /// The refusal that is due.
+    pub(crate) fn refuse_offer(&self, link: u32, available: u32) -> Option<Refusal>
+        ensures { result ≡ result_err (offer_answer self.now link available) }
+    {
+        match self.check_offer(link, available) {
+            Err(refusal) => Some(refusal),
+            Ok(on) => {
+                let told = standing_flow(&self.session.windows, on.handle, &on.marks);
+                sending_refusal(Some(Performative::Flow(told)), &[], self.session.max_frame)
+            }
+        }
     }
 
     /// How many messages are available. O(log n) for n links.

@@ -63,7 +63,7 @@ fn counted(b: &AttachBody, credit: &Credit) -> Credit
 
 impl Endpoint {
     /// The violation that an attach meets.
-    fn attach_violation(&self, b: &AttachBody) -> Option<Violation>
+    pub(crate) fn attach_violation(&self, b: &AttachBody) -> Option<Violation>
         ensures { result ≡ first_refusal (attach_violations self.now b.now) }
     {
         if !self.session.takes_frames() {

@@ -1,4 +1,6 @@
 //! A begin that is heard (part 2, 2.5.1 and 2.7.2).
+ghost use Rattle.std.specs.Prelude.{◌≡◌};
+ghost use Rattle.std.specs.Result.{result_err};
 ghost use Rattle.amqp_rules.specs.PeerBegin.{begin_heard_answer, next_begin_heard};
 ghost use Rattle.amqp_rules.specs.Refusing.{no_memory};
 ghost use Rattle.amqp_endpoint.specs.Plan.{Plans};
@@ -12,14 +14,25 @@ use amqp_frames::BeginBody;
 use amqp_links::fate::Fate;
 
 impl Endpoint {
+    /// What the frame violates.
+    pub(crate) fn begin_violation(&self) -> Option<Violation>
+        ensures { result ≡ result_err (begin_heard_answer self.now) }
+    {
+        if self.session.awaits_begin() {
+            None
+        } else {
+            Some(Violation::unlinked(ViolationKind::OutOfSession))
+        }
+    }
+
     /// Takes the peer's begin: its windows, and how many handles it takes. O(1).
     pub(crate) fn plan_peer_begin(&self, b: &BeginBody) -> Result<Plan, Violation>
         ensures { Plans no_memory self.now (begin_heard_answer self.now) (next_begin_heard self.now b.now) result }
     {
-        let mut session = self.session;
-        if !session.awaits_begin() {
-            return Err(Violation::unlinked(ViolationKind::OutOfSession));
+        if let Some(violation) = self.begin_violation() {
+            return Err(violation);
         }
+        let mut session = self.session;
         session.begin_heard = true;
         session
             .windows

@@ -24,7 +24,7 @@ pub(crate) struct Parting {
 
 impl Endpoint {
     /// What the frame violates, or the link that is left.
-    fn check_peer_detach(&self, body: &DetachBody) -> Result<Parting, Violation>
+    pub(crate) fn check_peer_detach(&self, body: &DetachBody) -> Result<Parting, Violation>
         ensures { MatchResult result (IsParting self.now body.now) (λ e. detach_heard_answer self.now body.now ≡ Err e) }
     {
         if !self.session.takes_frames() {

@@ -1,5 +1,6 @@
 //! A disposition that is heard (part 2, 2.6.12 and 2.7.6).
 ghost use Rattle.std.specs.Prelude.{◌≡◌, IfOk};
+ghost use Rattle.std.specs.Result.{result_err};
 ghost use Rattle.amqp_rules.specs.Deliveries.{disposition_of};
 ghost use Rattle.amqp_rules.specs.PeerDisposition.{disposition_answer, next_disposition};
 ghost use Rattle.amqp_rules.specs.Refusing.{no_memory};
@@ -31,15 +32,25 @@ fn disposition_of(body: &DispositionBody) -> Result<Disposition, AllocError>
 }
 
 impl Endpoint {
+    /// What the frame violates.
+    pub(crate) fn disposition_violation(&self, body: &DispositionBody) -> Option<Violation>
+        ensures { result ≡ result_err (disposition_answer self.now body.now) }
+    {
+        if !self.session.takes_frames() {
+            return Some(Violation::unlinked(ViolationKind::OutOfSession));
+        }
+        if is_backwards(body.first, body.last.unwrap_or(body.first)) {
+            return Some(Violation::unlinked(ViolationKind::BadRange));
+        }
+        None
+    }
+
     /// The peer tells a state of deliveries, or settles them. With n unsettled deliveries, k of them covered: O(log n), and k steps.
     pub(crate) fn plan_peer_disposition(&self, body: &DispositionBody) -> Result<Plan, Violation>
         ensures { Plans no_memory self.now (disposition_answer self.now body.now) (next_disposition self.now body.now) result }
     {
-        if !self.session.takes_frames() {
-            return Err(Violation::unlinked(ViolationKind::OutOfSession));
-        }
-        if is_backwards(body.first, body.last.unwrap_or(body.first)) {
-            return Err(Violation::unlinked(ViolationKind::BadRange));
+        if let Some(violation) = self.disposition_violation(body) {
+            return Err(violation);
         }
         let Ok(said) = disposition_of(body) else {
             return Err(Violation::unlinked(ViolationKind::NoMemory));

@@ -1,5 +1,6 @@
 //! A transfer that is heard (part 2, 2.6.12, 2.6.14 and 2.7.5).
 ghost use Rattle.std.specs.Prelude.{◌≡◌, ◌<◌, Err, ◌&&◌, ◌||◌, ◌+◌, ◌^◌, ◌==◌, [], ◌∷◌, List, ℕ, true, false, None, Some, cond, is_none, length, unwrap_or, IfOk, MatchResult, OnErr};
+ghost use Rattle.std.specs.Result.{result_err};
 ghost use Rattle.amqp_events.specs.Event.{PassesOver};
 ghost use Rattle.amqp_events.specs.Joined.{next_delivery};
 ghost use Rattle.amqp_events.specs.Numbers.{id_used, one_past};
@@ -12,9 +13,9 @@ ghost use Rattle.amqp_links.specs.Links.{IsFirst};
 ghost use Rattle.amqp_links.specs.Marks.{with_marks};
 ghost use Rattle.amqp_deliveries.specs.Change.{ended_in};
 ghost use Rattle.amqp_endpoint.specs.Doing.{Does};
-ghost use Rattle.amqp_endpoint.specs.Plan.{IsPlan, IsRefused, IsSound, Plans, plan_reply, planned};
+ghost use Rattle.amqp_endpoint.specs.Plan.{Checks, IsPlan, IsRefused, IsSound, plan_reply, planned};
 ghost use Rattle.amqp_rules.specs.declared.violation.Violation.{Violation};
-ghost use Rattle.amqp_endpoint.specs.Arriving.{arrival_plan, arrived_plan, arriving_plan, change_arriving, passed_plan};
+ghost use Rattle.amqp_endpoint.specs.Arriving.{arrival_plan, arriving_plan, change_arriving, passed_plan};
 ghost use Rattle.amqp_endpoint.specs.Transferring.{IsGoing, breaks_snd, change_heard, given_heard, later_rows, first_rows, delivery_rows};
 ghost use Rattle.amqp_rules.specs.Deliveries.{item_of, transferred};
 ghost use Rattle.amqp_rules.specs.PeerTransfer.{breaks_mode, breaks_rcv_mode, breaks_size, delivery_violations, is_nameless, is_other, is_unexpected, name_violations, next_transfer, receives, tag_is_taken, transfer_answer, transfer_violations};
@@ -25,7 +26,7 @@ use crate::done::{Done, quiet_done};
 use crate::endpoint::Endpoint;
 use crate::endpoint::dispose::copy_state;
 use crate::endpoint::start::is_too_long;
-use crate::plan::{Plan, Session, plan_quiet};
+use crate::plan::Session;
 use crate::reply::{Given, Reply};
 use crate::stores::Stores;
 use crate::violation::{Violation, ViolationKind};
@@ -34,7 +35,6 @@ use amqp_flow::receiver::ReceiverCredit;
 use amqp_frames::{DeliveryState, Role, TransferBody};
 use amqp_links::arrival::Piece;
 use amqp_links::credit::{Credit, same_role};
-use amqp_links::fate::Fate;
 use amqp_links::link::Link;
 use amqp_links::marks::Marks;
 use amqp_types::{Items, Tag};
@@ -453,7 +453,7 @@ impl Endpoint {
     /// What a transfer violates, or how it comes. O(log n) for n links, beside the table of unsettled deliveries.
     fn arrival(&self, b: &TransferBody, payload: &Bytes) -> Result<Arrival, Violation>
         ensures window { IfOk result (λ a. 0 < self.now.windows.incoming) }
-        ensures plan { MatchResult result (λ a. IsPlan {E = Violation} self.now (transfer_answer self.now b.now payload.now) (next_transfer self.now b.now payload.now) (arrival_plan self.now b.now payload.now a)) (λ e. transfer_answer self.now b.now payload.now ≡ Err e) }
+        ensures plan { Checks self.now (transfer_answer self.now b.now payload.now) (next_transfer self.now b.now payload.now) (arrival_plan self.now b.now payload.now) result }
     {
         if !self.session.takes_frames() {
             return Err(Violation::unlinked(ViolationKind::OutOfSession));
@@ -475,20 +475,13 @@ impl Endpoint {
         Ok(Arrival::Comes(arriving))
     }
 
-    /// A transfer that is heard.
-    pub(crate) fn plan_peer_transfer(
-        &self,
-        b: &TransferBody,
-        payload: &Bytes,
-    ) -> Result<Plan, Violation>
-        ensures { Plans no_memory self.now (transfer_answer self.now b.now payload.now) (next_transfer self.now b.now payload.now) result }
+    /// What a transfer violates.
+    pub(crate) fn arrival_violation(&self, b: &TransferBody, payload: &Bytes) -> Option<Violation>
+        ensures { result ≡ result_err (transfer_answer self.now b.now payload.now) }
     {
         match self.arrival(b, payload) {
-            Ok(arrival) => match plan_arrival(self.session, b, payload, arrival) {
-                Ok(plan) => Ok(plan),
-                Err(_) => Err(Violation::unlinked(ViolationKind::NoMemory)),
-            },
-            Err(violation) => Err(violation),
+            Ok(_) => None,
+            Err(violation) => Some(violation),
         }
     }
 
@@ -611,7 +604,7 @@ impl Endpoint {
         }
     }
 
-    /// A transfer that is heard, at once.
+    /// A transfer that is heard.
     pub(crate) fn transfer(&mut self, b: &TransferBody, payload: &Bytes) -> Result<Done, Violation>
         requires { self.old.steps < 2 ^ 30 }
         ensures done { Does no_memory (transfer_answer self.old b.now payload.now) (next_transfer self.old b.now payload.now) self.new result }
@@ -674,35 +667,4 @@ fn pieces(
     let payload = payload.clone()?;
     let ended = stores.tables.ended(change)?;
     Ok((ended, piece_of(arriving.mode, b, payload)))
-}
-
-/// The plan of a transfer that comes so.
-fn plan_arrival(
-    session: Session,
-    b: &TransferBody,
-    payload: &Bytes,
-    arrival: Arrival,
-) -> Result<Plan, AllocError>
-    requires { 0 < session.windows.incoming }
-    ensures { IfOk result (λ p. p ≡ arrived_plan session b.now payload.now arrival) }
-{
-    match arrival {
-        Arrival::Passed(expected) => {
-            let session = session_heard(session, expected);
-            Ok(plan_quiet(session, Fate::Stay, Change::Stay, Given::Nothing))
-        }
-        Arrival::Comes(arriving) => {
-            let payload = payload.clone()?;
-            let change = change_of(b, &arriving)?;
-            let fate = Fate::Heard {
-                key: arriving.key,
-                number: arriving.number,
-                marks: arriving.marks,
-                piece: piece_of(arriving.mode, b, payload),
-            };
-            let session = session_heard(session, arriving.expected);
-            let given = given_heard(arriving.number, arriving.id, b);
-            Ok(plan_quiet(session, fate, change, given))
-        }
-    }
 }

@@ -3,10 +3,11 @@ ghost use Rattle.std.specs.Prelude.{◌≡◌, ◌<◌, ◌+◌, ◌^◌, ◌∷
 ghost use Rattle.amqp_flow.specs.Credit.{delivery_begun};
 ghost use Rattle.amqp_flow.specs.Windows.{windows_sent};
 ghost use Rattle.amqp_endpoint.specs.Doing.{Does};
-ghost use Rattle.amqp_endpoint.specs.Plan.{IsPlan, IsRefused, Plans};
-ghost use Rattle.amqp_endpoint.specs.Starting.{change_begun, item_begun, second_on, start_plan};
+ghost use Rattle.amqp_endpoint.specs.Plan.{IsPlan, IsRefused};
+ghost use Rattle.amqp_endpoint.specs.Starting.{item_begun, second_on, start_plan};
 ghost use Rattle.amqp_endpoint.specs.Taking.{IsTaken};
 ghost use Rattle.std.specs.List.{list_any};
+ghost use Rattle.std.specs.Result.{result_err};
 ghost use Rattle.amqp_events.specs.Tags.{is_tagged};
 ghost use Rattle.amqp_links.specs.Credits.{credit_in, role_of};
 ghost use Rattle.amqp_links.specs.Marks.{with_marks};
@@ -18,15 +19,14 @@ use crate::done::Done;
 use crate::endpoint::Endpoint;
 use crate::endpoint::onlink::OnLink;
 use crate::endpoint::telling::flag;
-use crate::plan::{Plan, Session};
+use crate::plan::Session;
 use crate::refusal::Refusal;
 use crate::reply::{Given, Reply};
-use crate::sending::{Written, cut_sharing, write_sharing};
-use amqp_deliveries::{Change, HeldItem, Tables};
+use crate::sending::{Written, cut_sharing, sending_refusal};
+use amqp_deliveries::{HeldItem, Tables};
 use amqp_flow::sender::SenderCredit;
 use amqp_frames::{Performative, Role, TransferBody};
 use amqp_links::credit::{Credit, same_role};
-use amqp_links::fate::Fate;
 use amqp_links::link::Link;
 use amqp_links::marks::{Marks, Sending};
 use amqp_types::{Items, Tag};
@@ -123,19 +123,6 @@ pub(crate) fn sending_after(more: bool, id: u32, size: u128) -> Option<Sending>
     match more {
         true => Some(Sending { id, size }),
         false => None,
-    }
-}
-
-/// What becomes of the unsettled deliveries: one more, unless it is sent settled.
-fn change_begun(settled: bool, item: HeldItem) -> Change
-    ensures { result ≡ change_begun settled item }
-{
-    match settled {
-        true => {
-            drop(item);
-            Change::Stay
-        }
-        false => Change::Begins(Role::Sender, item),
     }
 }
 
@@ -241,8 +228,8 @@ fn item_begun(id: u32, link: u32, tag: &Tag, second: bool) -> HeldItem
 }
 
 impl Endpoint {
-    /// The first refusal that is due, or the delivery that begins. O(log n) for n links.
-    fn make_start(
+    /// The refusal that is due. O(log n) for n links, and for as many unsettled deliveries.
+    pub(crate) fn refuse_start(
         &self,
         link: u32,
         tag: &Tag,
@@ -250,26 +237,21 @@ impl Endpoint {
         settled: bool,
         payload: &Bytes,
         more: bool,
-    ) -> Result<Starting, Refusal>
-        requires { self.now.steps < 2 ^ 30 }
-        ensures window { IfOk result (λ s. 0 < self.now.windows.remote_incoming) }
-        ensures plan { MatchResult result (λ s. IsPlan self.now (start_answer self.now link tag.now format settled payload.now more) (next_start self.now link tag.now format settled payload.now more) (start_plan self.now link tag.now settled s)) (λ e. IsRefused Refusal.NoMemory (start_answer self.now link tag.now format settled payload.now more) e) }
+    ) -> Option<Refusal>
+        ensures { result ≡ result_err (start_answer self.now link tag.now format settled payload.now more) }
     {
-        let (on, second) = match self.check_start(link, tag, settled, payload, more) {
-            Ok(both) => both,
-            Err(refusal) => return Err(refusal),
-        };
-        let _size = size_of(payload);
-        let id = self.session.next_delivery();
-        let body = start_body(on.handle, id, *tag, format, settled, more);
-        match write_sharing(self.alloc, body, payload, self.session.max_frame) {
-            Ok(sent) => Ok(Starting { on, second, sent }),
-            Err(refusal) => Err(refusal),
+        match self.check_start(link, tag, settled, payload, more) {
+            Err(refusal) => Some(refusal),
+            Ok((on, _)) => {
+                let id = self.session.next_delivery();
+                let body = start_body(on.handle, id, *tag, format, settled, more);
+                sending_refusal(body, payload, self.session.max_frame)
+            }
         }
     }
 
-    /// The same, with the octets of a short frame out of the cutter's block.
-    fn cut_start(
+    /// The first refusal that is due, or the delivery that begins: the octets of a short frame are out of the cutter's block.
+    fn make_start(
         &mut self,
         link: u32,
         tag: &Tag,
@@ -303,40 +285,7 @@ impl Endpoint {
         Ok(Starting { on, second, sent })
     }
 
-    /// A delivery and its first transfer.
-    pub(crate) fn plan_start(
-        &self,
-        link: u32,
-        tag: Tag,
-        format: u32,
-        settled: bool,
-        payload: &Bytes,
-        more: bool,
-    ) -> Result<Plan, Refusal>
-        requires { self.now.steps < 2 ^ 30 }
-        ensures { Plans Refusal.NoMemory self.now (start_answer self.now link tag format settled payload.now more) (next_start self.now link tag format settled payload.now more) result }
-    {
-        let s = match self.make_start(link, &tag, format, settled, payload, more) {
-            Ok(s) => s,
-            Err(refusal) => return Err(refusal),
-        };
-        let Starting { on, second, sent } = s;
-        let id = self.session.next_delivery();
-        let item = item_begun(id, link, &tag, second);
-        Ok(Plan {
-            session: started(self.session),
-            fate: Fate::Marked {
-                key: on.key,
-                number: link,
-                marks: on.marks,
-            },
-            change: change_begun(settled, item),
-            sent: Some(sent),
-            given: Given::Delivery(id),
-        })
-    }
-
-    /// The same at once.
+    /// A delivery begins, and its first transfer is sent.
     pub(crate) fn start(
         &mut self,
         link: u32,
@@ -350,7 +299,7 @@ impl Endpoint {
         ensures done { Does Refusal.NoMemory (start_answer self.old link tag.now format settled payload.now more) (next_start self.old link tag.now format settled payload.now more) self.new result }
         ensures err { OnErr result (self.new ≡ self.old) }
     {
-        let s = match self.cut_start(link, tag, format, settled, payload, more) {
+        let s = match self.make_start(link, tag, format, settled, payload, more) {
             Ok(s) => s,
             Err(refusal) => return Err(refusal),
         };

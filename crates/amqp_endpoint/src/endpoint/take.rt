@@ -2,18 +2,15 @@
 ghost use Rattle.std.specs.Prelude.{◌≡◌, ◌<◌, ◌^◌, IfOk, MatchResult, OnErr};
 ghost use Rattle.amqp_rules.specs.Take.{take_answer, taken_of, next_take};
 ghost use Rattle.amqp_endpoint.specs.Doing.{Does, DoesOnce, take_plan};
-ghost use Rattle.amqp_endpoint.specs.Plan.{IsPlan, IsRefused, Plans};
+ghost use Rattle.amqp_endpoint.specs.Plan.{Checks, IsPlan, IsRefused};
 
 use crate::done::{Done, quiet_done, quiet_reply};
 use crate::endpoint::Endpoint;
-use crate::plan::{Plan, plan_quiet};
 use crate::refusal::Refusal;
 use crate::reply::{Given, Reply, Taken};
-use amqp_deliveries::Change;
 use amqp_frames::Role;
 use amqp_links::arrival::Waiting;
 use amqp_links::credit::same_role;
-use amqp_links::fate::Fate;
 use amqp_types::Boxed;
 use bytes::Bytes;
 use std::alloc::AllocError;
@@ -35,51 +32,46 @@ fn taken_of(link: u32, waiting: &Waiting) -> Result<Taken, AllocError>
 }
 
 impl Endpoint {
-    /// What waits first, with the key of its link. O(log n) for n links, besides the join of a payload that came in several transfers.
-    fn first_taken(&self, link: u32) -> Result<(usize, Boxed<Taken>), Refusal>
-        ensures { MatchResult result (λ both. IsPlan self.now (take_answer self.now link) (next_take self.now link) (take_plan self.now both.0 link both.1)) (λ e. IsRefused Refusal.NoMemory (take_answer self.now link) e) }
+    /// The first refusal that is due, or what waits first, with the key and the number of its link. O(log n) for n links.
+    pub(crate) fn check_take(&self, link: u32) -> Result<(usize, u32, &Waiting), Refusal>
+        ensures { Checks self.now (take_answer self.now link) (next_take self.now link) (λ first. take_plan self.now first.0 link (taken_of first.1 first.2.now)) result }
     {
         let Some(found) = self.stores.links.by_number(link) else {
             return Err(Refusal::NoLink);
         };
-        let l = found.link;
-        if !same_role(Role::Receiver, l.role()) {
+        if !same_role(Role::Receiver, found.link.role()) {
             return Err(Refusal::WrongRole);
         }
-        let Some(waiting) = l.first_waiting() else {
-            return Err(Refusal::Nothing);
+        match found.link.first_waiting() {
+            Some(waiting) => Ok((found.key, found.link.number(), waiting)),
+            None => Err(Refusal::Nothing),
+        }
+    }
+
+    /// What waits first is made. O(1), besides the join of a payload that came in several transfers.
+    fn make_taken(&self, link: u32) -> Result<(usize, Boxed<Taken>), Refusal>
+        ensures { MatchResult result (λ both. IsPlan self.now (take_answer self.now link) (next_take self.now link) (take_plan self.now both.0 link both.1)) (λ e. IsRefused Refusal.NoMemory (take_answer self.now link) e) }
+    {
+        let (key, number, waiting) = match self.check_take(link) {
+            Ok(first) => first,
+            Err(refusal) => return Err(refusal),
         };
-        let Ok(taken) = taken_of(l.number(), waiting) else {
+        let Ok(taken) = taken_of(number, waiting) else {
             return Err(Refusal::NoMemory);
         };
         match Boxed::new(self.alloc, taken) {
-            Ok(taken) => Ok((found.key, taken)),
+            Ok(taken) => Ok((key, taken)),
             Err(_) => Err(Refusal::NoMemory),
         }
     }
 
     /// Takes what waits first.
-    pub(crate) fn plan_take(&self, link: u32) -> Result<Plan, Refusal>
-        ensures { Plans Refusal.NoMemory self.now (take_answer self.now link) (next_take self.now link) result }
-    {
-        match self.first_taken(link) {
-            Ok((key, taken)) => Ok(plan_quiet(
-                self.session,
-                Fate::Taken { key, number: link },
-                Change::Stay,
-                Given::Taken(taken),
-            )),
-            Err(refusal) => Err(refusal),
-        }
-    }
-
-    /// The same at once.
     pub(crate) fn take(&mut self, link: u32) -> Result<Done, Refusal>
         requires { self.old.steps < 2 ^ 30 }
         ensures done { Does Refusal.NoMemory (take_answer self.old link) (next_take self.old link) self.new result }
         ensures err { OnErr result (self.new ≡ self.old) }
     {
-        let (key, taken) = match self.first_taken(link) {
+        let (key, taken) = match self.make_taken(link) {
             Ok(both) => both,
             Err(refusal) => return Err(refusal),
         };
@@ -92,13 +84,13 @@ impl Endpoint {
         Ok(quiet_done(self.alloc, Given::Taken(taken), Given::Taken(once_more)))
     }
 
-    /// The same at once, where what it tells is wanted once.
+    /// The same, where what it tells is wanted once.
     pub(crate) fn take_once(&mut self, link: u32) -> Result<(Reply, Option<Bytes>), Refusal>
         requires { self.old.steps < 2 ^ 30 }
         ensures done { DoesOnce Refusal.NoMemory (take_answer self.old link) (next_take self.old link) self.new result }
         ensures err { OnErr result (self.new ≡ self.old) }
     {
-        let (key, taken) = match self.first_taken(link) {
+        let (key, taken) = match self.make_taken(link) {
             Ok(both) => both,
             Err(refusal) => return Err(refusal),
         };

@@ -4,4 +4,4 @@ use Rattle.amqp_endpoint.proofs.sending.sending_refusal.Goals as goal
 
 pub returns : goal.returns
 unfolding frame_refused
-returns c = rw (c.told_refusal.ensures, c.frame_refusal.ensures) refl
+returns c = rw (c.told_refusal.ensures, c.frame_refusal-fault.ensures) refl

@@ -10,19 +10,19 @@ start-requires c =
     let v = view_of c.self.inside.steps c.self.inside.session c.self.inside.stores in
     rw (c.item_begun-item.ensures, c.next_delivery-id.ensures)
     record {
-      met = met-after c.self.inside.steps c.self.inside.session c.self.inside.stores (start_plan v c.args.link c.args.tag.now c.args.settled c.in-Ok.s) (rw (← (c.self.view_is ∙ c.cut_start.ensures.same)) at c.requires) c.self.invariant (rw (← (c.self.view_is ∙ c.cut_start.ensures.same)) at c.in-Ok.ensures.plan.sound);
+      met = met-after c.self.inside.steps c.self.inside.session c.self.inside.stores (start_plan v c.args.link c.args.tag.now c.args.settled c.in-Ok.s) (rw (← (c.self.view_is ∙ c.make_start.ensures.same)) at c.requires) c.self.invariant (rw (← (c.self.view_is ∙ c.make_start.ensures.same)) at c.in-Ok.ensures.plan.sound);
     }
 
 pub invariant_of-self-2 : goal.invariant_of-self-2
 invariant_of-self-2 c =
     let v = view_of c.self.inside.steps c.self.inside.session c.self.inside.stores in
     rw (c.started-self-inside.ensures, c.in-Ok-start.ensures.ok, c.item_begun-item.ensures, c.next_delivery-id.ensures)
-    (kept-after c.self.inside.steps c.self.inside.session c.self.inside.stores (start_plan v c.args.link c.args.tag.now c.args.settled c.in-Ok.s) (rw (← (c.self.view_is ∙ c.cut_start.ensures.same)) at c.requires) c.self.invariant (rw (← (c.self.view_is ∙ c.cut_start.ensures.same)) at c.in-Ok.ensures.plan.sound))
+    (kept-after c.self.inside.steps c.self.inside.session c.self.inside.stores (start_plan v c.args.link c.args.tag.now c.args.settled c.in-Ok.s) (rw (← (c.self.view_is ∙ c.make_start.ensures.same)) at c.requires) c.self.invariant (rw (← (c.self.view_is ∙ c.make_start.ensures.same)) at c.in-Ok.ensures.plan.sound))
 
 pub returns-clause-done : goal.returns-clause-done
 returns-clause-done c =
     let v = view_of c.self.inside.steps c.self.inside.session c.self.inside.stores in
-    rw (← (c.self.view_is ∙ c.cut_start.ensures.same))
-    (started-done v _ _ c.args.link c.args.tag.now c.args.settled c.in-Ok.s _ _ (rw (← (c.self.view_is ∙ c.cut_start.ensures.same)) at c.in-Ok.ensures.plan)
+    rw (← (c.self.view_is ∙ c.make_start.ensures.same))
+    (started-done v _ _ c.args.link c.args.tag.now c.args.settled c.in-Ok.s _ _ (rw (← (c.self.view_is ∙ c.make_start.ensures.same)) at c.in-Ok.ensures.plan)
     (rw (c.sending_done.ensures, c.next_delivery-id.ensures) refl)
     (rw (c.started-self-inside.ensures, c.in-Ok-start.ensures.ok, c.item_begun-item.ensures, c.next_delivery-id.ensures) refl))

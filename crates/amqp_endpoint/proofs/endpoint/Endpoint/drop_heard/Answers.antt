@@ -1,0 +1,18 @@
+use Rattle.std.proofs.Common.{refl}
+use Rattle.amqp_links.specs.declared.fate.Fate.TheVariants as fate
+use Rattle.amqp_deliveries.specs.declared.change.Change.TheVariants.{Stay}
+use Rattle.amqp_rules.specs.declared.reply.Given.TheVariants.{Nothing}
+use Rattle.amqp_endpoint.specs.Plan.{quiet_plan}
+use Rattle.amqp_endpoint.proofs.Kept.{kept-after}
+use Rattle.amqp_endpoint.proofs.Plans.{counted-still}
+use Rattle.amqp_endpoint.proofs.endpoint.Endpoint.drop_heard.Goals as goal
+
+pub invariant_of-self : goal.invariant_of-self
+invariant_of-self c =
+    kept-after c.self.inside.steps c.self.inside.session c.self.inside.stores (quiet_plan c.self.inside.session fate.Stay Stay Nothing) (rw (← c.self.view_is) at c.requires) c.self.invariant
+    (record {
+      fit = tt;
+      short = tt;
+      counted = counted-still c.self.inside.steps c.self.inside.session c.self.inside.session c.self.inside.stores Stay tt c.self.invariant refl refl refl refl;
+      alone = tt;
+    })
