@@ -12,3 +12,4 @@ pub mod Onward
 pub mod Popping
 pub mod Loops
 pub mod Pumps
+pub mod Telling

@@ -1,6 +1,8 @@
 -- What a pump does: octets are read and fed, units go out.
-use Rattle.std.specs.Prelude.{ℕ, ◌≡◌, ◌+◌, List, [], ◌∷◌, ◌++◌, length, Option, Result, Ok, Err}
+use Rattle.std.specs.Prelude.{ℕ, ◌≡◌, ◌+◌, List, [], ◌∷◌, ◌++◌, length, Option, Some, None, Result, Ok, Err}
 use Rattle.std.specs.Io.KnownBytes.{Consumes, Appends, IsAtEnd}
+use Rattle.amqp_rules.specs.declared.reply.Given.{Given}
+use Rattle.amqp_laws.specs.declared.entry.Entry.{Entry}
 use Rattle.amqp_journal.specs.Log.{Log}
 use Rattle.amqp_journal.specs.Units.{units, waiting}
 use Rattle.amqp_conn.specs.declared.phase.Phase.TheVariants as phase
@@ -108,3 +110,24 @@ CountsFailures (Ok done) reads reads' writes writes' = (reads' ≡ reads) × (wr
 CountsFailures (Err fault.Read) reads reads' writes writes' = reads' ≡ reads + 1
 CountsFailures (Err fault.Write) reads reads' writes writes' = writes' ≡ writes + 1
 CountsFailures (Err (fault.Conn e)) reads reads' writes writes' = Unit {0}
+
+-- # What the entries give
+
+-- all that was told, and then this; where it is known
+abbrev pub AddsAll : Option (List Given) → Option (List Given) → List Given → Type 0
+AddsAll None new more = Unit {0}
+AddsAll (Some old) None more = ⊥
+AddsAll (Some old) (Some new) more = new ≡ old ++ more
+
+abbrev pub Adds : Option (List Given) → Option (List Given) → Given → Type 0
+Adds old new given = AddsAll old new (given ∷ [])
+
+abbrev pub given_by : List Entry → List Given
+given_by [] = []
+given_by (e ∷ es) = e.reply.given ∷ given_by es
+
+-- what each entry that the journal has more gives was told, in their order, and nothing else
+pub record Tells (before after : List Entry) (heard heard' : Option (List Given)) : Type 0 where
+  pub entries : List Entry
+  pub added : after ≡ before ++ entries
+  pub told : AddsAll heard heard' (given_by entries)

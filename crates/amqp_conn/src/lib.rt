@@ -133,5 +133,5 @@ pub use device::{Failed, FromStd, Sink, Source};
 pub use fault::ConnFault;
 pub use fed::Fed;
 pub use phase::Phase;
-pub use pumping::{PumpEnd, PumpFault, pump};
+pub use pumping::{Hears, PumpEnd, PumpFault, drive, pump};
 pub use refused::{CloseRefusal, StartFault};

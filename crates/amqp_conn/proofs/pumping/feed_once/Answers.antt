@@ -1,11 +1,25 @@
+use Rattle.std.proofs.Common.{◌≡◌, ℕ, subst, sym}
+use Rattle.amqp_conn.specs.Turning.{GoesOn}
 use Rattle.amqp_conn.proofs.Loops.{goes-on, has-ended, fed-to-end}
+use Rattle.amqp_conn.proofs.Telling.{tells-fed, tells-none, fault-adds-none}
 use Rattle.amqp_conn.proofs.pumping.feed_once.Goals as goal
 
 pub returns-in-Ok-clause-on : goal.returns-in-Ok-clause-on
-returns-in-Ok-clause-on c = goes-on c.args.conn.now c.feed.new.self c.args.rest.now c.in-Ok.fed c.in-Ok.ensures.fed (c.in-Ok.ensures.progress c.requires)
+returns-in-Ok-clause-on g c =
+    subst (λ (n : ℕ). GoesOn c.args.conn.now c.args.rest.now n c.feed.new.self) (sym c.hand_on.ensures.used)
+    (goes-on c.args.conn.now c.feed.new.self c.args.rest.now c.in-Ok.fed c.in-Ok.ensures.fed (c.in-Ok.ensures.progress c.requires))
+
+pub returns-in-Ok-clause-tells : goal.returns-in-Ok-clause-tells
+returns-in-Ok-clause-tells g c =
+    tells-fed c.args.conn.now c.feed.new.self c.args.rest.now c.in-Ok.fed (g.H.Hears.heard c.args.each.now) (g.H.Hears.heard c.hand_on.new.each) c.in-Ok.ensures.fed c.hand_on.ensures.tells c.hand_on.ensures.still
+
+pub returns-in-Err-clause-tells : goal.returns-in-Err-clause-tells
+returns-in-Err-clause-tells g c =
+    tells-none c.args.conn.now.core.log.journal c.feed.new.self.core.log.journal (g.H.Hears.heard c.args.each.now)
+    (fault-adds-none c.in-Err.fault c.args.conn.now c.feed.new.self c.args.rest.now c.in-Err.ensures.fed)
 
 pub returns-in-Err-clause-ended : goal.returns-in-Err-clause-ended
-returns-in-Err-clause-ended c = has-ended c.in-Err.fault c.args.conn.now c.feed.new.self c.args.rest.now c.in-Err.ensures.fed
+returns-in-Err-clause-ended g c = has-ended c.in-Err.fault c.args.conn.now c.feed.new.self c.args.rest.now c.in-Err.ensures.fed
 
 pub returns-in-Err-clause-last : goal.returns-in-Err-clause-last
-returns-in-Err-clause-last c = fed-to-end c.in-Err.fault c.args.conn.now c.feed.new.self c.args.rest.now c.recall.ensures.quiet c.in-Err.ensures.fed
+returns-in-Err-clause-last g c = fed-to-end c.in-Err.fault c.args.conn.now c.feed.new.self c.args.rest.now c.recall.ensures.quiet c.in-Err.ensures.fed

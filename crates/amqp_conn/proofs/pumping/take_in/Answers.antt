@@ -1,8 +1,9 @@
-use Rattle.std.proofs.Common.{◌≡◌, ℕ, [], take, subst}
+use Rattle.std.proofs.Common.{◌≡◌, ℕ, [], take, refl, subst}
 use Rattle.std.specs.Io.KnownBytes.{Consumes}
 use Rattle.amqp_conn.proofs.Cutting.{none}
 use Rattle.amqp_conn.proofs.Loops.{but-memory}
 use Rattle.amqp_conn.proofs.Pumps.{pumps-fed}
+use Rattle.amqp_conn.proofs.Telling.{tells-none}
 use Rattle.amqp_conn.proofs.pumping.take_in.Goals as goal
 
 pub returns-then-count-eq0-clause-pumps : goal.returns-then-count-eq0-clause-pumps
@@ -26,3 +27,6 @@ returns-in-Err-clause-last g c =
     but-memory c.in-Err.fault
     (λ fed sink. pumps-fed old new sink c.args.conn.now c.feed_all.new.conn (take c.in-Ok.count c.read.new.buffer) c.in-Ok.ensures.octets.0 fed c.recall.ensures.within c.recall.ensures.some)
     c.in-Err.ensures.last
+
+pub returns-then-count-eq0-clause-tells : goal.returns-then-count-eq0-clause-tells
+returns-then-count-eq0-clause-tells g c = tells-none c.args.conn.now.core.log.journal c.args.conn.now.core.log.journal (g.H.Hears.heard c.args.each.now) refl

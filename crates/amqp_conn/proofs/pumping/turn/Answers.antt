@@ -2,6 +2,7 @@ use Rattle.std.proofs.Common.{ℕ, List, Option, subst}
 use Rattle.amqp_conn.specs.declared.pumping.Untaken.{Untaken}
 use Rattle.amqp_conn.specs.Pumping.{Pumps, UntakenFed}
 use Rattle.amqp_conn.proofs.Pumps.{pumps-then, last-pumps}
+use Rattle.amqp_conn.proofs.Telling.{tells-none, tells-before, tells-behind}
 use Rattle.amqp_conn.proofs.pumping.turn.Goals as goal
 
 pub returns-in-Ok-take_in-clause-pumps : goal.returns-in-Ok-take_in-clause-pumps
@@ -27,3 +28,15 @@ returns-in-Err-Conn-clause-last g c =
     c.last_units.ensures.same
     (subst (λ (w : Untaken). UntakenFed w P) c.in-Err-Conn.field-0-is c.in-Err-Conn.ensures.last)
     c.last_units.ensures.went
+
+pub returns-in-Ok-take_in-clause-tells : goal.returns-in-Ok-take_in-clause-tells
+returns-in-Ok-take_in-clause-tells g c =
+    tells-before c.args.conn.now.core.log.journal c.write_waiting.new.conn.core.log.journal c.take_in.new.conn.core.log.journal (g.H.Hears.heard c.args.each.now) (g.H.Hears.heard c.take_in.new.each)
+    c.write_waiting.ensures.journal c.take_in.ensures.tells
+
+pub returns-in-Err-Conn-clause-tells : goal.returns-in-Err-Conn-clause-tells
+returns-in-Err-Conn-clause-tells g c =
+    tells-before c.args.conn.now.core.log.journal c.write_waiting.new.conn.core.log.journal c.last_units.new.conn.core.log.journal (g.H.Hears.heard c.args.each.now) (g.H.Hears.heard c.take_in.new.each)
+    c.write_waiting.ensures.journal
+    (tells-behind c.write_waiting.new.conn.core.log.journal c.take_in.new.conn.core.log.journal c.last_units.new.conn.core.log.journal (g.H.Hears.heard c.args.each.now)
+    (g.H.Hears.heard c.take_in.new.each) c.last_units.ensures.journal c.take_in.ensures.tells)

@@ -5,7 +5,7 @@ use Rattle.amqp_conn.proofs.Pumps.{pumps-none, pumps-then}
 use Rattle.amqp_conn.proofs.pumping.write_waiting.Goals as goal
 
 pub loop-failed-init : goal.loop-failed-init
-loop-failed-init g c = (λ source. pumps-none source (g.K.Sink.written c.args.sink.now) c.args.conn.now c.recall.ensures.quiet c.recall.ensures.some, refl, refl)
+loop-failed-init g c = (λ source. pumps-none source (g.K.Sink.written c.args.sink.now) c.args.conn.now c.recall.ensures.quiet c.recall.ensures.some, refl, refl, refl)
 
 pub loop-failed-preserved : goal.loop-failed-preserved
 loop-failed-preserved g c =
@@ -19,4 +19,5 @@ loop-failed-preserved g c =
           (one source),
       c.in-Ok-true.ensures.ok ∙ c.loop-failed.invariant.1,
       c.write_unit.ensures.phase ∙ c.loop-failed.invariant.2,
+      c.write_unit.ensures.journal ∙ c.loop-failed.invariant.3,
     )

@@ -8,6 +8,7 @@ invariant-loop-failed g l =
     ((source : Option (List ℕ)) → Pumps source source (g.K.Sink.written l.initial.sink) (g.K.Sink.written l.sink) l.initial.conn l.conn)
     × (g.K.Sink.failed l.sink ≡ g.K.Sink.failed l.initial.sink)
     × (l.conn.core.phase ≡ l.initial.conn.core.phase)
+    × (l.conn.core.log.journal ≡ l.initial.conn.core.log.journal)
 
 abbrev pub decreases-loop-failed : goal.decreases-loop-failed
 decreases-loop-failed g l = length (waiting l.conn.core.log)
