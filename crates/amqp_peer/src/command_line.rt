@@ -4,6 +4,7 @@ ghost use Rattle.amqp_peer.specs.Requests.{IsAllowed};
 
 use amqp_endpoint::config::Config;
 use amqp_pair::{MAX_CONSUMERS, MAX_COUNT, MAX_CREDIT, MAX_SIZE, Options};
+use amqp_script::options;
 use amqp_script::options::{USUAL, config_of, with_config};
 use clap::error::ErrorKind;
 use clap::{Arg, ArgMatches, Command, Error, value_parser};
@@ -15,6 +16,8 @@ use std::convert::AsStr;
 pub enum Request {
     /// A run of `script` on a journal with these settings.
     Script(Config),
+    /// A run of `conn` with these settings of its session.
+    Conn(Config),
     /// A run of `frames`.
     Frames,
     /// A run of `pair`.
@@ -35,6 +38,11 @@ pub fn read_request<'a, S: AsStr>(alloc: Global, words: &'a [S]) -> Result<Reque
         let options = pair_options(options);
         if options.are_in_range() {
             return Ok(Request::Pair(options));
+        }
+    } else if let Some(options) = matches.subcommand_matches("conn") {
+        let config = config_of(options);
+        if config.is_within_limits() {
+            return Ok(Request::Conn(config));
         }
     } else {
         let config = script_config(&matches);
@@ -57,6 +65,7 @@ fn program<'a>(alloc: Global) -> Result<Command<'a>, AllocError> {
         .about("One end of an AMQP 1.0 connection")
         .subcommand_required(true)
         .subcommand(script)?
+        .subcommand(options::command(alloc)?)?
         .subcommand(frames)?
         .subcommand(pair(alloc)?)
 }

@@ -3,6 +3,7 @@
 //! | module | what it holds |
 //! |---|---|
 //! | `command_line` | the commands and their options |
+//! | `amqp_script::driven` | the command `conn`: lines of text on one connection, one answer each |
 //! | `amqp_script::frames` | the command `frames`: octets in hexadecimal, framed and named |
 //! | `amqp_script::script` | the command `script`: lines of text on one journal, one answer each |
 //! | `amqp_pair` | the command `pair`: two ends of a connection over the loopback |
@@ -20,6 +21,7 @@ mod tests;
 
 use amqp_pair::run_pair;
 use amqp_script::Outcome;
+use amqp_script::driven::run_conn;
 use amqp_script::frames::{Framed, Octets, run_frames};
 use amqp_script::script::run_script;
 use command_line::{Request, read_request};
@@ -58,6 +60,12 @@ where
             let mut reader = BufReader::new(rt.alloc(), rt.reader())?;
             let mut writer = BufWriter::new(rt.alloc(), io::writer(rt))?;
             let outcome = run_script(rt.alloc(), &config, &mut reader, &mut writer)?;
+            Ok(status_of(outcome))
+        }
+        Ok(Request::Conn(config)) => {
+            let mut reader = BufReader::new(rt.alloc(), rt.reader())?;
+            let mut writer = BufWriter::new(rt.alloc(), io::writer(rt))?;
+            let outcome = run_conn(rt.alloc(), &config, &mut reader, &mut writer)?;
             Ok(status_of(outcome))
         }
         Ok(Request::Frames) => {

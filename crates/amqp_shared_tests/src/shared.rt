@@ -4,6 +4,8 @@ ghost use Rattle.amqp_shared.specs.Passes.{IsNamed};
 
 mod callers;
 mod consumers;
+mod ends;
+mod writers;
 
 use amqp_conn::{Config, Phase};
 use amqp_frames::Role;
@@ -55,8 +57,16 @@ const ACCEPTED: [u8; 22] = [
     0x45,
 ];
 
-/// A seed of a connection that takes frames of 65536 octets, with a ring of so many units.
+/// A seed of a connection whose journal is long enough, with a ring of so many units.
 fn seed(alloc: Global, ring: usize) -> Result<Seed, Fail>
+    requires { (1 ≤ ring) × (ring ≤ 65536) }
+    ensures { IfOk result (λ s. s.parts ≡ 65536) }
+{
+    seed_of(alloc, ring, 1000)
+}
+
+/// A seed of a connection that takes frames of 65536 octets and has so many steps at most, with a ring of so many units.
+fn seed_of(alloc: Global, ring: usize, journal_limit: u32) -> Result<Seed, Fail>
     requires { (1 ≤ ring) × (ring ≤ 65536) }
     ensures { IfOk result (λ s. s.parts ≡ 65536) }
 {
@@ -67,7 +77,7 @@ fn seed(alloc: Global, ring: usize) -> Result<Seed, Fail>
         idle_time_out: None,
         first_id: 0,
         window: 2048,
-        journal_limit: 1000,
+        journal_limit,
     };
     match Seed::new(alloc, config, ring) {
         Ok(seed) => Ok(seed),

@@ -8,7 +8,7 @@ use std::test::Fail;
 #[test]
 fn command_lines(rt: HostRuntime) -> Result<(), Fail> {
     let alloc = rt.alloc();
-    let faults: [&[&str]; 8] = [
+    let faults: [&[&str]; 9] = [
         &["amqp_peer"],
         &["amqp_peer", "listen"],
         &["amqp_peer", "script", "--limit", "0"],
@@ -16,6 +16,7 @@ fn command_lines(rt: HostRuntime) -> Result<(), Fail> {
         &["amqp_peer", "script", "--limit", "many"],
         &["amqp_peer", "script", "--first-id", "4294967296"],
         &["amqp_peer", "script", "--window", "0"],
+        &["amqp_peer", "conn", "--window", "0"],
         &["amqp_peer", "script", "first-path.script"],
     ];
     for words in faults {
@@ -25,9 +26,10 @@ fn command_lines(rt: HostRuntime) -> Result<(), Fail> {
         assert_eq!(rt; error.exit_code(), 2);
         assert!(rt; error.use_stderr());
     }
-    let helps: [&[&str]; 3] = [
+    let helps: [&[&str]; 4] = [
         &["amqp_peer", "--help"],
         &["amqp_peer", "script", "-h"],
+        &["amqp_peer", "conn", "-h"],
         &["amqp_peer", "pair", "--help"],
     ];
     for words in helps {
@@ -79,6 +81,25 @@ fn settings(rt: HostRuntime) -> Result<(), Fail> {
         };
         assert_eq!(rt; request, Request::Script(config));
     }
+    Ok(())
+}
+
+#[test]
+fn conn_settings(rt: HostRuntime) -> Result<(), Fail> {
+    let words: &[&str] = &[
+        "amqp_peer",
+        "conn",
+        "--limit",
+        "3",
+        "--first-id",
+        "4294967295",
+    ];
+    let config = Config {
+        first_id: 4294967295,
+        window: 2048,
+        journal_limit: 3,
+    };
+    assert_eq!(rt; read_request(rt.alloc(), words)?, Request::Conn(config));
     Ok(())
 }
 

@@ -3,12 +3,13 @@ ghost use Rattle.std.specs.Prelude.{◌≡◌, vec_len};
 ghost use Rattle.amqp_shared.specs.Passes.{IsNamed};
 
 use super::{GREETING, comes_to, does, hear, left_and_taken, seed};
+use amqp_conn::Conn;
 use amqp_frames::{DeliveryState, Role};
 use amqp_journal::receipt::Receipt;
 use amqp_rules::op::Op;
 use amqp_rules::refusal::Refusal;
 use amqp_rules::reply::Taken;
-use amqp_shared::{Closed, Consumed, Name, Pass, Seed, Shared, Work, open_shared, run_consumers};
+use amqp_shared::{Consumed, Name, Pass, Seed, Shared, Work, open_shared, run_consumers};
 use amqp_types::Text;
 use std::alloc::{AllocError, Global};
 use std::marker::Brand;
@@ -154,19 +155,19 @@ fn settled_and_second<N: Name + Send + Sync, R: Threads + Wait + Abort + Sync>(
         settled: false,
         state: Some(given_back()),
     };
-    assert!(rt; stands_at(&closed, &disposed, 10));
-    assert!(rt; stands_at(&closed, &grant(), 11));
+    assert!(rt; stands_at(&closed.conn, &disposed, 10));
+    assert!(rt; stands_at(&closed.conn, &grant(), 11));
     Ok(())
 }
 
 /// The journal has this operation at this place, and it gave neither a link nor a delivery.
-fn stands_at(closed: &Closed, op: &Op, place: u64) -> bool {
+fn stands_at(conn: &Conn, op: &Op, place: u64) -> bool {
     let receipt = Receipt {
         place,
         link: None,
         id: None,
     };
-    closed.conn.logged().stands(op, &receipt)
+    conn.logged().stands(op, &receipt)
 }
 
 /// One consumer that ends the connection once it has had two: its pass, how many it consumed, how many of these were right, and what stopped it.
@@ -188,6 +189,87 @@ fn ended_by_two<N: Name + Send + Sync, R: Threads + Wait + Abort + Sync>(
     let mut done = run_consumers(rt, shared, passes, works, 1, 2)?;
     let consumed = done.pop().ok_or("nothing consumed")?;
     let told = (consumed.count, consumed.work.right, consumed.stopped);
+    Ok((consumed.pass, told))
+}
+
+/// The peer's disposition of the first delivery, which it has accepted and settles.
+const SETTLED: [u8; 22] = [
+    0, 0, 0, 0x16, 2, 0, 0, 0, 0, 0x53, 0x15, 0xc0, 9, 5, 0x42, 0x43, 0x43, 0x41, 0, 0x53, 0x24,
+    0x45,
+];
+
+/// Hears, while it has the first delivery, that the peer settles it; ends the connection at the second.
+struct Settling<'a, N: Name, R: Wait> {
+    rt: &'a R,
+    shared: &'a Shared<N>,
+    pass: Pass<N>,
+}
+
+impl<'a, N: Name, R: Wait> Drop for Settling<'a, N, R> {
+    fn drop(self) {
+        let Settling {
+            rt: _,
+            shared: _,
+            pass,
+        } = self;
+        drop(pass);
+    }
+}
+
+impl<'a, N: Name, R: Wait> Work for Settling<'a, N, R> {
+    fn consume(&mut self, item: &Taken) -> DeliveryState {
+        let mut guard = self.shared.lock(self.rt);
+        if item.id > 0 {
+            self.shared.lost(&mut guard);
+            return DeliveryState::Accepted;
+        }
+        if let Ok(fed) = self.shared.feed(&mut guard, &mut self.pass, &SETTLED) {
+            drop(fed);
+        }
+        DeliveryState::Accepted
+    }
+}
+
+#[test]
+fn the_peer_settles_meanwhile(rt: HostRuntime) -> Result<(), Fail> {
+    settled_meanwhile::<Brand, HostRuntime>(&rt, rt.alloc(), seed(rt.alloc(), 4)?)
+}
+
+/// The consumer grants and goes on: it takes the second delivery.
+fn settled_meanwhile<N: Name + Send + Sync, R: Threads + Wait + Abort + Sync>(
+    rt: &R,
+    alloc: Global,
+    seed: Seed,
+) -> Result<(), Fail>
+    requires { IsNamed seed N.name N.parts N.ring }
+{
+    let (shared, mut pass, _) = open_shared::<N>(seed);
+    with_deliveries(rt, alloc, &shared, &mut pass)?;
+    let own = pass.split().ok_or("no part")?;
+    let (own, told) = settled_by_peer(rt, alloc, &shared, own, pass)?;
+    assert_eq!(rt; told, (2, Refusal::NotRunning));
+    assert_eq!(rt; own.made(), 3);
+    let guard = shared.lock(rt);
+    assert_eq!(rt; guard.conn().logged().journal().len(), 13);
+    assert!(rt; stands_at(guard.conn(), &grant(), 11));
+    Ok(())
+}
+
+/// One consumer that hears with the second pass: its pass, how many it consumed, and what stopped it.
+fn settled_by_peer<N: Name + Send + Sync, R: Threads + Wait + Abort + Sync>(
+    rt: &R,
+    alloc: Global,
+    shared: &Shared<N>,
+    own: Pass<N>,
+    pass: Pass<N>,
+) -> Result<(Pass<N>, (u64, Refusal)), Fail> {
+    let mut passes = Vec::new(alloc);
+    passes.push(own)?;
+    let mut works = Vec::new(alloc);
+    works.push(Settling { rt, shared, pass })?;
+    let mut done = run_consumers(rt, shared, passes, works, 1, 2)?;
+    let consumed = done.pop().ok_or("nothing consumed")?;
+    let told = (consumed.count, consumed.stopped);
     Ok((consumed.pass, told))
 }
 
@@ -223,10 +305,10 @@ impl<'a, N: Name, R: Wait> Work for Meeting<'a, N, R> {
 
 #[test]
 fn two_consumers_at_once(rt: HostRuntime) -> Result<(), Fail> {
-    two_at_once::<Brand, HostRuntime>(&rt, rt.alloc(), seed(rt.alloc(), 4)?)
+    three_at_once::<Brand, HostRuntime>(&rt, rt.alloc(), seed(rt.alloc(), 4)?)
 }
 
-fn two_at_once<N: Name + Send + Sync, R: Threads + Wait + Abort + Sync>(
+fn three_at_once<N: Name + Send + Sync, R: Threads + Wait + Abort + Sync>(
     rt: &R,
     alloc: Global,
     seed: Seed,
@@ -237,7 +319,7 @@ fn two_at_once<N: Name + Send + Sync, R: Threads + Wait + Abort + Sync>(
     with_deliveries(rt, alloc, &shared, &mut pass)?;
     let mut passes = Vec::new(alloc);
     let mut works = Vec::new(alloc);
-    for _ in 0..2u8 {
+    for _ in 0..3u8 {
         passes.push(pass.split().ok_or("no part")?)?;
         works.push(Meeting {
             rt,
@@ -247,7 +329,7 @@ fn two_at_once<N: Name + Send + Sync, R: Threads + Wait + Abort + Sync>(
     }
     let mut count = 0u64;
     for consumed in consumed_by(rt, &shared, passes, works)? {
-        assert!(rt; consumed.work.met);
+        assert_eq!(rt; consumed.work.met, consumed.count == 1);
         assert_eq!(rt; consumed.stopped, Refusal::NotRunning);
         count = count.saturating_add(consumed.count);
     }
