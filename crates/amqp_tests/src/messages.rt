@@ -19,12 +19,13 @@ const MESSAGE: &[u8] = &[
 fn section(alloc: Global, octets: &Bytes, from: usize) -> Option<(SectionKind, Bytes, usize)>
     requires { from ≤ length octets.now }
 {
-    match read_section(alloc, octets, from) {
-        Ok((section, used)) => match section.body {
-            Value::Binary(payload) => Some((section.kind, payload, used)),
-            _other => Some((section.kind, Bytes::new(), used)),
-        },
-        Err(_) => None,
+    let Ok((section, used)) = read_section(alloc, octets, from) else {
+        return None;
+    };
+    let Section { kind, body } = section;
+    match body {
+        Value::Binary(payload) => Some((kind, payload, used)),
+        _other => Some((kind, Bytes::new(), used)),
     }
 }
 
