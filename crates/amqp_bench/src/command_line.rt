@@ -18,6 +18,7 @@ const SHORT_MESSAGES: Messages = Messages {
     settled: false,
     credit: 2,
     range: 1,
+    keep: None,
 };
 
 /// What is to be measured.
@@ -63,6 +64,7 @@ fn read_messages(options: &ArgMatches<'_>) -> Messages {
         settled: number("settled", 0) == 1,
         credit: number("credit", 100),
         range: number("range", u32::MAX),
+        keep: options.get_one::<u32>("keep"),
     }
 }
 
@@ -126,6 +128,11 @@ fn session<'a>(alloc: Global) -> Result<Command<'a>, AllocError> {
         .help(
             "How many sessions, one after the other: from the second on they find memory that was used before",
         );
+    let keep = Arg::new(alloc, "keep")
+        .long("keep")
+        .value_name("N")
+        .value_parser(value_parser!(u32).range(1..=1073741824))
+        .help("How many entries of its journal each end keeps at most; all where it is left off");
     Command::new(alloc, "session")
         .about("Sends messages over a session in memory, between two ends with their journals")
         .arg(count)?
@@ -133,5 +140,6 @@ fn session<'a>(alloc: Global) -> Result<Command<'a>, AllocError> {
         .arg(settled)?
         .arg(credit)?
         .arg(range)?
+        .arg(keep)?
         .arg(sessions)
 }

@@ -54,6 +54,8 @@ struct Counts {
 pub struct End {
     alloc: Global,
     logged: Logged,
+    /// How many of the journal's entries are kept at most.
+    keep: Option<u32>,
     framer: Framer,
     /// The place for the frame that is heard next.
     heard: Boxed<Frame>,
@@ -64,7 +66,8 @@ pub struct End {
 }
 
 impl End {
-    pub fn new(alloc: Global) -> Result<End, EndFault> {
+    /// An end whose session is not begun yet. It keeps at most so many entries of its journal; none: all.
+    pub fn new(alloc: Global, keep: Option<u32>) -> Result<End, EndFault> {
         let config = Config {
             first_id: 0,
             window: MAX_WINDOW,
@@ -75,7 +78,8 @@ impl End {
         }
         Ok(End {
             alloc,
-            logged: Logged::new(alloc, &config)?,
+            logged: Logged::new(alloc, &config),
+            keep,
             framer: Framer::new(alloc, MAX_FRAME),
             heard: place(alloc)?,
             begun: 0,
@@ -103,9 +107,18 @@ impl End {
         self.counts.learnt
     }
 
-    /// How many steps the journal has.
-    pub fn steps(&self) -> usize {
-        self.logged.journal().len()
+    /// How many steps were made.
+    pub fn steps(&self) -> u32 {
+        self.logged.steps()
+    }
+
+    /// Forgets the journal's entries where as many stand as are kept.
+    fn make_room(&mut self) {
+        if let Some(most) = self.keep {
+            if self.logged.journal().len() >= most as usize {
+                self.logged.forget();
+            }
+        }
     }
 
     /// The peer takes long frames, and the session begins.
@@ -236,6 +249,7 @@ impl End {
             return Err(EndFault::PartOfFrame);
         };
         let frame = mem::replace(&mut self.heard, place(self.alloc)?);
+        self.make_room();
         let given = self.logged.hear(frame)?;
         let is_ready = matches!(given, Given::Ready(_, _));
         drop(given);
@@ -247,6 +261,7 @@ impl End {
 
     /// Does an operation, and counts what it gives.
     fn apply(&mut self, op: Op) -> Result<(), EndFault> {
+        self.make_room();
         self.logged.perform(op)?;
         if let Some(entry) = self.logged.journal().last() {
             self.counts.count(&entry.reply.given);

@@ -1,5 +1,5 @@
 //! Measures the codec, `amqp_bench codec --rounds N --part K`, and messages over a session in memory, `amqp_bench session --count N --size S
-//! --settled 0|1 --credit C --range R --sessions N`; with no command a short run of both. Standard output has counts, the same in each run; standard error has times.
+//! --settled 0|1 --credit C --range R --keep K --sessions N`; with no command a short run of both. Standard output has counts, the same in each run; standard error has times.
 #![tactic(auto)]
 
 mod codec;

@@ -20,6 +20,8 @@ pub struct Messages {
     pub credit: u32,
     /// How many deliveries a disposition names at most.
     pub range: u32,
+    /// How many entries each end keeps of its journal at most; none: all.
+    pub keep: Option<u32>,
 }
 
 /// What came of it.
@@ -31,8 +33,8 @@ pub struct Totals {
     pub octets: u64,
     /// How many messages the sender learnt to be settled.
     pub learnt: u32,
-    /// How many steps the two journals have.
-    pub steps: usize,
+    /// How many steps the two ends made.
+    pub steps: u32,
 }
 
 /// Sends the messages over a session, and again over another, so many times.
@@ -75,7 +77,7 @@ where
 {
     let alloc = rt.alloc();
     let payload = Bytes::from_vec(vec![in alloc; 0x78u8; messages.size as usize]?)?;
-    let mut sender = End::new(alloc)?;
+    let mut sender = End::new(alloc, messages.keep)?;
     let sent = send_from(rt, &mut sender, &payload, messages);
     drop(sender);
     sent
@@ -91,7 +93,7 @@ fn send_from<R>(
 where
     R: AllocGlobal + Clock,
 {
-    let mut receiver = End::new(rt.alloc())?;
+    let mut receiver = End::new(rt.alloc(), messages.keep)?;
     let sent = send_timed(rt, sender, &mut receiver, payload, messages);
     drop(receiver);
     sent

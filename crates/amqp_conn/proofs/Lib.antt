@@ -13,3 +13,5 @@ pub mod Popping
 pub mod Loops
 pub mod Pumps
 pub mod Telling
+pub mod Spans
+pub mod Fronts

@@ -1,6 +1,6 @@
 -- A loop of feeds: each goes on, and comes to an end.
-use Rattle.std.proofs.Common.{◌≡◌, ◌≤◌, ◌<◌, ◌+◌, ◌-◌, ℕ, List, [], ◌∷◌, length, take, drop, nat_le, Bool, true, false, cond, Option, Some, None, Result, Ok, Err, refl, sym, ap, ◌∙◌, subst, arith, length-append, length-drop}
-use Rattle.std.proofs.lemmas.List.{take-append-drop}
+use Rattle.std.proofs.Common.{◌≡◌, ◌≤◌, ◌<◌, ◌+◌, ◌-◌, ℕ, List, [], ◌∷◌, ◌++◌, ◌≢◌, length, take, drop, nat_le, Bool, true, false, cond, Option, Some, None, Result, Ok, Err, refl, sym, ap, ◌∙◌, subst, arith, append_assoc, append-nil, inr, length-append, length-drop}
+use Rattle.std.proofs.lemmas.List.{take-append-drop, drop-drop}
 use Rattle.std.proofs.lemmas.Bool.Decides.{nat_tests}
 use Rattle.amqp_rules.specs.declared.op.Op.{Op}
 use Rattle.amqp_rules.specs.declared.reply.Reply.{Reply}
@@ -15,15 +15,19 @@ use Rattle.amqp_laws.specs.Past.{past}
 use Rattle.amqp_laws.specs.At.{at}
 use Rattle.amqp_journal.specs.Log.{Log, own_due}
 use Rattle.amqp_conn.specs.declared.fed.Fed.{Fed}
-use Rattle.amqp_conn.specs.Connection.{Core, Connection, IsQuiet}
-use Rattle.amqp_conn.specs.Feeding.{IsFed, AddsEntry, Takes, Feeds, MovesBy, MovesOn}
-use Rattle.amqp_conn.specs.Turning.{room, GoesOn}
+use Rattle.amqp_conn.specs.Connection.{Core, Connection, more}
+use Rattle.amqp_conn.specs.Feeding.{IsFed, IsAnswered, AddsEntry, Ends, Takes, Feeds, MovesBy, MovesOn}
+use Rattle.amqp_conn.specs.Turning.{room, GoesOn, Took, IsTaken, ClosesWell, StoppedBy}
+use Rattle.amqp_journal.specs.Units.{units, octets_sent}
+use Rattle.amqp_journal.proofs.UnitLaws.{logged-behind}
+use Rattle.amqp_frames.proofs.OneFrame.{one_frame}
+use Rattle.amqp_conn.proofs.Deciding.{one}
+use Rattle.amqp_conn.specs.declared.phase.Phase.TheVariants as phase
 use Rattle.amqp_conn.proofs.Cutting.{cut}
 use Rattle.amqp_conn.specs.declared.fault.ConnFault.{ConnFault}
 use Rattle.amqp_conn.specs.declared.fault.ConnFault.TheVariants as fault
-use Rattle.amqp_conn.specs.Pumping.{HasEnded, ButMemory}
 use Rattle.amqp_conn.proofs.Turns.{answered-first, ending-closed, ends, dropped}
-use Rattle.amqp_conn.proofs.Onward.{fed-onward}
+use Rattle.amqp_conn.proofs.Onward.{Within, fed-onward}
 
 -- an operation is accepted where the journal has room alone
 had-room : (l : Log) (op : Op) (reply : Reply) → own_due l op ≡ Ok reply → length l.journal < l.config.journal_limit
@@ -59,7 +63,6 @@ goes-on c m rest fed f o = by fed.violation f o
         let left = length-drop fed.used rest in
         record {
           within = within;
-          later = λ d on. subst (λ (x : List ℕ). IsFed c x d) (take-append-drop fed.used rest) (cut c m d (take fed.used rest) (drop fed.used rest) t.1 on);
           less = shorter c m rest fed.used limit within some left longer;
         }
     by (Some v) t some =
@@ -71,46 +74,144 @@ goes-on c m rest fed f o = by fed.violation f o
         let left : length (drop fed.used rest) ≡ length rest = ap length whole in
         record {
           within = let z : fed.used ≡ 0 = t.0 in omega (arith, z);
-          later = λ d on. answered-first c m d rest v fed t.2 (subst (λ (x : List ℕ). IsFed m x d) whole on);
           less = fuller c m rest (drop fed.used rest) limit left journal had;
         }
 
--- ---- a fault that was told
+-- ---- what feeds left
 
-pub has-ended : (e : ConnFault) (c d : Connection) (piece : List ℕ) → Feeds c piece (Err e) d → HasEnded e d
-has-ended fault.NoMemory c d piece f = tt
-has-ended fault.Closed c d piece (p, is) = ap (λ (x : Connection). x.core.phase) is ∙ p
-has-ended fault.BadHeader c d piece (p, is) = ap (λ (x : Connection). x.core.phase) is ∙ ending-closed fault.BadHeader c.core
-has-ended (fault.Framing e) c d piece (p, is) = ap (λ (x : Connection). x.core.phase) is ∙ ending-closed (fault.Framing e) c.core
-has-ended fault.OutOfPlace c d piece (p, is) = ap (λ (x : Connection). x.core.phase) is ∙ ending-closed fault.OutOfPlace c.core
-has-ended fault.BadChannel c d piece (p, is) = ap (λ (x : Connection). x.core.phase) is ∙ ending-closed fault.BadChannel c.core
-has-ended fault.JournalFull c d piece (p, is) = ap (λ (x : Connection). x.core.phase) is ∙ ending-closed fault.JournalFull c.core
+pub took-none : (c : Connection) (x : List ℕ) → Took c x c x
+took-none c x = record { later = λ z e on. on; popped = refl; more = []; all = sym (append-nil (units c.core.log)) }
 
--- units that go out leave it so
-pub still-ended : (e : ConnFault) (c d : Connection) → d.core.phase ≡ c.core.phase → HasEnded e c → HasEnded e d
-still-ended fault.NoMemory c d p h = tt
-still-ended fault.Closed c d p h = p ∙ h
-still-ended fault.BadHeader c d p h = p ∙ h
-still-ended (fault.Framing e) c d p h = p ∙ h
-still-ended fault.OutOfPlace c d p h = p ∙ h
-still-ended fault.BadChannel c d p h = p ∙ h
-still-ended fault.JournalFull c d p h = p ∙ h
+pub took-then : (c d e : Connection) (x y z : List ℕ) → Took c x d y → Took d y e z → Took c x e z
+took-then c d e x y z p q =
+    record {
+      later = λ w f on. p.later w f (q.later w f on);
+      popped = q.popped ∙ p.popped;
+      more = p.more ++ q.more;
+      all = q.all ∙ ap (λ us. us ++ q.more) p.all ∙ append_assoc (units c.core.log) p.more q.more;
+    }
 
--- what was fed to a connection that ends
-pub fed-to-end : (e : ConnFault) (c d : Connection) (piece : List ℕ) → IsQuiet c → Feeds c piece (Err e) d → ButMemory e (IsFed c piece d)
-fed-to-end fault.NoMemory c d piece q f = tt
-fed-to-end fault.Closed c d piece q (p, is) = subst (λ (x : Connection). IsFed c piece x) (sym is) (dropped c piece q p)
-fed-to-end fault.BadHeader c d piece q f = ends fault.BadHeader c d piece f
-fed-to-end (fault.Framing e) c d piece q f = ends (fault.Framing e) c d piece f
-fed-to-end fault.OutOfPlace c d piece q f = ends fault.OutOfPlace c d piece f
-fed-to-end fault.BadChannel c d piece q f = ends fault.BadChannel c d piece f
-fed-to-end fault.JournalFull c d piece q f = ends fault.JournalFull c d piece f
+-- what is left over is dropped
+pub took-over : (c : Connection) (x : List ℕ) → IsFed c x c → Took c x c []
+took-over c x f = record { later = λ z e on. cut c c e x z f on; popped = refl; more = []; all = sym (append-nil (units c.core.log)) }
 
-pub but-memory : {P Q : Type 0} → (e : ConnFault) → (P → Q) → ButMemory e P → ButMemory e Q
-but-memory fault.NoMemory f p = tt
-but-memory fault.Closed f p = f p
-but-memory fault.BadHeader f p = f p
-but-memory (fault.Framing e) f p = f p
-but-memory fault.OutOfPlace f p = f p
-but-memory fault.BadChannel f p = f p
-but-memory fault.JournalFull f p = f p
+took-same : (c d : Connection) (x : List ℕ) → d ≡ c → Took c x d x
+took-same c d x e = subst (λ (y : Connection). Took c x y x) (sym e) (took-none c x)
+
+-- more octets behind change nothing
+answered-more : (c m : Connection) (piece z : List ℕ) (v : Violation) (given : Given) → IsAnswered c piece v given m → IsAnswered c (piece ++ z) v given m
+answered-more c m piece z v given a =
+    record {
+      f = a.f;
+      front = a.front;
+      back = a.back ++ z;
+      has =
+          record {
+            reads = a.has.reads;
+            framed = a.has.framed;
+            small = a.has.small;
+            split = sym (append_assoc c.unread piece z) ∙ ap (λ x. x ++ z) a.has.split ∙ append_assoc a.front a.back z;
+          };
+      treated = a.treated;
+      answers = a.answers;
+      stands = a.stands;
+    }
+
+pub took-fed : (c m : Connection) (rest : List ℕ) (fed : Fed) → Within c.core → Feeds c rest (Ok fed) m → Took c rest m (drop fed.used rest)
+took-fed c m rest fed w f = by fed.violation f
+  where
+    by : (v : Option Violation) → Takes c rest fed v m → Took c rest m (drop fed.used rest)
+    by None t =
+        let o = fed-onward c m (take fed.used rest) t.1 in
+        let b = o.behind w in
+        record {
+          later =
+              λ z e on.
+              subst (λ (x : List ℕ). IsFed c x e) (sym (append_assoc (take fed.used rest) (drop fed.used rest) z) ∙ ap (λ x. x ++ z) (take-append-drop fed.used rest))
+              (cut c m e (take fed.used rest) (drop fed.used rest ++ z) t.1 on);
+          popped = o.popped;
+          more = b.more;
+          all = b.all;
+        }
+    by (Some v) t =
+        let whole : drop fed.used rest ≡ rest = ap (λ n. drop n rest) t.0 in
+        let a = t.2.answers in
+        let entry : Entry = record { step = Own a.op; reply = a.reply } in
+        record {
+          later = λ z e on. answered-first c m e (rest ++ z) v fed (answered-more c m rest z v fed.given t.2) (subst (λ (x : List ℕ). IsFed m (x ++ z) e) whole on);
+          popped = ap (λ (k : Core). k.log.popped) a.does;
+          more = octets_sent entry;
+          all = ap (λ (k : Core). units k.log) a.does ∙ logged-behind c.core.log entry w;
+        }
+
+-- a connection that has ended with a fault drops what comes
+took-ended : (e : ConnFault) (c d : Connection) (rest : List ℕ) → Within c.core → Ends e (more rest c) d → Took c rest d rest
+took-ended e c d rest w t =
+    let fed : IsFed c rest d = ends e c d rest t in
+    let closed : d.core.phase ≡ phase.Closed = ap (λ (x : Connection). x.core.phase) t.1 ∙ ending-closed e c.core in
+    let o = fed-onward c d rest fed in
+    let b = o.behind w in
+    record {
+      later =
+          λ z f on.
+          let stays : f ≡ d = one d f d (rest ++ z) one_frame on (dropped d (rest ++ z) fed.quiet closed) in
+          subst (λ (x : Connection). IsFed c (rest ++ z) x) (sym stays) (cut c d d rest z fed (dropped d z fed.quiet closed));
+      popped = o.popped;
+      more = b.more;
+      all = b.all;
+    }
+
+pub took-fault : (e : ConnFault) (c d : Connection) (rest : List ℕ) → Within c.core → Feeds c rest (Err e) d → Took c rest d rest
+took-fault fault.NoMemory c d rest w t = took-same c d rest t.2
+took-fault fault.Closed c d rest w t = took-same c d rest t.1
+took-fault fault.BadHeader c d rest w t = took-ended fault.BadHeader c d rest w t
+took-fault (fault.Framing e) c d rest w t = took-ended (fault.Framing e) c d rest w t
+took-fault fault.OutOfPlace c d rest w t = took-ended fault.OutOfPlace c d rest w t
+took-fault fault.BadChannel c d rest w t = took-ended fault.BadChannel c d rest w t
+took-fault fault.JournalFull c d rest w t = took-ended fault.JournalFull c d rest w t
+
+-- ---- a loop of them
+
+-- one feed more of the rest behind so many octets
+pub took-on : (c l m : Connection) (piece rest : List ℕ) (used n : ℕ) → rest ≡ drop used piece → Took c piece l (drop used piece) → Took l rest m (drop n rest) → Took c piece m (drop (used + n) piece)
+took-on c l m piece rest used n same p q =
+    let further : drop n rest ≡ drop (used + n) piece = ap (drop n) same ∙ drop-drop n used piece in
+    let here : Took l (drop used piece) m (drop n rest) = subst (λ (x : List ℕ). Took l x m (drop n rest)) same q in
+    subst (λ (x : List ℕ). Took c piece m x) further (took-then c l m piece (drop used piece) (drop n rest) p here)
+
+pub used-on : (l m : Connection) (piece rest : List ℕ) (used n : ℕ) → rest ≡ drop used piece → used ≤ length piece → GoesOn l rest n m → used + n ≤ length piece
+used-on l m piece rest used n same u g =
+    let k : length rest ≡ length (drop used piece) = ap length same in
+    let d = length-drop used piece in
+    let w = g.within in
+    omega (arith, k, d, w, u)
+
+pub less-on : (l m : Connection) (piece rest : List ℕ) (used n : ℕ) → rest ≡ drop used piece → GoesOn l rest n m → length (drop (used + n) piece) + room m < length (drop used piece) + room l
+less-on l m piece rest used n same g =
+    let further : drop n rest ≡ drop (used + n) piece = ap (drop n) same ∙ drop-drop n used piece in
+    let a : length (drop n rest) ≡ length (drop (used + n) piece) = ap length further in
+    let b : length rest ≡ length (drop used piece) = ap length same in
+    let w = g.less in
+    omega (arith, a, b, w)
+
+-- nothing is left but what is dropped
+pub took-all : (c l : Connection) (piece rest : List ℕ) (used : ℕ) → rest ≡ drop used piece → Took c piece l (drop used piece) → IsFed l rest l → Took c piece l []
+took-all c l piece rest used same p f =
+    took-then c l l piece (drop used piece) [] p (took-over l (drop used piece) (subst (λ (x : List ℕ). IsFed l x l) same f))
+
+pub stopped-by : (c l m : Connection) (piece rest : List ℕ) (used : ℕ) (e : ConnFault) → rest ≡ drop used piece → used ≤ length piece → Took c piece l (drop used piece)
+    → l.core.phase ≢ phase.Closed → Feeds l rest (Err e) m → Took l rest m rest → StoppedBy c piece used e m
+stopped-by c l m piece rest used e same u p open' f t =
+    record {
+      within = u;
+      before = l;
+      took = p;
+      was_open = open';
+      feeds = subst (λ (x : List ℕ). Feeds l x (Err e) m) same f;
+      kept = took-then c l m piece (drop used piece) (drop used piece) p (subst (λ (x : List ℕ). Took l x m x) same t);
+    }
+
+pub closed-by : (c l m : Connection) (piece rest : List ℕ) (used : ℕ) → rest ≡ drop used piece → Took c piece l (drop used piece) → l.core.phase ≢ phase.Closed → IsTaken l rest m → ClosesWell c piece m
+closed-by c l m piece rest used same p open' t =
+    λ closed.
+    inr (record { before = l; left = drop used piece; took = p; was_open = open'; fed = t.0; feeds = subst (λ (x : List ℕ). Feeds l x (Ok t.0) m) same t.1 })

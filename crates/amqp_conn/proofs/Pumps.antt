@@ -1,22 +1,24 @@
 -- Pumping goes on where it stopped.
-use Rattle.std.proofs.Common.{◌≡◌, ◌≤◌, ◌<◌, ◌+◌, ℕ, zero, suc, List, [], ◌∷◌, ◌++◌, length, take, drop, Option, Some, None, refl, sym, ap, ◌∙◌, subst, inl, inr, ◌⊎◌, arith, append_assoc, append-nil, length-append, length-drop}
+use Rattle.std.proofs.Common.{◌≡◌, ◌≢◌, ◌≤◌, ◌<◌, ◌+◌, ℕ, zero, suc, List, [], ◌∷◌, ◌++◌, length, take, drop, Option, Some, None, Ok, Err, refl, sym, ap, ◌∙◌, subst, inl, inr, ◌⊎◌, ⊎_elim, arith, append_assoc, append-nil, length-append, length-drop}
 use Rattle.std.specs.List.{slice_get}
-use Rattle.std.proofs.lemmas.List.{take-append-drop, length-take-le}
+use Rattle.std.proofs.lemmas.List.{take-append-drop, length-take-le, nil_from_length}
 use Rattle.std.proofs.lemmas.Option.{slice_get_within}
-use Rattle.std.specs.Io.KnownBytes.{Consumes, Appends}
+use Rattle.std.specs.Io.KnownBytes.{Consumes, Appends, IsAtEnd, Keeps}
 use Rattle.amqp_journal.specs.Log.{Log}
 use Rattle.amqp_journal.specs.Units.{units, waiting}
-use Rattle.amqp_conn.specs.Connection.{Connection, IsQuiet}
+use Rattle.amqp_conn.specs.Connection.{Connection}
 use Rattle.amqp_conn.specs.Calling.{popped}
 use Rattle.amqp_conn.specs.Feeding.{IsFed}
+use Rattle.amqp_conn.specs.declared.phase.Phase.TheVariants as phase
 use Rattle.amqp_conn.specs.declared.fault.ConnFault.{ConnFault}
+use Rattle.amqp_conn.specs.declared.pumping.PumpEnd.{PumpEnd}
+use Rattle.amqp_conn.specs.declared.pumping.PumpEnd.TheVariants as end
 use Rattle.amqp_conn.specs.declared.pumping.PumpFault.{PumpFault}
 use Rattle.amqp_conn.specs.declared.pumping.PumpFault.TheVariants as fault
-use Rattle.amqp_conn.specs.Pumping.{as_popped, joined, WentOut, Pumps, ButMemory, LastWent, FaultPumps}
-use Rattle.amqp_conn.proofs.Cutting.{cut, none}
-use Rattle.amqp_conn.proofs.Onward.{Within, fed-onward}
+use Rattle.amqp_conn.specs.Pumping.{Line, line, Later, as_popped, joined, IsPiece, ArePieces, AppendsFront, WentOut, Carries, Closes, EndsBy, Breaks, Fails, Ran, Runs, AllWent, OnlyWrote}
+use Rattle.amqp_conn.specs.Turning.{Took, ClosedBy, ClosesWell, StoppedBy, WritesOne, WriteFails, TellsLast, FedAll, TurnEnds, Turned, TurnFails}
+use Rattle.amqp_conn.proofs.Onward.{fed-onward}
 use Rattle.amqp_conn.proofs.Popping.{fed-also}
-use Rattle.amqp_conn.proofs.Loops.{but-memory}
 
 -- ---- devices
 
@@ -30,7 +32,7 @@ consumes-none : (a : Option (List ℕ)) → Consumes a a []
 consumes-none None = tt
 consumes-none (Some u) = refl
 
-appends-then : (a b c : Option (List ℕ)) (x y : List ℕ) → Appends a b x → Appends b c y → Appends a c (x ++ y)
+pub appends-then : (a b c : Option (List ℕ)) (x y : List ℕ) → Appends a b x → Appends b c y → Appends a c (x ++ y)
 appends-then None b c x y p q = tt
 appends-then (Some u) None c x y p q = absurd p
 appends-then (Some u) (Some v) None x y p q = absurd q
@@ -70,6 +72,8 @@ none-out l s =
       popped = n;
       now = ap length same ∙ n;
       all = sym (take-append-drop l.popped (units l)) ∙ ap (λ x. x ++ waiting l) (sym same);
+      more = [];
+      grown = sym (append-nil (units l));
     }
 
 -- units that come behind do not go out
@@ -82,6 +86,8 @@ still-out k l more s same grown t =
       popped = n ∙ same;
       now = ap length nil ∙ n;
       all = sym (take-append-drop l.popped (units l)) ∙ ap (λ x. x ++ waiting l) (sym nil);
+      more = more;
+      grown = grown;
     }
 
 one-out : (l m : Log) (x : List ℕ) → l.popped ≤ length (units l) → slice_get (units l) l.popped ≡ Some x → m.popped ≡ suc l.popped → units m ≡ units l → WentOut l m (x ∷ [])
@@ -94,68 +100,331 @@ one-out l m x s e p same =
       popped = n;
       now = let k = length-append front (x ∷ []) in omega (arith, k, n, p);
       all = same ∙ at-place (units l) l.popped x e ∙ ap (λ z. front ++ x ∷ z) (sym behind) ∙ sym (append_assoc front (x ∷ []) (waiting m));
+      more = [];
+      grown = same ∙ sym (append-nil (units l));
     }
 
-out-then : (k l m : Log) (more xs ys : List (List ℕ)) → units m ≡ units l ++ more → WentOut k l xs → WentOut l m ys → WentOut k m (xs ++ ys)
-out-then k l m more xs ys grown p q =
-    let both : q.front ++ (ys ++ waiting m) ≡ (p.front ++ xs) ++ (waiting l ++ more) =
-    sym (append_assoc q.front ys (waiting m)) ∙ sym q.all ∙ grown ∙ ap (λ z. z ++ more) p.all ∙ append_assoc (p.front ++ xs) (waiting l) more in
-    let front : q.front ≡ p.front ++ xs = fronts q.front (p.front ++ xs) (ys ++ waiting m) (waiting l ++ more) (q.popped ∙ sym p.now) both in
+out-then : (k l m : Log) (xs ys : List (List ℕ)) → WentOut k l xs → WentOut l m ys → WentOut k m (xs ++ ys)
+out-then k l m xs ys p q =
+    let both : q.front ++ (ys ++ waiting m) ≡ (p.front ++ xs) ++ (waiting l ++ q.more) =
+    sym (append_assoc q.front ys (waiting m)) ∙ sym q.all ∙ q.grown ∙ ap (λ z. z ++ q.more) p.all ∙ append_assoc (p.front ++ xs) (waiting l) q.more in
+    let front : q.front ≡ p.front ++ xs = fronts q.front (p.front ++ xs) (ys ++ waiting m) (waiting l ++ q.more) (q.popped ∙ sym p.now) both in
     let here : q.front ++ ys ≡ p.front ++ (xs ++ ys) = ap (λ z. z ++ ys) front ∙ append_assoc p.front xs ys in
-    record { front = p.front; popped = p.popped; now = ap length (sym here) ∙ q.now; all = q.all ∙ ap (λ z. z ++ waiting m) here }
+    record {
+      front = p.front;
+      popped = p.popped;
+      now = ap length (sym here) ∙ q.now;
+      all = q.all ∙ ap (λ z. z ++ waiting m) here;
+      more = p.more ++ q.more;
+      grown = q.grown ∙ ap (λ us. us ++ q.more) p.grown ∙ append_assoc (units k) p.more q.more;
+    }
 
--- ---- pumping
+-- ---- what is carried
 
-pub pumps-none : (s k : Option (List ℕ)) (c : Connection) → IsQuiet c → c.core.log.popped ≤ length (units c.core.log) → Pumps s s k k c c
-pumps-none s k c q n =
-    record { octets = []; read = consumes-none s; fed = none c q; out = []; went = none-out c.core.log n; written = appends-none k }
+pieces-then : (xs ys : List (List ℕ)) → ArePieces xs → ArePieces ys → ArePieces (xs ++ ys)
+pieces-then [] ys p q = q
+pieces-then (x ∷ xs) ys (p, ps) q = (p, pieces-then xs ys ps q)
+
+later-none : (c d : Connection) (x y : List ℕ) → Later c x d y → Later c (x ++ []) d y
+later-none c d x y p = subst (λ (w : List ℕ). Later c w d y) (sym (append-nil x)) p
+
+-- the source lost nothing
+carries-still : (s s' k : Option (List ℕ)) (c : Connection) (x : List ℕ) → Consumes s s' [] → c.core.log.popped ≤ length (units c.core.log) → Carries [] (line s x c k) (line s' x c k)
+carries-still s s' k c x r n =
+    record { sized = tt; read = r; fed = later-none c c x x (λ z e on. on); out = []; went = none-out c.core.log n; written = appends-none k }
 
 -- one unit goes out
-pub pumps-unit : (s k k' : Option (List ℕ)) (c d : Connection) (x : List ℕ) → IsQuiet c → c.core.log.popped ≤ length (units c.core.log) → slice_get (units c.core.log) c.core.log.popped ≡ Some x
-    → d ≡ popped c → Appends k k' x → Pumps s s k k' c d
-pumps-unit s k k' c d x q n e is a =
-    subst (λ (y : Connection). Pumps s s k k' c y) (sym is)
+pub carries-unit : (s k k' : Option (List ℕ)) (c d : Connection) (x u : List ℕ) → c.core.log.popped ≤ length (units c.core.log) → slice_get (units c.core.log) c.core.log.popped ≡ Some u
+    → d ≡ popped c → Appends k k' u → Carries [] (line s x c k) (line s x d k')
+carries-unit s k k' c d x u n e is a =
+    subst (λ (y : Connection). Carries [] (line s x c k) (line s x y k')) (sym is)
     (record {
-      octets = [];
+      sized = tt;
       read = consumes-none s;
-      fed = none c q;
-      out = x ∷ [];
-      went = one-out c.core.log (popped c).core.log x n e (omega arith) refl;
-      written = subst (λ (y : List ℕ). Appends k k' y) (sym (append-nil x)) a;
+      fed = later-none c c x x (λ z f on. on);
+      out = u ∷ [];
+      went = one-out c.core.log (popped c).core.log u n e (omega arith) refl;
+      written = subst (λ (y : List ℕ). Appends k k' y) (sym (append-nil u)) a;
     })
 
+-- or not whole
+pub breaks-unit : (s k k' : Option (List ℕ)) (c d : Connection) (x u : List ℕ) → c.core.log.popped ≤ length (units c.core.log) → slice_get (units c.core.log) c.core.log.popped ≡ Some u
+    → d ≡ popped c → AppendsFront k k' u → Breaks [] (line s x c k) (line s x d k')
+breaks-unit s k k' c d x u n e is a =
+    record { before = line s x c k; carried = carries-still s s k c x (consumes-none s) n; unit = u; waits = e; popped = is; written = a; source = refl; rest = refl }
+
+-- nothing goes out
+pub writes-none : (k : Option (List ℕ)) (c : Connection) → c.core.log.popped ≤ length (units c.core.log) → WritesOne c c k k
+writes-none k c n = λ s x. carries-still s s k c x (consumes-none s) n
+
 -- octets are fed
-pub pumps-fed : (s s' k : Option (List ℕ)) (c d : Connection) (x : List ℕ) → Consumes s s' x → IsFed c x d → Within c.core → c.core.log.popped ≤ length (units c.core.log)
-    → Pumps s s' k k c d
-pumps-fed s s' k c d x r f w n =
-    let o = fed-onward c d x f in
-    let b = o.behind w in
-    let popped-same : d.core.log.popped ≡ c.core.log.popped = o.popped in
+carries-took : (s k : Option (List ℕ)) (c d : Connection) (x y : List ℕ) → c.core.log.popped ≤ length (units c.core.log) → Took c x d y → Carries [] (line s x c k) (line s y d k)
+carries-took s k c d x y n t =
+    let popped-same : d.core.log.popped ≡ c.core.log.popped = t.popped in
     let back : as_popped c.core.log.popped d ≡ d = ap (λ m. as_popped m d) (sym popped-same) in
-    let grown = length-append (units c.core.log) b.more in
-    let longer : length (units d.core.log) ≡ length (units c.core.log ++ b.more) = ap length b.all in
+    let grown = length-append (units c.core.log) t.more in
+    let longer : length (units d.core.log) ≡ length (units c.core.log ++ t.more) = ap length t.all in
     record {
-      octets = x;
-      read = r;
-      fed = subst (λ (y : Connection). IsFed c x y) (sym back) f;
+      sized = tt;
+      read = consumes-none s;
+      fed = later-none c (as_popped c.core.log.popped d) x y (subst (λ (w : Connection). Later c x w y) (sym back) t.later);
       out = [];
-      went = still-out c.core.log d.core.log b.more n popped-same b.all (let same = popped-same in omega (arith, n, same, grown, longer));
+      went = still-out c.core.log d.core.log t.more n popped-same t.all (let same = popped-same in omega (arith, n, same, grown, longer));
       written = appends-none k;
     }
 
-pub pumps-then : (s s' s'' k k' k'' : Option (List ℕ)) (c d e : Connection) → Within d.core → Pumps s s' k k' c d → Pumps s' s'' k' k'' d e → Pumps s s'' k k'' c e
-pumps-then s s' s'' k k' k'' c d e w p q =
-    let n = c.core.log.popped in
-    let on : IsFed (as_popped n d) q.octets (as_popped n e) = fed-also n d (as_popped d.core.log.popped e) q.octets q.fed in
-    let b = (fed-onward d (as_popped d.core.log.popped e) q.octets q.fed).behind w in
+-- a piece is read
+carries-read : (s s' k : Option (List ℕ)) (c : Connection) (x : List ℕ) → Consumes s s' x → IsPiece x → c.core.log.popped ≤ length (units c.core.log) → Carries (x ∷ []) (line s [] c k) (line s' x c k)
+carries-read s s' k c x r i n =
+    let all : x ++ [] ≡ x = append-nil x in
     record {
-      octets = p.octets ++ q.octets;
-      read = consumes-then s s' s'' p.octets q.octets p.read q.read;
-      fed = cut c (as_popped n d) (as_popped n e) p.octets q.octets p.fed on;
-      out = p.out ++ q.out;
-      went = out-then c.core.log d.core.log e.core.log b.more p.out q.out b.all p.went q.went;
-      written = subst (λ (y : List ℕ). Appends k k'' y) (sym (joined-append p.out q.out)) (appends-then k k' k'' (joined p.out) (joined q.out) p.written q.written);
+      sized = (i, tt);
+      read = subst (λ (w : List ℕ). Consumes s s' w) (sym all) r;
+      fed = subst (λ (w : List ℕ). Later c w c x) (sym all) (λ z e on. on);
+      out = [];
+      went = none-out c.core.log n;
+      written = appends-none k;
     }
+
+pub carries-then : (xs ys : List (List ℕ)) (p q r : Line) → Carries xs p q → Carries ys q r → Carries (xs ++ ys) p r
+carries-then xs ys p q r a b =
+    let n = p.conn.core.log.popped in
+    let m = q.conn.core.log.popped in
+    record {
+      sized = pieces-then xs ys a.sized b.sized;
+      read = subst (λ (w : List ℕ). Consumes p.source r.source w) (sym (joined-append xs ys)) (consumes-then p.source q.source r.source (joined xs) (joined ys) a.read b.read);
+      fed =
+          λ z e on.
+          let same : e.core.log.popped ≡ n = (fed-onward (as_popped n r.conn) e (r.rest ++ z) on).popped in
+          let there : as_popped n e ≡ e = ap (λ i. as_popped i e) (sym same) in
+          let one : IsFed q.conn ((q.rest ++ joined ys) ++ z) (as_popped m e) = b.fed z (as_popped m e) (fed-also m (as_popped n r.conn) e (r.rest ++ z) on) in
+          let two : IsFed (as_popped n q.conn) ((q.rest ++ joined ys) ++ z) (as_popped n e) = fed-also n q.conn (as_popped m e) ((q.rest ++ joined ys) ++ z) one in
+          let three : IsFed (as_popped n q.conn) (q.rest ++ (joined ys ++ z)) e =
+          subst (λ (w : List ℕ). IsFed (as_popped n q.conn) w e) (append_assoc q.rest (joined ys) z) (subst (λ (d : Connection). IsFed (as_popped n q.conn) ((q.rest ++ joined ys) ++ z) d) there two) in
+          let four : IsFed p.conn ((p.rest ++ joined xs) ++ (joined ys ++ z)) e = a.fed (joined ys ++ z) e three in
+          subst (λ (w : List ℕ). IsFed p.conn w e) (regroup p.rest xs ys z) four;
+      out = a.out ++ b.out;
+      went = out-then p.conn.core.log q.conn.core.log r.conn.core.log a.out b.out a.went b.went;
+      written = subst (λ (y : List ℕ). Appends p.sink r.sink y) (sym (joined-append a.out b.out)) (appends-then p.sink q.sink r.sink (joined a.out) (joined b.out) a.written b.written);
+    }
+  where
+    regroup : (x : List ℕ) (us ws : List (List ℕ)) (z : List ℕ) → (x ++ joined us) ++ (joined ws ++ z) ≡ (x ++ joined (us ++ ws)) ++ z
+    regroup x us ws z =
+        append_assoc x (joined us) (joined ws ++ z)
+        ∙ ap (λ w. x ++ w) (sym (append_assoc (joined us) (joined ws) z) ∙ ap (λ w. w ++ z) (sym (joined-append us ws)))
+        ∙ sym (append_assoc x (joined (us ++ ws)) z)
+
+pub writes-then : (k k' k'' : Option (List ℕ)) (c d e : Connection) → WritesOne c d k k' → WritesOne d e k' k'' → WritesOne c e k k''
+writes-then k k' k'' c d e a b = λ s x. carries-then [] [] (line s x c k) (line s x d k') (line s x e k'') (a s x) (b s x)
+
+-- ---- what comes behind
+
+breaks-then : (xs ys : List (List ℕ)) (p q r : Line) → Carries xs p q → Breaks ys q r → Breaks (xs ++ ys) p r
+breaks-then xs ys p q r a b =
+    record { before = b.before; carried = carries-then xs ys p q b.before a b.carried; unit = b.unit; waits = b.waits; popped = b.popped; written = b.written; source = b.source; rest = b.rest }
+
+ends-then : (e : ConnFault) (xs ys : List (List ℕ)) (p q r : Line) → Carries xs p q → EndsBy e ys q r → EndsBy e (xs ++ ys) p r
+ends-then e xs ys p q r a b =
+    record {
+      before = b.before;
+      carried = carries-then xs ys p q b.before a b.carried;
+      was_open = b.was_open;
+      after = b.after;
+      feeds = b.feeds;
+      wrote = b.wrote;
+      whole = carries-then xs ys p q r a b.whole;
+      rest = b.rest;
+      all = b.all;
+    }
+
+fails-then : (e : PumpFault) (xs ys : List (List ℕ)) (p q r : Line) → Carries xs p q → Fails e ys q r → Fails e (xs ++ ys) p r
+fails-then fault.Read xs ys p q r a b = (carries-then xs ys p q r a b.0, b.1, b.2, b.3)
+fails-then fault.Write xs ys p q r a b = breaks-then xs ys p q r a b
+fails-then (fault.Conn e) xs ys p q r a b = ends-then e xs ys p q r a b
+
+closes-then : (xs ys : List (List ℕ)) (p q : Line) (d : Connection) → Carries xs p q → Closes ys q d → Closes (xs ++ ys) p d
+closes-then xs ys p q d a b =
+    record {
+      before = b.before;
+      carried = carries-then xs ys p q b.before a b.carried;
+      was_open = b.was_open;
+      fed = b.fed;
+      after = b.after;
+      feeds = b.feeds;
+      closed = b.closed;
+      wrote = b.wrote;
+    }
+
+-- units that go out afterwards change nothing of it
+closes-wrote : (xs : List (List ℕ)) (p : Line) (c d : Connection) → Closes xs p c → OnlyWrote c d → Closes xs p d
+closes-wrote xs p c d b o =
+    record {
+      before = b.before;
+      carried = b.carried;
+      was_open = b.was_open;
+      fed = b.fed;
+      after = b.after;
+      feeds = b.feeds;
+      closed = b.closed;
+      wrote = o ∙ ap (as_popped d.core.log.popped) b.wrote;
+    }
+
+pub only-then : (c d e : Connection) → OnlyWrote c d → OnlyWrote d e → OnlyWrote c e
+only-then c d e a b = b ∙ ap (as_popped e.core.log.popped) a
+
+pub write-fails-then : (k k' k'' : Option (List ℕ)) (c d e : Connection) → WritesOne c d k k' → WriteFails d e k' k'' → WriteFails c e k k''
+write-fails-then k k' k'' c d e a b = λ s x. breaks-then [] [] (line s x c k) (line s x d k') (line s x e k'') (a s x) (b s x)
+
+-- ---- what is kept is fed
+
+pub kept-fed : (s k : Option (List ℕ)) (c d : Connection) (x y : List ℕ) → c.core.log.popped ≤ length (units c.core.log) → y ≡ [] → Took c x d [] → ClosesWell c x d → FedAll (line s x c k) (line s y d k)
+kept-fed s k c d x y n empty t w =
+    let carried : Carries [] (line s x c k) (line s y d k) = subst (λ (u : List ℕ). Carries [] (line s x c k) (line s u d k)) (sym empty) (carries-took s k c d x [] n t) in
+    (carried, empty, λ closed. ⊎_elim (λ h. inl h) (λ h. inr (of closed h)) (w closed))
+  where
+    of : d.core.phase ≡ phase.Closed → ClosedBy c x d → Closes [] (line s x c k) d
+    of closed h =
+        record {
+          before = line s h.left h.before k;
+          carried = carries-took s k c h.before x h.left n h.took;
+          was_open = h.was_open;
+          fed = h.fed;
+          after = d;
+          feeds = h.feeds;
+          closed = closed;
+          wrote = refl;
+        }
+
+pub kept-fails : (why : PumpFault) (e : ConnFault) (s k k' : Option (List ℕ)) (c d f : Connection) (x y : List ℕ) (used : ℕ) → c.core.log.popped ≤ length (units c.core.log)
+    → y ≡ drop used x → StoppedBy c x used e d → TellsLast why e d f k k' → Fails why [] (line s x c k) (line s y f k')
+kept-fails why e s k k' c d f x y used n same b t =
+    subst (λ (u : List ℕ). Fails why [] (line s x c k) (line s u f k')) (sym same) (by why t)
+  where
+    by : (why : PumpFault) → TellsLast why e d f k k' → Fails why [] (line s x c k) (line s (drop used x) f k')
+    by fault.Read t = absurd t
+    by fault.Write t =
+        breaks-then [] [] (line s x c k) (line s (drop used x) d k) (line s (drop used x) f k') (carries-took s k c d x (drop used x) n b.kept) (t s (drop used x))
+    by (fault.Conn told) t =
+        let ended : EndsBy e [] (line s x c k) (line s (drop used x) f k') = record {
+          before = line s (drop used x) b.before k;
+          carried = carries-took s k c b.before x (drop used x) n b.took;
+          was_open = b.was_open;
+          after = d;
+          feeds = b.feeds;
+          wrote = t.3;
+          whole = carries-then [] [] (line s x c k) (line s (drop used x) d k) (line s (drop used x) f k') (carries-took s k c d x (drop used x) n b.kept) (t.1 s (drop used x));
+          rest = refl;
+          all = t.2;
+        } in
+        subst (λ (g : ConnFault). EndsBy g [] (line s x c k) (line s (drop used x) f k')) (sym t.0) ended
+
+-- ---- a turn
+
+pub some-count : (n : ℕ) → n ≢ 0 → 0 < n
+some-count zero h = absurd (h refl)
+some-count (suc n) h = omega arith
+
+consumes-kept : (s s' : Option (List ℕ)) → Keeps s s' → Consumes s s' []
+consumes-kept None s' h = tt
+consumes-kept (Some u) None h = absurd h
+consumes-kept (Some u) (Some v) h = sym h
+
+-- a read gave nothing
+still-reads : (s s' k k' : Option (List ℕ)) (c d : Connection) (x y : List ℕ) → WritesOne c d k k' → d.core.log.popped ≤ length (units d.core.log) → x ≡ [] → y ≡ [] → Consumes s s' []
+    → Carries [] (line s x c k) (line s' y d k')
+still-reads s s' k k' c d x y w n ex ey r =
+    let same : x ≡ y = ex ∙ sym ey in
+    subst (λ (u : List ℕ). Carries [] (line s x c k) (line s' u d k')) same
+    (carries-then [] [] (line s x c k) (line s x d k') (line s' x d k') (w s x) (carries-still s s' k' d x r n))
+
+pub turn-read-fails : (s s' k k' : Option (List ℕ)) (c d : Connection) (x y : List ℕ) → WritesOne c d k k' → d.core.log.popped ≤ length (units d.core.log) → x ≡ [] → y ≡ [] → Keeps s s'
+    → AllWent d → d.core.phase ≢ phase.Closed → TurnFails fault.Read (line s x c k) (line s' y d k')
+turn-read-fails s s' k k' c d x y w n ex ey r went open' =
+    ([], omega arith, (still-reads s s' k k' c d x y w n ex ey (consumes-kept s s' r), went, ey, open'))
+
+pub turn-ends : (s s' k k' : Option (List ℕ)) (c d : Connection) (x y : List ℕ) → WritesOne c d k k' → d.core.log.popped ≤ length (units d.core.log) → x ≡ [] → length y ≡ 0 → Consumes s s' y
+    → AllWent d → d.core.phase ≢ phase.Closed → IsAtEnd s' → Turned (Some end.EndOfInput) (line s x c k) (line s' y d k')
+turn-ends s s' k k' c d x y w n ex none r went open' over =
+    let ey : y ≡ [] = nil_from_length y none in
+    (ey, (still-reads s s' k k' c d x y w n ex ey (subst (λ (u : List ℕ). Consumes s s' u) ey r), went, over, open'))
+
+-- a piece is read
+piece-reads : (s s' k k' : Option (List ℕ)) (c d : Connection) (x y : List ℕ) → WritesOne c d k k' → d.core.log.popped ≤ length (units d.core.log) → x ≡ [] → IsPiece y → Consumes s s' y
+    → Carries (y ∷ []) (line s x c k) (line s' y d k')
+piece-reads s s' k k' c d x y w n ex i r =
+    subst (λ (u : List ℕ). Carries (y ∷ []) (line s u c k) (line s' y d k')) (sym ex)
+    (carries-then [] (y ∷ []) (line s [] c k) (line s [] d k') (line s' y d k') (w s []) (carries-read s s' k' d y r i n))
+
+pub turn-fed : (s s' k k' k'' : Option (List ℕ)) (c d f : Connection) (x y z : List ℕ) → WritesOne c d k k' → d.core.log.popped ≤ length (units d.core.log) → x ≡ [] → IsPiece y → Consumes s s' y
+    → d.core.phase ≢ phase.Closed → FedAll (line s' y d k') (line s' z f k'') → Turned None (line s x c k) (line s' z f k'')
+turn-fed s s' k k' k'' c d f x y z w n ex i r open' (carried, empty, closes) =
+    let reads = piece-reads s s' k k' c d x y w n ex i r in (
+      y,
+      carries-then (y ∷ []) [] (line s x c k) (line s' y d k') (line s' z f k'') reads carried,
+      empty,
+      λ closed. ⊎_elim (λ h. absurd (open' h)) (λ h. closes-then (y ∷ []) [] (line s x c k) (line s' y d k') f reads h) (closes closed),
+    )
+
+pub turn-fails : (why : PumpFault) (s s' k k' k'' : Option (List ℕ)) (c d f : Connection) (x y z : List ℕ) → WritesOne c d k k' → d.core.log.popped ≤ length (units d.core.log) → x ≡ [] → IsPiece y
+    → Consumes s s' y → Fails why [] (line s' y d k') (line s' z f k'') → TurnFails why (line s x c k) (line s' z f k'')
+turn-fails why s s' k k' k'' c d f x y z w n ex i r fails =
+    (y ∷ [], omega arith, fails-then why (y ∷ []) [] (line s x c k) (line s' y d k') (line s' z f k'') (piece-reads s s' k k' c d x y w n ex i r) fails)
+
+-- ---- so many turns
+
+-- so many were made, each read a piece, and nothing is kept
+pub record Turning (n : ℕ) (p q : Line) : Type 0 where
+  pub pieces : List (List ℕ)
+  pub count : length pieces ≡ n
+  pub carried : Carries pieces p q
+  pub none : q.rest ≡ []
+  pub well : q.conn.core.phase ≡ phase.Closed → (p.conn.core.phase ≡ phase.Closed) ⊎ Closes pieces p q.conn
+
+pub turning-none : (p q : Line) → FedAll p q → Turning 0 p q
+turning-none p q (carried, empty, well) = record { pieces = []; count = refl; carried = carried; none = empty; well = well }
+
+pub turning-on : (n : ℕ) (p q r : Line) → Turning n p q → Turned None q r → Turning (n + 1) p r
+turning-on n p q r t (piece, carried, empty, well) =
+    let k = length-append t.pieces (piece ∷ []) in
+    let c = t.count in
+    record {
+      pieces = t.pieces ++ piece ∷ [];
+      count = omega (arith, k, c);
+      carried = carries-then t.pieces (piece ∷ []) p q r t.carried carried;
+      none = empty;
+      well = λ closed. inr (closes-then t.pieces (piece ∷ []) p q r.conn t.carried (well closed));
+    }
+
+pub turning-over : (n : ℕ) (p q : Line) → Turning n p q → Runs n (Ok end.TurnsOver) p q
+turning-over n p q t = let c = t.count in (t.pieces, omega (arith, c), (t.carried, t.none, t.count))
+
+-- a last turn that reads nothing
+plain : (xs : List (List ℕ)) (p q : Line) → Carries (xs ++ []) p q → Carries xs p q
+plain xs p q c = subst (λ (ys : List (List ℕ)). Carries ys p q) (append-nil xs) c
+
+pub turning-ends : (turns n : ℕ) (e : PumpEnd) (p q r : Line) → n ≤ turns → Turning n p q → Turned (Some e) q r → Runs turns (Ok e) p r
+turning-ends turns n e p q r few t (empty, by) =
+    let c = t.count in
+    (t.pieces, omega (arith, c, few), of e by)
+  where
+    of : (e : PumpEnd) → TurnEnds e q r → Ran turns (Ok e) t.pieces p r
+    of end.Closed (carried, went, only, closed) =
+        let was : q.conn.core.phase ≡ phase.Closed = ap (λ (x : Connection). x.core.phase) (sym only) ∙ closed in (
+          plain t.pieces p r (carries-then t.pieces [] p q r t.carried carried),
+          empty,
+          (closed, went, ⊎_elim (λ h. inl h) (λ h. inr (closes-wrote t.pieces p q.conn r.conn h only)) (t.well was)),
+        )
+    of end.EndOfInput (carried, went, over, open') = (plain t.pieces p r (carries-then t.pieces [] p q r t.carried carried), empty, (over, went, open'))
+    of end.TurnsOver none = absurd none
+
+pub turning-fails : (turns n : ℕ) (why : PumpFault) (p q r : Line) → n < turns → Turning n p q → TurnFails why q r → Runs turns (Err why) p r
+turning-fails turns n why p q r few t (pieces, one, fails) =
+    let k = length-append t.pieces pieces in
+    let c = t.count in
+    (t.pieces ++ pieces, omega (arith, k, c, one, few), fails-then why t.pieces pieces p q r t.carried fails)
+
+pub first-fails : (turns : ℕ) (why : PumpFault) (p q : Line) → Fails why [] p q → Runs turns (Err why) p q
+first-fails turns why p q fails = ([], omega arith, fails)
 
 -- fewer units wait
 pub pops-less : (c d : Connection) (x : List ℕ) → slice_get (units c.core.log) c.core.log.popped ≡ Some x → d ≡ popped c → length (waiting d.core.log) < length (waiting c.core.log)
@@ -165,18 +434,3 @@ pops-less c d x e is =
     let new = length-drop (c.core.log.popped + 1) (units c.core.log) in
     let same : length (waiting d.core.log) ≡ length (drop (c.core.log.popped + 1) (units c.core.log)) = ap (λ (y : Connection). length (waiting y.core.log)) is in
     omega (arith, within, old, new, same)
-
--- ---- where a fault is told
-
--- what was taken in, and the units that went out after it
-pub last-pumps : {P Q R : Type 0} → (e : ConnFault) (r : PumpFault) → (P → Q → R) → (r ≡ fault.Conn e) ⊎ (r ≡ fault.Write) → ButMemory e P → LastWent r Q → FaultPumps r R
-last-pumps {P} {Q} {R} e r f (inl h) p q =
-    let went : Q = subst (λ (x : PumpFault). LastWent x Q) h q in
-    subst (λ (x : PumpFault). FaultPumps x R) (sym h) (but-memory e (λ (y : P). f y went) p)
-last-pumps {P} {Q} {R} e r f (inr h) p q = subst (λ (x : PumpFault). FaultPumps x R) (sym h) tt
-
--- behind what was pumped before
-pub before-fault : {P R : Type 0} → (r : PumpFault) → (P → R) → FaultPumps r P → FaultPumps r R
-before-fault fault.Read f p = tt
-before-fault fault.Write f p = tt
-before-fault (fault.Conn e) f p = but-memory e f p

@@ -13,7 +13,7 @@ use Rattle.amqp_rules.specs.declared.refusal.Refusal.TheVariants as refusal
 use Rattle.amqp_laws.specs.declared.entry.Step.TheVariants.{Own}
 use Rattle.amqp_laws.specs.Past.{past}
 use Rattle.amqp_laws.specs.At.{at}
-use Rattle.amqp_journal.specs.Log.{Log, own_due, popping, IsRefusal}
+use Rattle.amqp_journal.specs.Log.{Log, own_due, popping, forgetting, IsRefusal}
 use Rattle.amqp_conn.specs.declared.config.Config.{Config}
 use Rattle.amqp_conn.specs.declared.phase.Phase.{Phase}
 use Rattle.amqp_conn.specs.declared.phase.Phase.TheVariants as phase
@@ -77,3 +77,9 @@ Closes old error (Err close.NoMemory) new = (old.phase ≡ phase.Running) × IsO
 -- one unit more is popped
 abbrev pub popped : Connection → Connection
 popped c = record c { core = record c.core { log = popping c.core.log } }
+
+-- # The journal
+
+-- the entries so far are forgotten
+abbrev pub forgotten : Connection → Connection
+forgotten c = record c { core = record c.core { log = forgetting c.core.log } }

@@ -1,21 +1,20 @@
 -- What a pump does: octets are read and fed, units go out.
-use Rattle.std.specs.Prelude.{ℕ, ◌≡◌, ◌+◌, List, [], ◌∷◌, ◌++◌, length, Option, Some, None, Result, Ok, Err}
+use Rattle.std.specs.Prelude.{ℕ, ◌≡◌, ◌≢◌, ◌⊎◌, ◌<◌, ◌≤◌, ◌+◌, List, [], ◌∷◌, ◌++◌, length, slice_get, Option, Some, None, Result, Ok, Err}
 use Rattle.std.specs.Io.KnownBytes.{Consumes, Appends, IsAtEnd}
 use Rattle.amqp_rules.specs.declared.reply.Given.{Given}
 use Rattle.amqp_laws.specs.declared.entry.Entry.{Entry}
 use Rattle.amqp_journal.specs.Log.{Log}
 use Rattle.amqp_journal.specs.Units.{units, waiting}
 use Rattle.amqp_conn.specs.declared.phase.Phase.TheVariants as phase
+use Rattle.amqp_conn.specs.declared.fed.Fed.{Fed}
 use Rattle.amqp_conn.specs.declared.pumping.PumpEnd.{PumpEnd}
 use Rattle.amqp_conn.specs.declared.pumping.PumpEnd.TheVariants as end
-use Rattle.amqp_conn.specs.declared.pumping.Untaken.{Untaken}
-use Rattle.amqp_conn.specs.declared.pumping.Untaken.TheVariants as untaken
 use Rattle.amqp_conn.specs.declared.pumping.PumpFault.{PumpFault}
 use Rattle.amqp_conn.specs.declared.pumping.PumpFault.TheVariants as fault
 use Rattle.amqp_conn.specs.declared.fault.ConnFault.{ConnFault}
-use Rattle.amqp_conn.specs.declared.fault.ConnFault.TheVariants as conn
 use Rattle.amqp_conn.specs.Connection.{Core, Connection}
-use Rattle.amqp_conn.specs.Feeding.{IsFed}
+use Rattle.amqp_conn.specs.Calling.{popped}
+use Rattle.amqp_conn.specs.Feeding.{Feeds, IsFed}
 
 -- as if so many units were popped
 abbrev pub core_popped : ℕ → Core → Core
@@ -29,87 +28,127 @@ abbrev pub joined : List (List ℕ) → List ℕ
 joined [] = []
 joined (x ∷ xs) = x ++ joined xs
 
+-- a front of the octets came behind
+pub record AppendsFront (old new : Option (List ℕ)) (octets : List ℕ) : Type 0 where
+  pub front : List ℕ
+  pub back : List ℕ
+  pub split : octets ≡ front ++ back
+  pub appends : Appends old new front
+
+-- # What is moved
+
+-- what the source gives from here on, the octets that were read and not fed, the connection, and what the sink has got
+pub record Line : Type 0 where
+  pub source : Option (List ℕ)
+  pub rest : List ℕ
+  pub conn : Connection
+  pub sink : Option (List ℕ)
+
+abbrev pub line : Option (List ℕ) → List ℕ → Connection → Option (List ℕ) → Line
+line s x c k = record { source = s; rest = x; conn = c; sink = k }
+
+-- what y and all that comes behind it make of d, x and the same behind it make of c
+abbrev pub Later : Connection → List ℕ → Connection → List ℕ → Type 0
+Later c x d y = (z : List ℕ) (e : Connection) → IsFed d (y ++ z) e → IsFed c (x ++ z) e
+
 -- these units went out: those that waited before or were put out since, less those that wait now
 pub record WentOut (before after : Log) (out : List (List ℕ)) : Type 0 where
   pub front : List (List ℕ)
   pub popped : length front ≡ before.popped
   pub now : length (front ++ out) ≡ after.popped
   pub all : units after ≡ front ++ out ++ waiting after
+  pub more : List (List ℕ)
+  pub grown : units after ≡ units before ++ more
 
--- the connection is fed of what the source lost, but for what was popped; and the sink has got the octets of the units that went out
-pub record Pumps (source source' sink sink' : Option (List ℕ)) (c d : Connection) : Type 0 where
-  pub octets : List ℕ
-  pub read : Consumes source source' octets
-  pub fed : IsFed c octets (as_popped c.core.log.popped d)
+-- what a read gives
+abbrev pub IsPiece : List ℕ → Type 0
+IsPiece x = (0 < length x) × (length x ≤ 4096)
+
+abbrev pub ArePieces : List (List ℕ) → Type 0
+ArePieces [] = Unit {0}
+ArePieces (x ∷ xs) = IsPiece x × ArePieces xs
+
+-- These pieces were read, one by each read that gave octets. The connection is fed of what was kept and then of them, but for what is kept now and for
+-- what was popped; and the sink has got the octets of the units that went out.
+pub record Carries (pieces : List (List ℕ)) (p q : Line) : Type 0 where
+  pub sized : ArePieces pieces
+  pub read : Consumes p.source q.source (joined pieces)
+  pub fed : Later p.conn (p.rest ++ joined pieces) (as_popped p.conn.core.log.popped q.conn) q.rest
   pub out : List (List ℕ)
-  pub went : WentOut c.core.log d.core.log out
-  pub written : Appends sink sink' (joined out)
+  pub went : WentOut p.conn.core.log q.conn.core.log out
+  pub written : Appends p.sink q.sink (joined out)
 
 -- no unit waits
 abbrev pub AllWent : Connection → Type 0
 AllWent c = waiting c.core.log ≡ []
 
--- why a pump stopped: the connection is closed, or the input has ended, and all units went out; or the turns are used up
-abbrev pub IsEnd : PumpEnd → Option (List ℕ) → Connection → Type 0
-IsEnd end.Closed source c = (c.core.phase ≡ phase.Closed) × AllWent c
-IsEnd end.EndOfInput source c = IsAtEnd source × AllWent c
-IsEnd end.TurnsOver source c = Unit {0}
+-- c, but for units that went out
+abbrev pub OnlyWrote : Connection → Connection → Type 0
+OnlyWrote c d = d ≡ as_popped d.core.log.popped c
 
--- a fault of the connection is told of one that it has closed, or where memory was refused
-abbrev pub HasEnded : ConnFault → Connection → Type 0
-HasEnded conn.NoMemory c = Unit {0}
-HasEnded e c = c.core.phase ≡ phase.Closed
+-- # How it ends
 
--- where a fault was told this holds too, but that memory was refused
-abbrev pub ButMemory : ConnFault → Type 0 → Type 0
-ButMemory conn.NoMemory P = Unit {0}
-ButMemory e P = P
+-- the connection was open, and closed with what was kept: that feed told no fault
+pub record Closes (pieces : List (List ℕ)) (p : Line) (d : Connection) : Type 0 where
+  pub before : Line
+  pub carried : Carries pieces p before
+  pub was_open : before.conn.core.phase ≢ phase.Closed
+  pub fed : Fed
+  pub after : Connection
+  pub feeds : Feeds before.conn before.rest (Ok fed) after
+  pub closed : after.core.phase ≡ phase.Closed
+  pub wrote : OnlyWrote after d
 
--- what was not taken in was fed, where the connection ended with it
-abbrev pub UntakenFed : Untaken → Type 0 → Type 0
-UntakenFed untaken.Read P = Unit {0}
-UntakenFed (untaken.Conn e) P = ButMemory e P
+-- a feed of what was kept told the fault, and that is kept; then all units went out, the last close among them
+pub record EndsBy (e : ConnFault) (pieces : List (List ℕ)) (p q : Line) : Type 0 where
+  pub before : Line
+  pub carried : Carries pieces p before
+  pub was_open : before.conn.core.phase ≢ phase.Closed
+  pub after : Connection
+  pub feeds : Feeds before.conn before.rest (Err e) after
+  pub wrote : OnlyWrote after q.conn
+  pub whole : Carries pieces p q
+  pub rest : q.rest ≡ before.rest
+  pub all : AllWent q.conn
 
--- the units that waited went out, where the fault of the connection is told
-abbrev pub LastWent : PumpFault → Type 0 → Type 0
-LastWent fault.Read P = Unit {0}
-LastWent fault.Write P = Unit {0}
-LastWent (fault.Conn e) P = P
+-- the unit in front was popped, and a front of its octets written
+pub record Breaks (pieces : List (List ℕ)) (p q : Line) : Type 0 where
+  pub before : Line
+  pub carried : Carries pieces p before
+  pub unit : List ℕ
+  pub waits : slice_get (units before.conn.core.log) before.conn.core.log.popped ≡ Some unit
+  pub popped : q.conn ≡ popped before.conn
+  pub written : AppendsFront before.sink q.sink unit
+  pub source : q.source ≡ before.source
+  pub rest : q.rest ≡ before.rest
 
--- so it is also where a pump failed by a fault of the connection, but for want of memory
-abbrev pub FaultPumps : PumpFault → Type 0 → Type 0
-FaultPumps fault.Read P = Unit {0}
-FaultPumps fault.Write P = Unit {0}
-FaultPumps (fault.Conn e) P = ButMemory e P
+-- Why it failed. A read: all units had gone out, and all that was read was fed.
+abbrev pub Fails : PumpFault → List (List ℕ) → Line → Line → Type 0
+Fails fault.Read pieces p q = Carries pieces p q × AllWent q.conn × (q.rest ≡ []) × (q.conn.core.phase ≢ phase.Closed)
+Fails fault.Write pieces p q = Breaks pieces p q
+Fails (fault.Conn e) pieces p q = EndsBy e pieces p q
 
--- why a pump failed: a device, or the connection, and then all units went out, the last close among them
-abbrev pub IsFault : PumpFault → Connection → Type 0
-IsFault fault.Read c = Unit {0}
-IsFault fault.Write c = Unit {0}
-IsFault (fault.Conn e) c = HasEnded e c × AllWent c
+-- Why it stopped: the connection is closed, as it was before or by a feed that told no fault; or the source has ended; or each turn has read a piece.
+-- All that was read was fed.
+abbrev pub Stops : ℕ → PumpEnd → List (List ℕ) → Line → Line → Type 0
+Stops turns end.Closed pieces p q = (q.conn.core.phase ≡ phase.Closed) × AllWent q.conn × ((p.conn.core.phase ≡ phase.Closed) ⊎ Closes pieces p q.conn)
+Stops turns end.EndOfInput pieces p q = IsAtEnd q.source × AllWent q.conn × (q.conn.core.phase ≢ phase.Closed)
+Stops turns end.TurnsOver pieces p q = length pieces ≡ turns
 
-abbrev pub IsUntaken : Untaken → Connection → Type 0
-IsUntaken untaken.Read c = Unit {0}
-IsUntaken (untaken.Conn e) c = HasEnded e c
+abbrev pub Ran : ℕ → Result PumpEnd PumpFault → List (List ℕ) → Line → Line → Type 0
+Ran turns (Ok end) pieces p q = Carries pieces p q × (q.rest ≡ []) × Stops turns end pieces p q
+Ran turns (Err why) pieces p q = Fails why pieces p q
 
--- a read is told to have failed only where one more has
-abbrev pub CountsReads : {A : Type 0} → Result A Untaken → ℕ → ℕ → Type 0
-CountsReads (Ok done) reads reads' = reads' ≡ reads
-CountsReads (Err untaken.Read) reads reads' = reads' ≡ reads + 1
-CountsReads (Err (untaken.Conn e)) reads reads' = Unit {0}
+-- what so many turns do
+abbrev pub Runs : ℕ → Result PumpEnd PumpFault → Line → Line → Type 0
+Runs turns result p q = (pieces : List (List ℕ)) × (length pieces ≤ turns) × Ran turns result pieces p q
 
--- the fault of the connection is told, or that of the write after it
-abbrev pub TellsLast : PumpFault → ℕ → ℕ → Type 0
-TellsLast fault.Read writes writes' = ⊥
-TellsLast fault.Write writes writes' = writes' ≡ writes + 1
-TellsLast (fault.Conn e) writes writes' = Unit {0}
-
--- a read or a write is told to have failed only where one more has; none has where all went well
+-- a read or a write has failed where that is told, and none else
 abbrev pub CountsFailures : {A : Type 0} → Result A PumpFault → ℕ → ℕ → ℕ → ℕ → Type 0
 CountsFailures (Ok done) reads reads' writes writes' = (reads' ≡ reads) × (writes' ≡ writes)
-CountsFailures (Err fault.Read) reads reads' writes writes' = reads' ≡ reads + 1
-CountsFailures (Err fault.Write) reads reads' writes writes' = writes' ≡ writes + 1
-CountsFailures (Err (fault.Conn e)) reads reads' writes writes' = Unit {0}
+CountsFailures (Err fault.Read) reads reads' writes writes' = (reads' ≡ reads + 1) × (writes' ≡ writes)
+CountsFailures (Err fault.Write) reads reads' writes writes' = (reads' ≡ reads) × (writes' ≡ writes + 1)
+CountsFailures (Err (fault.Conn e)) reads reads' writes writes' = (reads' ≡ reads) × (writes' ≡ writes)
 
 -- # What the entries give
 

@@ -1,5 +1,5 @@
 //! What is settled before a connection starts.
-ghost use Rattle.std.specs.Prelude.{◌≡◌, ◌≤◌, ◌↔◌, IsTrue};
+ghost use Rattle.std.specs.Prelude.{◌≡◌, ◌≤◌, ◌^◌, ◌↔◌, IsTrue, None};
 ghost use Rattle.amqp_conn.specs.Calling.{IsLimited};
 ghost use Rattle.amqp_conn.specs.Octets.{session_of};
 
@@ -29,6 +29,22 @@ pub struct Config {
 }
 
 impl Config {
+    /// What a program of this name mostly wants: frames of at most 65536 octets, no host, no idle time-out, ids from 0, 2048 transfers at a time, and
+    /// a journal of 1073741824 steps. Each field may be set to something else.
+    pub fn new(container_id: Text) -> Config
+        ensures { result ≡ record { container_id = container_id; hostname = None; max_frame = 65536; idle_time_out = None; first_id = 0; window = 2048; journal_limit = 2 ^ 30 } }
+    {
+        Config {
+            container_id,
+            hostname: None,
+            max_frame: 65536,
+            idle_time_out: None,
+            first_id: 0,
+            window: 2048,
+            journal_limit: 1 << 30,
+        }
+    }
+
     /// Each setting is within its limits.
     pub fn is_within_limits(&self) -> bool
         ensures { IsTrue result ↔ IsLimited self.now }

@@ -4,7 +4,7 @@ ghost use Rattle.amqp_journal.specs.Units.{units, waiting};
 ghost use Rattle.amqp_conn.specs.Connection.{IsQuiet, connection, reads_frames, in_phase};
 ghost use Rattle.amqp_conn.specs.Octets.{new_core};
 ghost use Rattle.amqp_conn.specs.Feeding.{Feeds, MovesOn};
-ghost use Rattle.amqp_conn.specs.Calling.{IsFit, IsStartFault, Does, Closes, popped};
+ghost use Rattle.amqp_conn.specs.Calling.{IsFit, IsStartFault, Does, Closes, popped, forgotten};
 
 use crate::config::Config;
 use crate::fault::ConnFault;
@@ -48,9 +48,9 @@ impl Model for Conn {
 
     ghost coded = { Prim.hlevel (codes, value.the_row.coded) };
 
-    ghost view = { λ c. record { core = c.machine; unread = unread_in c.machine.phase c.head.items c.framer.kept } };
+    ghost view = { λ c. record { core = c.machine; unread = unread_in c.machine.phase c.head.items c.framer.state.kept } };
 
-    ghost invariant = { λ c. IsSetUp c.machine c.head.items (vec_capacity c.head) c.framer.max_size c.framer.kept };
+    ghost invariant = { λ c. IsSetUp c.machine c.head.items (vec_capacity c.head) c.framer.state.max_size c.framer.state.kept };
 }
 
 impl Conn {
@@ -109,6 +109,14 @@ impl Conn {
         self.machine.pop_unit()
     }
 
+    /// Forgets the journal's entries so far, as `Logged::forget`, with the payloads that nobody else holds. Phase,
+    /// units, and what was not read stay.
+    pub fn forget(&mut self)
+        ensures { self.new ≡ forgotten self.old }
+    {
+        self.machine.forget();
+    }
+
     /// Where the connection stands.
     pub fn phase(&self) -> Phase
         ensures value { result ≡ self.now.core.phase }
@@ -151,7 +159,7 @@ impl Conn {
     }
 
     /// As `feed` of the shared octets from a place on. The payload of a transfer that lies whole in them is a slice of them, without a copy: it
-    /// keeps all of them alive for as long as the delivery stands in the journal.
+    /// keeps all of them alive for as long as the delivery's entry is not forgotten.
     ///
     /// # Errors
     ///

@@ -1,8 +1,9 @@
 //! Where octets come from and go to.
-ghost use Rattle.std.specs.Prelude.{◌≡◌, ◌≤◌, ◌<◌, ◌+◌, ◌-◌, ◌^◌, length, IfOk, OnOk, OnErr};
+ghost use Rattle.std.specs.Prelude.{◌≡◌, ◌≤◌, ◌<◌, ◌+◌, ◌-◌, ◌^◌, None, Some, length, IfOk, OnOk, OnErr};
 ghost use Rattle.std.specs.Io.KnownBytes.{ReadConsumes, Appends};
+ghost use Rattle.amqp_conn.specs.Pumping.{AppendsFront};
 
-use std::io::{Read, Write};
+use std::io::{Error, ErrorKind, Read, Write};
 use thiserror::Error;
 
 /// A device failed. Why it did, the device itself can tell.
@@ -43,10 +44,11 @@ pub trait Sink {
     /// How many writes failed.
     ghost failed: { Self → ℕ };
 
-    /// Writes all octets, and keeps none back: nothing else flushes it. Where that fails, some of them may have been written.
+    /// Writes all octets, and keeps none back: nothing else flushes it. Where that fails, a front of them may have been written.
     fn write_all(&mut self, octets: &[u8]) -> Result<(), Failed>
         requires { failed self.old < 2 ^ 64 - 1 }
         ensures octets { OnOk result (Appends (written self.old) (written self.new) octets.now) }
+        ensures front { OnErr result (AppendsFront (written self.old) (written self.new) octets.now) }
         ensures ok { OnOk result (failed self.new ≡ failed self.old) }
         ensures err { OnErr result (failed self.new ≡ failed self.old + 1) };
 
@@ -55,20 +57,23 @@ pub trait Sink {
         ensures { result ≡ failed self.now };
 }
 
-/// A source over any `Read`, a sink over any `Write`. An error of the device is dropped: it counts as a failure.
+/// A source over any `Read`, a sink over any `Write`. It keeps the error of the call that failed last.
 #[derive(Drop, Debug)]
 pub struct FromStd<T> {
     device: T,
     failures: u64,
+    error: Option<Error>,
 }
 
 impl<T> FromStd<T> {
+    /// Over the device, none of whose calls has failed yet.
     pub fn new(device: T) -> FromStd<T>
-        ensures { result ≡ record { device = device; failures = 0 } }
+        ensures { result ≡ record { device = device; failures = 0; error = None } }
     {
         FromStd {
             device,
             failures: 0,
+            error: None,
         }
     }
 
@@ -78,6 +83,24 @@ impl<T> FromStd<T> {
     {
         let FromStd { device, .. } = self;
         device
+    }
+
+    /// The device's own error, of the call that failed last. It is told once.
+    pub fn take_error(&mut self) -> Option<Error>
+        ensures told { result ≡ self.old.error }
+        ensures kept { self.new ≡ record { device = self.old.device; failures = self.old.failures; error = None } }
+    {
+        self.error.take()
+    }
+
+    /// Keeps the error, and counts it.
+    fn fail(&mut self, error: Error) -> Failed
+        requires { self.old.failures < 2 ^ 64 - 1 }
+        ensures { self.new ≡ record { device = self.old.device; failures = self.old.failures + 1; error = Some error } }
+    {
+        self.failures += 1;
+        self.error = Some(error);
+        Failed
     }
 }
 
@@ -89,10 +112,7 @@ impl<T: Read> Source for FromStd<T> {
     fn read(&mut self, buffer: &mut [u8]) -> Result<usize, Failed> {
         match self.device.read(buffer) {
             Ok(count) => Ok(count),
-            Err(_) => {
-                self.failures += 1;
-                Err(Failed)
-            }
+            Err(error) => Err(self.fail(error)),
         }
     }
 
@@ -107,16 +127,36 @@ impl<T: Write> Sink for FromStd<T> {
     ghost failed = { λ s. s.failures };
 
     fn write_all(&mut self, octets: &[u8]) -> Result<(), Failed> {
-        match self.device.write_all(octets) {
+        match write_whole(&mut self.device, octets) {
             Ok(()) => Ok(()),
-            Err(_) => {
-                self.failures += 1;
-                Err(Failed)
-            }
+            Err(error) => Err(self.fail(error)),
         }
     }
 
     fn failures(&self) -> u64 {
         self.failures
     }
+}
+
+/// Writes all octets. Where that fails a front of them was written, which `Write::write_all` does not tell.
+fn write_whole<T: Write>(device: &mut T, octets: &[u8]) -> Result<(), Error>
+    ensures octets { OnOk result (Appends (T.contents device.old) (T.contents device.new) octets.now) }
+    ensures front { OnErr result (AppendsFront (T.contents device.old) (T.contents device.new) octets.now) }
+{
+    let mut written = 0;
+    for _ in 0..u64::MAX {
+        if written == octets.len() {
+            return Ok(());
+        }
+        match device.write(&octets[written..]) {
+            Ok(0) => return Err(Error::from(ErrorKind::WriteZero)),
+            Ok(count) => written += count,
+            Err(error) => {
+                if error.kind() != ErrorKind::Interrupted {
+                    return Err(error);
+                }
+            }
+        }
+    }
+    Err(Error::from(ErrorKind::Interrupted))
 }

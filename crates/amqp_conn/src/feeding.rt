@@ -17,7 +17,7 @@ pub(crate) type Framed = Result<(usize, Option<Frame>), FrameFault>;
 /// As the framer's `feed` of the shared octets from a place on. The payload of a frame that lies whole in them is a slice of them.
 pub(crate) fn frame_shared(framer: &mut Framer, shared: &Bytes, from: usize) -> Framed
     requires { from ≤ length shared.now }
-    ensures { FramerFeeds framer.old (drop from shared.now) result framer.new }
+    ensures { FramerFeeds framer.old.state (drop from shared.now) result framer.new.state }
 {
     let mut slot = Frame {
         channel: 0,
@@ -45,9 +45,9 @@ pub(crate) fn act(
     answer: Framed,
 ) -> Result<Fed, ConnFault>
     requires open { machine.old.phase ≢ Phase.Closed }
-    requires max { framer.old.max_size ≡ machine.old.config.max_frame }
-    requires before { IfOk answer (λ a. IsSome framer.old.before) }
-    ensures { Acts answer machine.old framer.old result machine.new framer.new }
+    requires max { framer.old.state.max_size ≡ machine.old.config.max_frame }
+    requires before { IfOk answer (λ a. IsSome framer.old.state.before) }
+    ensures { Acts answer machine.old framer.old.state result machine.new framer.new.state }
 {
     match answer {
         Err(fault) => Err(end_whole(alloc, machine, framer, fault)),
@@ -64,8 +64,8 @@ fn end_whole(
     fault: FrameFault,
 ) -> ConnFault
     requires open { machine.old.phase ≢ Phase.Closed }
-    requires max { framer.old.max_size ≡ machine.old.config.max_frame }
-    ensures { EndsFor fault machine.old framer.old result machine.new framer.new }
+    requires max { framer.old.state.max_size ≡ machine.old.config.max_frame }
+    ensures { EndsFor fault machine.old framer.old.state result machine.new framer.new.state }
 {
     match fault {
         FrameFault::ShortSize => end_all(
@@ -104,9 +104,9 @@ fn end_whole(
 
 fn end_all(alloc: Global, machine: &mut Machine, framer: &mut Framer, fault: ConnFault) -> ConnFault
     requires open { machine.old.phase ≢ Phase.Closed }
-    requires max { framer.old.max_size ≡ machine.old.config.max_frame }
+    requires max { framer.old.state.max_size ≡ machine.old.config.max_frame }
     requires told { fault ≢ ConnFault.NoMemory }
-    ensures { EndsAll fault machine.old framer.old result machine.new framer.new }
+    ensures { EndsAll fault machine.old framer.old.state result machine.new framer.new.state }
 {
     let max = machine.max_frame();
     match machine.end(fault) {
@@ -125,9 +125,9 @@ fn treat_whole(
     used: usize,
     frame: Frame,
 ) -> Result<Fed, ConnFault>
-    requires { IsSome framer.old.before }
+    requires { IsSome framer.old.state.before }
     ensures treats { Treats machine.old frame used result machine.new }
-    ensures back { PutsBack result framer.old framer.new }
+    ensures back { PutsBack result framer.old.state framer.new.state }
 {
     let answer = machine.treat(used, &frame);
     drop(frame);
@@ -136,9 +136,9 @@ fn treat_whole(
 
 /// Hands on what was answered, with the frame put back where it was not taken.
 fn put_back(framer: &mut Framer, answer: Result<Fed, ConnFault>) -> Result<Fed, ConnFault>
-    requires { IsSome framer.old.before }
+    requires { IsSome framer.old.state.before }
     ensures same { result ≡ answer }
-    ensures back { PutsBack answer framer.old framer.new }
+    ensures back { PutsBack answer framer.old.state framer.new.state }
 {
     match answer {
         Ok(fed) => {

@@ -7,7 +7,7 @@
 //! | `config`, `phase`, `fault`, `fed`, `refused` | its settings, where it stands, and what its calls answer |
 //! | `treating` | what a whole frame does: the state that frames and the application drive |
 //! | `header`, `feeding`, `writing` | the peer's header, the framer's answers, and the frames that a connection itself sends |
-//! | `device`, `pumping` | sources and sinks, and [`pump`], which lets a connection run over them |
+//! | `device`, `pump`, `pumping` | sources and sinks, and [`Pump`], which lets a connection run over them |
 //! | `ops` | operations as they are mostly wanted |
 //! | `laws` | what holds however octets are cut |
 //!
@@ -62,8 +62,8 @@
 //! }
 //! ```
 //!
-//! [`pump`] is this loop over a [`Source`] and a [`Sink`] for so many turns, without the act: for programs that have nothing else to do meanwhile, and
-//! for tests. [`FromStd`] makes one of any `Read` or `Write`.
+//! [`Pump`] is this loop over a [`Source`] and a [`Sink`] for so many turns, without the act: for programs that have nothing else to do meanwhile, and
+//! for tests. It keeps what was read and not fed, and goes on with it. [`FromStd`] makes a device of any `Read` or `Write`.
 //!
 //! # How it ends
 //!
@@ -113,6 +113,7 @@ mod header;
 pub mod laws;
 pub mod ops;
 mod phase;
+mod pump;
 mod pumping;
 mod refused;
 mod treating;
@@ -133,5 +134,6 @@ pub use device::{Failed, FromStd, Sink, Source};
 pub use fault::ConnFault;
 pub use fed::Fed;
 pub use phase::Phase;
-pub use pumping::{Hears, PumpEnd, PumpFault, drive, pump};
+pub use pump::Pump;
+pub use pumping::{Hears, PumpEnd, PumpFault};
 pub use refused::{CloseRefusal, StartFault};

@@ -1,10 +1,11 @@
 //! Operations as they are mostly wanted, with the rest of their fields at the standard's defaults. [`Op`] has all fields.
-ghost use Rattle.std.specs.Prelude.{◌≡◌, None, Some, true, false};
+ghost use Rattle.std.specs.Prelude.{◌≡◌, None, Some, [], ◌∷◌, true, false, IfOk};
 
 use amqp_frames::{DeliveryState, Role};
 use amqp_rules::op::Op;
-use amqp_types::{Boxed, Tag, Text, Value};
+use amqp_types::{Boxed, Items, Tag, Text, Value};
 use bytes::Bytes;
+use std::alloc::{AllocError, Global};
 
 /// The sender settles no delivery before the receiver has told its state (part 2, 2.8.2).
 pub const SENDER_UNSETTLED: u8 = 0;
@@ -36,6 +37,38 @@ pub fn attach(
         count: 0,
         max_message: 0,
     }
+}
+
+/// A source of this address, with the rest of its fields absent (part 3, 3.5.3): where the messages of a link come from.
+pub fn source(alloc: Global, address: Text) -> Result<Boxed<Value>, AllocError>
+    ensures { IfOk result (λ v. v ≡ Value.Described (Value.Ulong 40) (Value.List (Value.Str address ∷ []))) }
+{
+    terminus(alloc, 0x28, address)
+}
+
+/// A target of this address, with the rest of its fields absent (part 3, 3.5.4): where the messages of a link go to.
+pub fn target(alloc: Global, address: Text) -> Result<Boxed<Value>, AllocError>
+    ensures { IfOk result (λ v. v ≡ Value.Described (Value.Ulong 41) (Value.List (Value.Str address ∷ []))) }
+{
+    terminus(alloc, 0x29, address)
+}
+
+/// A list of the address alone, under this descriptor.
+fn terminus(alloc: Global, descriptor: u64, address: Text) -> Result<Boxed<Value>, AllocError>
+    ensures { IfOk result (λ v. v ≡ Value.Described (Value.Ulong descriptor) (Value.List (Value.Str address ∷ []))) }
+{
+    let mut fields = Items::new(alloc);
+    fields.push(Value::Str(address))?;
+    let descriptor = Boxed::new(alloc, Value::Ulong(descriptor))?;
+    let list = Boxed::new(alloc, Value::List(fields))?;
+    Boxed::new(alloc, Value::Described(descriptor, list))
+}
+
+/// Begins the session (part 2, 2.5.1).
+pub fn begin() -> Op
+    ensures { result ≡ Op.Begin }
+{
+    Op::Begin
 }
 
 /// Sends a message as one unsettled delivery of one transfer, in message-format 0 (part 2, 2.7.5 and 2.8.11).
@@ -89,4 +122,18 @@ pub fn end() -> Op
     ensures { result ≡ Op.End None }
 {
     Op::End { error: None }
+}
+
+/// Learns what the peer has told of one delivery of the link.
+pub fn learn(link: u32) -> Op
+    ensures { result ≡ Op.Learn link }
+{
+    Op::Learn { link }
+}
+
+/// Takes the first delivery of the link that is ready.
+pub fn take(link: u32) -> Op
+    ensures { result ≡ Op.Take link }
+{
+    Op::Take { link }
 }

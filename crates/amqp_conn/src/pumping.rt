@@ -1,22 +1,20 @@
 //! A connection over a source and a sink.
-ghost use Rattle.std.specs.Prelude.{ℕ, List, Option, ◌≡◌, ◌≢◌, ◌<◌, ◌≤◌, ◌+◌, ◌-◌, ◌^◌, ◌⊎◌, [], length, IfOk, IfErr, IfSome, OnOk, OnErr, MatchBool};
+ghost use Rattle.std.specs.Prelude.{ℕ, List, Option, Err, ◌≡◌, ◌≢◌, ◌<◌, ◌≤◌, ◌+◌, ◌-◌, ◌^◌, [], length, drop, IfOk, IfErr, IfSome, OnOk, OnErr, MatchBool};
 ghost use Rattle.std.specs.Bool.{OnTrue, OnFalse};
 ghost use Rattle.amqp_journal.specs.Units.{units, waiting, PutWithin};
 ghost use Rattle.amqp_conn.specs.Connection.{IsQuiet};
-ghost use Rattle.amqp_conn.specs.Feeding.{IsFed};
-ghost use Rattle.amqp_conn.specs.Pumping.{Pumps, IsEnd, IsFault, IsUntaken, AllWent, HasEnded, ButMemory, UntakenFed, LastWent, FaultPumps, CountsReads, TellsLast, CountsFailures, Adds, Tells};
-ghost use Rattle.amqp_conn.specs.Turning.{GoesOn};
+ghost use Rattle.amqp_conn.specs.Feeding.{Feeds, IsFed};
+ghost use Rattle.amqp_conn.specs.Pumping.{line, Fails, Runs, AllWent, OnlyWrote, CountsFailures, Adds, Tells};
+ghost use Rattle.amqp_conn.specs.Turning.{GoesOn, Took, IsTaken, ClosesWell, StoppedBy, WritesOne, WriteFails, TellsLast, CountsWrites, FedAll, Turned, TurnFails};
 
 use crate::conn::Conn;
 use crate::device::{Failed, Sink, Source};
 use crate::fault::ConnFault;
 use crate::fed::Fed;
 use crate::phase::Phase;
+use crate::pump::Pump;
 use amqp_rules::reply::Given;
 use thiserror::Error;
-
-/// The most octets that are read at once.
-const PIECE: usize = 4096;
 
 /// Why a pump stopped.
 #[derive(Clone, Copy, Debug, PartialEq, Eq)]
@@ -29,22 +27,26 @@ pub enum PumpEnd {
     TurnsOver,
 }
 
-/// Why a pump failed. The connection is not to be used again: octets that were read may not have been fed.
+/// Why a pump failed. What was read and not fed it keeps.
 #[derive(Clone, Copy, Debug, PartialEq, Eq, Error)]
 pub enum PumpFault {
+    /// Nothing of that read came; all that came before was fed.
     #[error("a read failed")]
     Read,
+    /// A front of the octets of one unit was written, which waits no more; of how many, the sink knows.
     #[error("a write failed")]
     Write,
+    /// A feed told it. After `NoMemory` the same call goes on, after each other one the connection is closed.
     #[error("{0}")]
     Conn(ConnFault),
 }
 
-/// Why nothing was taken in.
+/// Where a loop of feeds stopped.
 #[derive(Clone, Copy)]
-enum Untaken {
-    Read,
-    Conn(ConnFault),
+struct Stopped {
+    /// How many octets were fed before.
+    used: usize,
+    fault: ConnFault,
 }
 
 /// Who is told what each entry of the journal gives, as soon as it stands.
@@ -104,9 +106,18 @@ fn recall(conn: &Conn)
     let _ = conn.logged().put_out();
 }
 
+fn is_closed(conn: &Conn) -> bool
+    ensures closed { OnTrue result (conn.now.core.phase ≡ Phase.Closed) }
+    ensures open { OnFalse result (conn.now.core.phase ≢ Phase.Closed) }
+{
+    conn.phase() == Phase::Closed
+}
+
 /// The rest has no octets, or the connection has ended.
 fn is_over(conn: &Conn, rest: &[u8]) -> bool
-    ensures { MatchBool result (IsFed conn.now rest.now conn.now) (rest.now ≢ []) }
+    ensures over { OnTrue result (IsFed conn.now rest.now conn.now) }
+    ensures some { OnFalse result (rest.now ≢ []) }
+    ensures open { OnFalse result (conn.now.core.phase ≢ Phase.Closed) }
 {
     let phase = conn.phase();
     rest.is_empty() || phase == Phase::Closed
@@ -117,8 +128,10 @@ fn feed_once<H: Hears>(conn: &mut Conn, each: &mut H, rest: &[u8]) -> Result<usi
     requires { rest.now ≢ [] }
     ensures tells { Tells conn.old.core.log.journal conn.new.core.log.journal (H.heard each.old) (H.heard each.new) }
     ensures on { IfOk result (λ used. GoesOn conn.old rest.now used conn.new) }
-    ensures ended { IfErr result (λ fault. HasEnded fault conn.new) }
-    ensures last { IfErr result (λ fault. ButMemory fault (IsFed conn.old rest.now conn.new)) }
+    ensures took { IfOk result (λ used. Took conn.old rest.now conn.new (drop used rest.now)) }
+    ensures well { IfOk result (λ used. IsTaken conn.old rest.now conn.new) }
+    ensures fault { IfErr result (λ fault. Feeds conn.old rest.now (Err fault) conn.new) }
+    ensures left { OnErr result (Took conn.old rest.now conn.new rest.now) }
 {
     recall(conn);
     match conn.feed(rest) {
@@ -128,17 +141,17 @@ fn feed_once<H: Hears>(conn: &mut Conn, each: &mut H, rest: &[u8]) -> Result<usi
 }
 
 /// Feeds the piece, to its end or to that of the connection.
-fn feed_all<H: Hears>(conn: &mut Conn, each: &mut H, piece: &[u8]) -> Result<(), ConnFault>
+fn feed_all<H: Hears>(conn: &mut Conn, each: &mut H, piece: &[u8]) -> Result<(), Stopped>
     ensures tells { Tells conn.old.core.log.journal conn.new.core.log.journal (H.heard each.old) (H.heard each.new) }
-    ensures fed { OnOk result (IsFed conn.old piece.now conn.new) }
-    ensures ended { IfErr result (λ fault. HasEnded fault conn.new) }
-    ensures last { IfErr result (λ fault. ButMemory fault (IsFed conn.old piece.now conn.new)) }
+    ensures took { OnOk result (Took conn.old piece.now conn.new []) }
+    ensures well { OnOk result (ClosesWell conn.old piece.now conn.new) }
+    ensures stopped { IfErr result (λ s. StoppedBy conn.old piece.now s.used s.fault conn.new) }
 {
-    let mut rest = piece;
-    while !is_over(conn, rest) {
-        match feed_once(conn, each, rest) {
-            Ok(used) => rest = &rest[used..],
-            Err(fault) => return Err(fault),
+    let mut used = 0;
+    while !is_over(conn, &piece[used..]) {
+        match feed_once(conn, each, &piece[used..]) {
+            Ok(more) => used += more,
+            Err(fault) => return Err(Stopped { used, fault }),
         }
     }
     Ok(())
@@ -147,12 +160,12 @@ fn feed_all<H: Hears>(conn: &mut Conn, each: &mut H, piece: &[u8]) -> Result<(),
 /// One unit goes out; or none waits.
 fn write_unit<K: Sink>(sink: &mut K, conn: &mut Conn) -> Result<bool, Failed>
     requires { K.failed sink.old < 2 ^ 64 - 1 }
-    ensures writes { IfOk result (λ more. OnTrue more ((source : Option (List ℕ)) → Pumps source source (K.written sink.old) (K.written sink.new) conn.old conn.new)) }
+    ensures writes { IfOk result (λ more. OnTrue more (WritesOne conn.old conn.new (K.written sink.old) (K.written sink.new))) }
     ensures less { IfOk result (λ more. OnTrue more (length (waiting conn.new.core.log) < length (waiting conn.old.core.log))) }
     ensures none { IfOk result (λ more. OnFalse more ((conn.new ≡ conn.old) × (sink.new ≡ sink.old))) }
     ensures went { IfOk result (λ more. OnFalse more (AllWent conn.new)) }
-    ensures phase { conn.new.core.phase ≡ conn.old.core.phase }
-    ensures journal { conn.new.core.log.journal ≡ conn.old.core.log.journal }
+    ensures only { OnlyWrote conn.old conn.new }
+    ensures fails { OnErr result (WriteFails conn.old conn.new (K.written sink.old) (K.written sink.new)) }
     ensures ok { OnOk result (K.failed sink.new ≡ K.failed sink.old) }
     ensures err { OnErr result (K.failed sink.new ≡ K.failed sink.old + 1) }
 {
@@ -169,10 +182,10 @@ fn write_unit<K: Sink>(sink: &mut K, conn: &mut Conn) -> Result<bool, Failed>
 /// All units that wait go out.
 fn write_waiting<K: Sink>(sink: &mut K, conn: &mut Conn) -> Result<(), Failed>
     requires { K.failed sink.old < 2 ^ 64 - 1 }
-    ensures pumps { OnOk result ((source : Option (List ℕ)) → Pumps source source (K.written sink.old) (K.written sink.new) conn.old conn.new) }
+    ensures writes { OnOk result (WritesOne conn.old conn.new (K.written sink.old) (K.written sink.new)) }
     ensures went { OnOk result (AllWent conn.new) }
-    ensures phase { conn.new.core.phase ≡ conn.old.core.phase }
-    ensures journal { conn.new.core.log.journal ≡ conn.old.core.log.journal }
+    ensures only { OnlyWrote conn.old conn.new }
+    ensures fails { OnErr result (WriteFails conn.old conn.new (K.written sink.old) (K.written sink.new)) }
     ensures ok { OnOk result (K.failed sink.new ≡ K.failed sink.old) }
     ensures err { OnErr result (K.failed sink.new ≡ K.failed sink.old + 1) }
 {
@@ -187,45 +200,12 @@ fn write_waiting<K: Sink>(sink: &mut K, conn: &mut Conn) -> Result<(), Failed>
     }
 }
 
-/// Reads once, and feeds what came.
-fn take_in<S: Source, H: Hears>(
-    source: &mut S,
-    conn: &mut Conn,
-    each: &mut H,
-    buffer: &mut [u8],
-) -> Result<Option<PumpEnd>, Untaken>
-    requires room { 0 < length buffer.old }
-    requires went { AllWent conn.old }
-    requires failed { S.failed source.old < 2 ^ 64 - 1 }
-    ensures pumps { OnOk result ((sink : Option (List ℕ)) → Pumps (S.remaining source.old) (S.remaining source.new) sink sink conn.old conn.new) }
-    ensures end { IfOk result (λ end. IfSome end (λ e. IsEnd e (S.remaining source.new) conn.new)) }
-    ensures tells { Tells conn.old.core.log.journal conn.new.core.log.journal (H.heard each.old) (H.heard each.new) }
-    ensures failures { CountsReads result (S.failed source.old) (S.failed source.new) }
-    ensures ended { IfErr result (λ why. IsUntaken why conn.new) }
-    ensures last { IfErr result (λ why. UntakenFed why ((sink : Option (List ℕ)) → Pumps (S.remaining source.old) (S.remaining source.new) sink sink conn.old conn.new)) }
-{
-    recall(conn);
-    let Ok(count) = source.read(buffer) else {
-        return Err(Untaken::Read);
-    };
-    if count == 0 {
-        return Ok(Some(PumpEnd::EndOfInput));
-    }
-    match feed_all(conn, each, &buffer[..count]) {
-        Ok(()) => Ok(None),
-        Err(fault) => Err(Untaken::Conn(fault)),
-    }
-}
-
 /// After the fault the units that wait go out, the last close among them; then it is told.
 fn last_units<K: Sink>(sink: &mut K, conn: &mut Conn, fault: ConnFault) -> PumpFault
-    requires writes { K.failed sink.old < 2 ^ 64 - 1 }
-    requires ended { HasEnded fault conn.old }
-    ensures last { TellsLast result (K.failed sink.old) (K.failed sink.new) }
-    ensures told { IsFault result conn.new }
-    ensures same { result ≡ PumpFault.Conn fault ⊎ result ≡ PumpFault.Write }
-    ensures journal { conn.new.core.log.journal ≡ conn.old.core.log.journal }
-    ensures went { LastWent result ((source : Option (List ℕ)) → Pumps source source (K.written sink.old) (K.written sink.new) conn.old conn.new) }
+    requires { K.failed sink.old < 2 ^ 64 - 1 }
+    ensures last { TellsLast result fault conn.old conn.new (K.written sink.old) (K.written sink.new) }
+    ensures only { OnlyWrote conn.old conn.new }
+    ensures failures { CountsWrites result (K.failed sink.old) (K.failed sink.new) }
 {
     match write_waiting(sink, conn) {
         Ok(()) => PumpFault::Conn(fault),
@@ -233,49 +213,113 @@ fn last_units<K: Sink>(sink: &mut K, conn: &mut Conn, fault: ConnFault) -> PumpF
     }
 }
 
-/// The units that wait go out, and octets are read once and fed.
+/// Feeds what is kept. Where a feed tells a fault that stays which it was told of, and the units that wait go out.
+fn feed_kept<K: Sink, H: Hears>(
+    kept: &mut Pump,
+    sink: &mut K,
+    conn: &mut Conn,
+    each: &mut H,
+) -> Result<(), PumpFault>
+    requires { K.failed sink.old < 2 ^ 64 - 1 }
+    ensures fed { OnOk result ((s : Option (List ℕ)) → FedAll (line s kept.old conn.old (K.written sink.old)) (line s kept.new conn.new (K.written sink.new))) }
+    ensures fails { IfErr result (λ why. (s : Option (List ℕ)) → Fails why [] (line s kept.old conn.old (K.written sink.old)) (line s kept.new conn.new (K.written sink.new))) }
+    ensures tells { Tells conn.old.core.log.journal conn.new.core.log.journal (H.heard each.old) (H.heard each.new) }
+    ensures failures { (n : ℕ) → CountsFailures result n n (K.failed sink.old) (K.failed sink.new) }
+{
+    recall(conn);
+    let Err(stopped) = feed_all(conn, each, kept.rest()) else {
+        kept.clear();
+        return Ok(());
+    };
+    kept.skip(stopped.used);
+    Err(last_units(sink, conn, stopped.fault))
+}
+
+/// The units that wait go out, and octets are read once and fed. Nothing is kept of the turn before.
 fn turn<S: Source, K: Sink, H: Hears>(
+    kept: &mut Pump,
     source: &mut S,
     sink: &mut K,
     conn: &mut Conn,
     each: &mut H,
-    buffer: &mut [u8],
 ) -> Result<Option<PumpEnd>, PumpFault>
-    requires room { 0 < length buffer.old }
+    requires none { kept.old ≡ [] }
     requires reads { S.failed source.old < 2 ^ 64 - 1 }
     requires writes { K.failed sink.old < 2 ^ 64 - 1 }
-    ensures pumps { OnOk result (Pumps (S.remaining source.old) (S.remaining source.new) (K.written sink.old) (K.written sink.new) conn.old conn.new) }
-    ensures end { IfOk result (λ end. IfSome end (λ e. IsEnd e (S.remaining source.new) conn.new)) }
+    ensures turned { IfOk result (λ end. Turned end (line (S.remaining source.old) kept.old conn.old (K.written sink.old)) (line (S.remaining source.new) kept.new conn.new (K.written sink.new))) }
+    ensures fails { IfErr result (λ why. TurnFails why (line (S.remaining source.old) kept.old conn.old (K.written sink.old)) (line (S.remaining source.new) kept.new conn.new (K.written sink.new))) }
     ensures tells { Tells conn.old.core.log.journal conn.new.core.log.journal (H.heard each.old) (H.heard each.new) }
     ensures failures { CountsFailures result (S.failed source.old) (S.failed source.new) (K.failed sink.old) (K.failed sink.new) }
-    ensures told { IfErr result (λ fault. IsFault fault conn.new) }
-    ensures last { IfErr result (λ fault. FaultPumps fault (Pumps (S.remaining source.old) (S.remaining source.new) (K.written sink.old) (K.written sink.new) conn.old conn.new)) }
 {
     let Ok(()) = write_waiting(sink, conn) else {
         return Err(PumpFault::Write);
     };
     recall(conn);
-    if conn.phase() == Phase::Closed {
+    if is_closed(conn) {
         return Ok(Some(PumpEnd::Closed));
     }
-    match take_in(source, conn, each, buffer) {
-        Ok(end) => Ok(end),
-        Err(Untaken::Read) => Err(PumpFault::Read),
-        Err(Untaken::Conn(fault)) => {
-            recall(conn);
-            Err(last_units(sink, conn, fault))
-        }
+    let Ok(count) = kept.refill(source) else {
+        return Err(PumpFault::Read);
+    };
+    if count == 0 {
+        return Ok(Some(PumpEnd::EndOfInput));
+    }
+    match feed_kept(kept, sink, conn, each) {
+        Ok(()) => Ok(None),
+        Err(why) => Err(why),
     }
 }
 
-/// Lets a connection run over a source and a sink, for at most so many turns, and hands what each entry of the journal gives to `each`, before the
-/// next frame is fed. A turn writes the units that wait, stops where the connection is closed, and else reads once, at most 4096 octets, and feeds them.
-///
-/// # Errors
-///
-/// `Read` or `Write` where that device failed, and `Conn` with the fault that a feed told: then the units that still waited were written, the
-/// last close among them. Octets that were read may be lost with a fault of a device or for want of memory: the connection is not to be used again.
-pub fn drive<S: Source, K: Sink, H: Hears>(
+impl Pump {
+    /// Lets a connection run over a source and a sink, for at most so many turns, and hands what each entry of the journal gives to `each`, before
+    /// the next frame is fed. What was kept of the call before is fed first. A turn writes the units that wait, stops where the connection is closed,
+    /// and else reads once, at most 4096 octets, and feeds them.
+    ///
+    /// # Errors
+    ///
+    /// `Read` or `Write` where that device failed, and `Conn` with the fault that a feed told: then the units that still waited were written, the
+    /// last close among them. What was read and not fed is kept, so after `NoMemory` the same call goes on where this one stopped.
+    pub fn drive<S: Source, K: Sink, H: Hears>(
+        &mut self,
+        source: &mut S,
+        sink: &mut K,
+        conn: &mut Conn,
+        each: &mut H,
+        turns: u32,
+    ) -> Result<PumpEnd, PumpFault>
+        requires reads { S.failed source.old < 2 ^ 64 - 1 }
+        requires writes { K.failed sink.old < 2 ^ 64 - 1 }
+        ensures runs { Runs turns result (line (S.remaining source.old) self.old conn.old (K.written sink.old)) (line (S.remaining source.new) self.new conn.new (K.written sink.new)) }
+        ensures tells { Tells conn.old.core.log.journal conn.new.core.log.journal (H.heard each.old) (H.heard each.new) }
+        ensures failures { CountsFailures result (S.failed source.old) (S.failed source.new) (K.failed sink.old) (K.failed sink.new) }
+    {
+        take_turns(self, source, sink, conn, each, turns)
+    }
+
+    /// As `drive`, with what the entries of the journal give dropped.
+    ///
+    /// # Errors
+    ///
+    /// Those of `drive`.
+    pub fn run<S: Source, K: Sink>(
+        &mut self,
+        source: &mut S,
+        sink: &mut K,
+        conn: &mut Conn,
+        turns: u32,
+    ) -> Result<PumpEnd, PumpFault>
+        requires reads { S.failed source.old < 2 ^ 64 - 1 }
+        requires writes { K.failed sink.old < 2 ^ 64 - 1 }
+        ensures runs { Runs turns result (line (S.remaining source.old) self.old conn.old (K.written sink.old)) (line (S.remaining source.new) self.new conn.new (K.written sink.new)) }
+        ensures failures { CountsFailures result (S.failed source.old) (S.failed source.new) (K.failed sink.old) (K.failed sink.new) }
+    {
+        take_turns(self, source, sink, conn, &mut Deaf, turns)
+    }
+}
+
+/// What was kept is fed, and then there are so many turns at most.
+fn take_turns<S: Source, K: Sink, H: Hears>(
+    kept: &mut Pump,
     source: &mut S,
     sink: &mut K,
     conn: &mut Conn,
@@ -284,44 +328,19 @@ pub fn drive<S: Source, K: Sink, H: Hears>(
 ) -> Result<PumpEnd, PumpFault>
     requires reads { S.failed source.old < 2 ^ 64 - 1 }
     requires writes { K.failed sink.old < 2 ^ 64 - 1 }
-    ensures pumps { OnOk result (Pumps (S.remaining source.old) (S.remaining source.new) (K.written sink.old) (K.written sink.new) conn.old conn.new) }
-    ensures end { IfOk result (λ end. IsEnd end (S.remaining source.new) conn.new) }
+    ensures runs { Runs turns result (line (S.remaining source.old) kept.old conn.old (K.written sink.old)) (line (S.remaining source.new) kept.new conn.new (K.written sink.new)) }
     ensures tells { Tells conn.old.core.log.journal conn.new.core.log.journal (H.heard each.old) (H.heard each.new) }
     ensures failures { CountsFailures result (S.failed source.old) (S.failed source.new) (K.failed sink.old) (K.failed sink.new) }
-    ensures told { IfErr result (λ fault. IsFault fault conn.new) }
-    ensures last { IfErr result (λ fault. FaultPumps fault (Pumps (S.remaining source.old) (S.remaining source.new) (K.written sink.old) (K.written sink.new) conn.old conn.new)) }
 {
-    let mut buffer = [0; PIECE];
-    recall(conn);
+    if let Err(why) = feed_kept(kept, sink, conn, each) {
+        return Err(why);
+    }
     for _ in 0..turns {
-        recall(conn);
-        match turn(source, sink, conn, each, &mut buffer) {
+        match turn(kept, source, sink, conn, each) {
             Ok(Some(end)) => return Ok(end),
             Ok(None) => {}
-            Err(fault) => return Err(fault),
+            Err(why) => return Err(why),
         }
     }
     Ok(PumpEnd::TurnsOver)
-}
-
-/// As `drive`, with what the entries of the journal give dropped.
-///
-/// # Errors
-///
-/// Those of `drive`.
-pub fn pump<S: Source, K: Sink>(
-    source: &mut S,
-    sink: &mut K,
-    conn: &mut Conn,
-    turns: u32,
-) -> Result<PumpEnd, PumpFault>
-    requires reads { S.failed source.old < 2 ^ 64 - 1 }
-    requires writes { K.failed sink.old < 2 ^ 64 - 1 }
-    ensures pumps { OnOk result (Pumps (S.remaining source.old) (S.remaining source.new) (K.written sink.old) (K.written sink.new) conn.old conn.new) }
-    ensures end { IfOk result (λ end. IsEnd end (S.remaining source.new) conn.new) }
-    ensures failures { CountsFailures result (S.failed source.old) (S.failed source.new) (K.failed sink.old) (K.failed sink.new) }
-    ensures told { IfErr result (λ fault. IsFault fault conn.new) }
-    ensures last { IfErr result (λ fault. FaultPumps fault (Pumps (S.remaining source.old) (S.remaining source.new) (K.written sink.old) (K.written sink.new) conn.old conn.new)) }
-{
-    drive(source, sink, conn, &mut Deaf, turns)
 }

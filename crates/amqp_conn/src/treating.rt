@@ -5,7 +5,7 @@ ghost use Rattle.amqp_rules.specs.ViolationAnswer.{violation_answer, error_of};
 ghost use Rattle.amqp_frames.specs.Measuring.{IsMeasureOf};
 ghost use Rattle.amqp_rules.specs.Limits.{IsWithinLimits};
 ghost use Rattle.amqp_rules.specs.Sending.{octets_of};
-ghost use Rattle.amqp_journal.specs.Log.{IsRefusal, heard_due, popping};
+ghost use Rattle.amqp_journal.specs.Log.{IsRefusal, heard_due, popping, forgetting};
 ghost use Rattle.amqp_journal.specs.Units.{units, waiting};
 ghost use Rattle.amqp_conn.specs.Calling.{IsFit, IsStartFault, Does, Closes, peer_max};
 ghost use Rattle.amqp_conn.specs.Octets.{open_frame, close_frame, condition, last_words, session_of, new_core};
@@ -108,7 +108,7 @@ fn start(alloc: Global, config: Config, measured: Measured) -> Result<Machine, A
     ensures { IfOk result (λ machine. machine ≡ new_core config) }
 {
     let opening = open_octets(alloc, &config, measured)?;
-    let mut logged = Logged::new(alloc, &config.session())?;
+    let mut logged = Logged::new(alloc, &config.session());
     logged.put_unit(Bytes::from_static(&HEADER))?;
     Ok(Machine {
         alloc,
@@ -120,6 +120,7 @@ fn start(alloc: Global, config: Config, measured: Measured) -> Result<Machine, A
 }
 
 impl Machine {
+    /// Of a new connection, which has put out our header.
     pub fn new(alloc: Global, config: Config) -> Result<Machine, StartFault>
         ensures { MatchResult result (λ machine. IsFit config × (machine ≡ new_core config)) (λ e. IsStartFault e config) }
     {
@@ -178,6 +179,14 @@ impl Machine {
         }
     }
 
+    /// Forgets the entries so far.
+    pub fn forget(&mut self)
+        ensures { self.new ≡ record self.old { log = forgetting self.old.log } }
+    {
+        self.logged.forget();
+    }
+
+    /// The first unit that waits.
     pub fn pop_unit(&mut self) -> Option<Unit>
         ensures some { IfSome result (λ unit. (unit.number ≡ self.old.log.popped) × (slice_get (units self.old.log) self.old.log.popped ≡ Some unit.bytes) × (self.new ≡ record self.old { log = popping self.old.log })) }
         ensures none { result ≡ None → (waiting self.old.log ≡ []) × (self.new ≡ self.old) }
@@ -185,18 +194,21 @@ impl Machine {
         self.logged.pop_unit()
     }
 
+    /// Where the connection stands.
     pub fn phase(&self) -> Phase
         ensures { result ≡ self.now.phase }
     {
         self.phase
     }
 
+    /// The longest frame that we take, in octets.
     pub fn max_frame(&self) -> u32
         ensures { result ≡ self.now.config.max_frame }
     {
         self.config.max_frame
     }
 
+    /// The session with its journal.
     pub fn logged(&self) -> &Logged
         ensures { result.now ≡ self.now.log }
     {

@@ -99,6 +99,7 @@ impl Held {
         self.items.len()
     }
 
+    /// No delivery is held.
     pub fn is_empty(&self) -> bool
         ensures { IsTrue result ↔ (self.now ≡ []) }
     {

@@ -1,23 +1,18 @@
 -- The plan of an attach of the peer's that answers ours.
-use Rattle.std.proofs.Common.{◌≡◌, ℕ, ◌+◌, not, Bool, true, false, cond, Option, Some, None, [], ◌∷◌, refl, ap, sym, subst, find, is_some, is_none}
+use Rattle.std.proofs.Common.{◌≡◌, ℕ, ◌+◌, not, Bool, true, false, Option, Some, None, [], ◌∷◌, refl, ap, sym, subst, find, is_some, is_none}
 use Rattle.std.specs.Prelude.{◌&&◌}
 use Rattle.amqp_performatives.specs.declared.bodies.AttachBody.{AttachBody}
 use Rattle.amqp_deliveries.specs.declared.change.Change.TheVariants as change
-use Rattle.amqp_flow.specs.Credit.{count_given}
-use Rattle.amqp_links.specs.declared.credit.Credit.{Credit}
-use Rattle.amqp_links.specs.declared.marks.Marks.{Marks}
 use Rattle.amqp_links.specs.declared.fate.Fate.TheVariants.{Theirs}
-use Rattle.amqp_links.specs.Credits.{role_of, credit_in}
 use Rattle.amqp_links.specs.Fate.{with_theirs}
 use Rattle.amqp_links.specs.Links.{IsFirst}
-use Rattle.amqp_links.specs.Marks.{IsMarksOf}
 use Rattle.amqp_rules.specs.declared.reply.Given.TheVariants.{Attached}
 use Rattle.amqp_rules.specs.declared.violation.Violation.{Violation}
 use Rattle.amqp_rules.specs.declared.violation.ViolationKind.TheVariants.{OutOfSession, HandleTaken, NameTaken, MissingField}
-use Rattle.amqp_rules.specs.View.{LinkView, EndView, SendingView, opposite, has_number, has_peer_handle, is_asked_as, is_theirs, takes_frames, is_sender}
+use Rattle.amqp_rules.specs.View.{LinkView, EndView, SendingView, opposite, has_number, has_peer_handle, is_asked_as, is_theirs, takes_frames}
 use Rattle.amqp_rules.specs.Carry.{size_so_far}
 use Rattle.amqp_rules.specs.Refusing.{first_refusal, unlinked}
-use Rattle.amqp_rules.specs.Attach.{attached_by_peer, count_of, end_of}
+use Rattle.amqp_rules.specs.Attach.{attached_by_peer, end_of}
 use Rattle.amqp_rules.specs.PeerAttach.{lacks_count, attach_heard_answer, attach_violations, next_attach_heard}
 use Rattle.amqp_endpoint.specs.declared.plan.Session.{Session}
 use Rattle.amqp_endpoint.specs.declared.plan.Plan.{Plan}
@@ -40,11 +35,6 @@ asked-free false ours o h = absurd (cc)
 
 only : (x y : LinkView) (o : Option LinkView) → o ≡ Some x → o ≡ Some y → x ≡ y
 only x y o h k = cc
-
-pub marks-after : (b : AttachBody) (l : LinkView) (m : Marks) (c : Credit) → IsMarksOf l m → role_of c ≡ role_of m.credit
-    → credit_in c ≡ cond (is_sender (role_of m.credit)) (credit_in m.credit) (count_given (count_of b) (credit_in m.credit))
-    → with_theirs (end_of b) (record m { credit = c }) l ≡ attached_by_peer b l
-marks-after b l m c i r e = rw (r, e, i.role, i.credit, i.left, i.available, i.sending) refl
 
 pub answering-plan : (steps : ℕ) (s : Session) (st : StoresView) (b : AttachBody) (a : Answered) (p : Plan)
     → first_refusal (attach_violations (view_of steps s st) b) ≡ None

@@ -19,11 +19,9 @@ use Rattle.amqp_deliveries.specs.declared.change.Change.{Change}
 use Rattle.amqp_deliveries.specs.declared.change.Change.TheVariants.{Continues}
 use Rattle.amqp_endpoint.specs.Aborting.{IsAborted}
 use Rattle.amqp_endpoint.specs.Stores.{StoresView}
-use Rattle.amqp_endpoint.specs.Plan.{IsBegun, IsCounted, IsExpectedNext, IsKept, IsShort, AreShortOn, Plans, view_of, sending_plan}
+use Rattle.amqp_endpoint.specs.Plan.{IsBegun, IsCounted, IsKept, IsShort, AreShortOn, Plans, view_of, sending_plan}
 use Rattle.amqp_endpoint.proofs.Plans.{change-alike, short-found}
-
-same-link : {x y : LinkView} → ◌≡◌ {A = Option LinkView} (Some x) (Some y) → x ≡ y
-same-link h = cc
+use Rattle.amqp_endpoint.proofs.Rows.{expects-same}
 
 -- # Lengths
 
@@ -39,10 +37,6 @@ carried_short steps n false d h k = let e : 0 ≤ (steps + 1) * 2 ^ 64 = omega a
 
 -- # Counts
 
-still-expected : (e : Option ℕ) → IsExpectedNext e e
-still-expected None = tt
-still-expected (Some n) = inl refl
-
 -- one transfer more is sent, and nothing begins
 pub counted_sent : (steps : ℕ) (s : Session) (st : StoresView) (change : Change) → IsBegun (view_of steps s st) change (record s { windows = windows_sent s.windows }) → IsKept steps s st
     → IsCounted (view_of steps s st) change (record s { windows = windows_sent s.windows })
@@ -53,7 +47,7 @@ counted_sent steps s st change begins k =
       sent = omega (arith, few);
       deliveries = omega (arith, begun);
       ours = inl refl;
-      theirs = still-expected s.expected;
+      theirs = expects-same s.expected;
       begun = begins;
     }
 

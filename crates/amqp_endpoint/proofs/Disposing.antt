@@ -1,6 +1,6 @@
 -- Dispose: what the deliveries of a table refuse, and the plan.
-use Rattle.std.proofs.Common.{◌≡◌, ◌<◌, ◌≤◌, ◌-◌, ◌∙◌, ℕ, Bool, true, false, Option, Some, None, Err, List, [], ◌∷◌, length, take, drop, filter, refl, sym, ap, arith, ⊎_elim}
-use Rattle.std.specs.Prelude.{IsOk, IsTrue, ◌↔◌}
+use Rattle.std.proofs.Common.{◌≡◌, ◌<◌, ◌≤◌, ◌-◌, ◌∙◌, ℕ, Bool, true, false, None, List, [], ◌∷◌, length, take, drop, filter, refl, sym, ap, arith, ⊎_elim}
+use Rattle.std.specs.Prelude.{IsTrue, ◌↔◌}
 use Rattle.std.specs.List.{list_any}
 use Rattle.std.proofs.lemmas.Bool.{cases_lt}
 use Rattle.std.proofs.lemmas.List.Edits.{length-between}
@@ -13,22 +13,18 @@ use Rattle.amqp_events.specs.Told.{SentItem}
 use Rattle.amqp_events.specs.Unsettled.{covers}
 use Rattle.amqp_deliveries.specs.declared.change.Change.TheVariants.{Says}
 use Rattle.amqp_deliveries.specs.declared.span.Span.{Span}
-use Rattle.amqp_deliveries.specs.Change.{held_items}
 use Rattle.amqp_deliveries.specs.Dispose as tables
 use Rattle.amqp_deliveries.specs.Held.{items_of}
 use Rattle.amqp_deliveries.specs.Span.{IsSpan, part}
 use Rattle.amqp_deliveries.proofs.Items.{any_item, filter_item}
 use Rattle.amqp_links.specs.declared.fate.Fate.TheVariants as fate
-use Rattle.amqp_rules.specs.declared.refusal.Refusal.{Refusal}
 use Rattle.amqp_rules.specs.declared.reply.Given.TheVariants.{Nothing}
-use Rattle.amqp_rules.specs.Dispose.{dispose_answer, dispose_body, dispose_refusals, held_as, is_backwards, is_empty, next_dispose, waits_for_sender}
+use Rattle.amqp_rules.specs.Dispose.{dispose_answer, dispose_body, dispose_refusals, is_empty, next_dispose, waits_for_sender}
 use Rattle.amqp_rules.specs.Refusing.{first_refusal}
 use Rattle.amqp_rules.specs.Sending.{frame_refused}
-use Rattle.amqp_rules.specs.View.{View, is_mapped}
 use Rattle.amqp_endpoint.specs.declared.plan.Session.{Session}
-use Rattle.amqp_endpoint.specs.Disposing.{held_refusals}
 use Rattle.amqp_endpoint.specs.Stores.{StoresView}
-use Rattle.amqp_endpoint.specs.Plan.{IsPlan, IsKept, tables_in, view_of, sending_plan}
+use Rattle.amqp_endpoint.specs.Plan.{IsPlan, IsKept, view_of, sending_plan}
 use Rattle.amqp_endpoint.proofs.Plans.{counted-still}
 
 -- # Those that a disposition speaks of stand at the places of a span
@@ -72,30 +68,6 @@ receiver_waits d items span b r e = e ∙ sym (any_item (waits_for_sender Receiv
 pub any_fixed_of : (d : Disposition) (items : List SentItem) (span : Span) (b : Bool) → IsSpan d.first d.last items span → b ≡ tables.any_fixed d.state (part span items)
     → b ≡ list_any (is_fixed d.state) (filter (covers d) (items_of items))
 any_fixed_of d items span b r e = e ∙ sym (any_item (is_fixed d.state) (part span items)) ∙ ap (list_any (is_fixed d.state)) (spoken d items span r)
-
--- # The refusals
-
-same-held : (v : View) (role : Role) → held_items role (tables_in v) ≡ held_as v role
-same-held v Sender = refl
-same-held v Receiver = refl
-
-pub held_refused : (v : View) (role : Role) (d : Disposition) (items : List Item) (r : Option Refusal) → items ≡ held_items role (tables_in v) → r ≡ first_refusal (held_refusals role d items)
-    → first_refusal (held_refusals role d (held_as v role)) ≡ r
-held_refused v role d items r same e = sym (e ∙ ap (λ xs. first_refusal (held_refusals role d xs)) (same ∙ same-held v role))
-
-pub refused_held : (v : View) (role : Role) (d : Disposition) (e : Refusal) → is_mapped v.session ≡ true → is_backwards d.first d.last ≡ false → first_refusal (held_refusals role d (held_as v role)) ≡ Some e
-    → dispose_answer v role d ≡ Err e
-refused_held v role d e mapped back h = rw (mapped, back, h) refl
-
-pub free_rows : (v : View) (role : Role) (d : Disposition) → is_mapped v.session ≡ true → is_backwards d.first d.last ≡ false → first_refusal (held_refusals role d (held_as v role)) ≡ None
-    → first_refusal (dispose_refusals v role d) ≡ None
-free_rows v role d mapped back h = rw (mapped, back, h) refl
-
-pub refused_frame : (v : View) (role : Role) (d : Disposition) (e : Refusal) → first_refusal (dispose_refusals v role d) ≡ None → frame_refused v.max_frame (dispose_body role d) [] ≡ Some e → dispose_answer v role d ≡ Err e
-refused_frame v role d e free h = rw (free, h) refl
-
-pub due : (v : View) (role : Role) (d : Disposition) → first_refusal (dispose_refusals v role d) ≡ None → frame_refused v.max_frame (dispose_body role d) [] ≡ None → IsOk (dispose_answer v role d)
-due v role d free written = rw (free, written) refl
 
 -- # The plan
 

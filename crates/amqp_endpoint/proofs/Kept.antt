@@ -122,20 +122,6 @@ theirs-kept k n (Hears Receiver d) t b g = kept-held (k + 1) n (event.Hears d) t
 theirs-kept k n (Leaves link) t b g = kept-held (k + 1) n (event.Leaves link) t.received b tt
 theirs-kept k n Over t b g = tt
 
--- before the first is heard there are none
-none-kept : (c : Change) (t : TablesView) → t.received ≡ [] → ((i : Item) → c ≡ Begins Receiver i → ⊥) → (tables_after c t).received ≡ []
-none-kept Stay t e g = e
-none-kept (Begins Sender i) t e g = e
-none-kept (Begins Receiver i) t e g = absurd (g i refl)
-none-kept (Continues Sender id state over) t e g = e
-none-kept (Continues Receiver id state over) t e g = rw e refl
-none-kept (Says Sender d) t e g = rw e refl
-none-kept (Says Receiver d) t e g = rw e refl
-none-kept (Hears Sender d) t e g = rw e refl
-none-kept (Hears Receiver d) t e g = rw e refl
-none-kept (Leaves link) t e g = rw e refl
-none-kept Over t e g = refl
-
 is-begin : (c : Change) → (i : Item) → c ≡ Begins Receiver i → (v : View) (s : Session) → IsBegun v c s → IsDue i.id v.expected × (s.expected ≡ Some (wire (i.id + 1)))
 is-begin c i e v s g = let h : IsBegun v (Begins Receiver i) s = rw e at g in (h.0, h.1)
 
@@ -215,53 +201,28 @@ none-short k = omega arith
 
 fate-short : (k : ℕ) (f : Fate) (ls : LinksView) → AreShortOn k ls.list → AreShort k f → AreShortOn k (links_after f ls).list
 fate-short k fate.Stay ls s h = s
-fate-short k (fate.Marked key n m) ls s h = on-changed k _ _ ls.list (λ l q. h) s
-fate-short k (fate.Ours key n end m) ls s h = on-changed k _ _ ls.list (λ l q. h) s
-fate-short k (fate.Theirs key n end m) ls s h = on-changed k _ _ ls.list (λ l q. h) s
 fate-short k (fate.Asked name end m) ls s h = on-added k ls.list _ s h
 fate-short k (fate.Offered name end m) ls s h = on-added k ls.list _ s h
 fate-short k (fate.Left key n) ls s h = on-changed k _ _ ls.list (λ l q. none-short k) s
 fate-short k (fate.Taken key n) ls s h = on-changed k _ _ ls.list (λ l q. q) s
 fate-short k (fate.Learnt key n) ls s h = on-changed k _ _ ls.list (λ l q. q) s
-fate-short k (fate.Heard key n m t) ls s h = on-changed k _ _ ls.list (λ l q. h) s
 fate-short k (fate.Gone key n) ls s h = on-removed k _ ls.list s
 fate-short k fate.AllGone ls s h = tt
+fate-short k f ls s h = on-changed k _ _ ls.list (λ l q. h) s
 
 told-short : (k : ℕ) (c : Change) (items : List SentItem) (ls : LinksView) → AreShortOn k ls.list → AreShortOn k (told_after c items ls).list
-told-short k Stay items ls s = s
-told-short k (Begins role i) items ls s = s
-told-short k (Continues role id state over) items ls s = s
-told-short k (Says role d) items ls s = s
 told-short k (Hears Sender d) items ls s = on-told k (event.Hears d) items ls.list s
-told-short k (Hears Receiver d) items ls s = s
-told-short k (Leaves link) items ls s = s
-told-short k Over items ls s = s
+told-short k c items ls s = s
 
 -- # Links
 
 told-made : (c : Change) (items : List SentItem) (ls : LinksView) → (told_after c items ls).made ≡ ls.made
-told-made Stay items ls = refl
-told-made (Begins role i) items ls = refl
-told-made (Continues role id state over) items ls = refl
-told-made (Says role d) items ls = refl
 told-made (Hears Sender d) items ls = refl
-told-made (Hears Receiver d) items ls = refl
-told-made (Leaves link) items ls = refl
-told-made Over items ls = refl
+told-made c items ls = refl
 
 fate-made : (f : Fate) (ls : LinksView) → (links_after f ls).made ≤ ls.made + 1
 fate-made fate.Stay ls = omega arith
-fate-made (fate.Marked key n m) ls = omega arith
-fate-made (fate.Ours key n end m) ls = omega arith
-fate-made (fate.Theirs key n end m) ls = omega arith
-fate-made (fate.Asked name end m) ls = omega arith
-fate-made (fate.Offered name end m) ls = omega arith
-fate-made (fate.Left key n) ls = omega arith
-fate-made (fate.Taken key n) ls = omega arith
-fate-made (fate.Learnt key n) ls = omega arith
-fate-made (fate.Heard key n m t) ls = omega arith
-fate-made (fate.Gone key n) ls = omega arith
-fate-made fate.AllGone ls = omega arith
+fate-made f ls = omega arith
 
 -- # All of it
 
@@ -285,11 +246,9 @@ apt-after k s st f (Begins Receiver x) t small i g a = (from s.expected g.0 i.th
     from : (e : Option ℕ) → IsDue x.id e → AreBehindExpected k e st.tables.received → IsPast x.id st.tables.received
     from None d b = rw b (All-nil (λ i. is_before i.id x.id ≡ true))
     from (Some n) d b = rw d (older k n st.tables.received small b)
-apt-after k s st f (Continues role id state over) t small i g a = tt
 apt-after k s st f (Says role d) t small i g a = a
 apt-after k s st f (Hears role d) t small i g a = a
-apt-after k s st f (Leaves link) t small i g a = tt
-apt-after k s st f Over t small i g a = tt
+apt-after k s st f c t small i g a = tt
 
 pub met-after : (k : ℕ) (s : Session) (st : StoresView) (p : Plan) → k < 2 ^ 30 → IsKept k s st → IsSound (view_of k s st) p → IsMet p.fate p.change st
 met-after k s st p small i h = record { fit = h.fit; apt = apt-after k s st p.fate p.change p.session small i h.counted.begun h.alone }

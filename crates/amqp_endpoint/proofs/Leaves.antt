@@ -1,38 +1,22 @@
 -- A link that we leave, and one that the peer leaves.
-use Rattle.std.proofs.Common.{◌≡◌, ℕ, true, false, Option, Some, None, Result, Ok, Err, [], refl, sym, ◌∙◌, inr, MatchResult}
+use Rattle.std.proofs.Common.{◌≡◌, ℕ, true, false, Option, None, Result, Ok, Err, [], refl, sym, ◌∙◌, inr, MatchResult}
 use Rattle.amqp_performatives.specs.declared.bodies.DetachBody.{DetachBody}
-use Rattle.amqp_performatives.specs.declared.error.AmqpError.{AmqpError}
 use Rattle.amqp_performatives.specs.declared.performative.Performative.{Performative}
 use Rattle.amqp_links.specs.declared.fate.Fate.TheVariants as fate
 use Rattle.amqp_rules.specs.declared.reply.Given.TheVariants as given
 use Rattle.amqp_rules.specs.declared.violation.Violation.{Violation}
 use Rattle.amqp_rules.specs.View.{is_attached}
-use Rattle.amqp_rules.specs.Detach.{detach_answer, detach_body, next_detach}
+use Rattle.amqp_rules.specs.Detach.{detach_body}
 use Rattle.amqp_rules.specs.PeerDetach.{detach_heard_answer, next_detach_heard}
 use Rattle.amqp_rules.specs.Refusing.{no_memory}
-use Rattle.amqp_endpoint.specs.declared.endpoint.detach.Leaving.{Leaving}
 use Rattle.amqp_endpoint.specs.declared.plan.Plan.{Plan}
 use Rattle.amqp_endpoint.specs.declared.plan.Session.{Session}
 use Rattle.amqp_deliveries.specs.declared.change.Change.TheVariants.{Leaves}
-use Rattle.amqp_endpoint.specs.Leaving.{IsLeft}
 use Rattle.amqp_endpoint.specs.Parting.{IsParting}
 use Rattle.amqp_endpoint.specs.declared.endpoint.peer_detach.Parting.{Parting}
 use Rattle.amqp_endpoint.specs.Stores.{StoresView}
 use Rattle.amqp_endpoint.specs.Plan.{IsPlan, IsKept, Plans, view_of, quiet_plan, sending_plan}
 use Rattle.amqp_endpoint.proofs.Plans.{counted-still}
-
-abbrev left_plan : Session → Leaving → ℕ → Option AmqpError → Plan
-left_plan s w link error = sending_plan s (fate.Left w.key link) (Leaves link) (detach_body w.handle (Some true) error) [] given.Nothing
-
-pub plan-left : (steps : ℕ) (s : Session) (st : StoresView) (link : ℕ) (error copy : Option AmqpError) (w : Leaving) → IsKept steps s st → IsLeft (view_of steps s st) link error w → copy ≡ error
-    → IsPlan (view_of steps s st) (detach_answer (view_of steps s st) link error) (next_detach (view_of steps s st) link) (left_plan s w link copy)
-plan-left steps s st link error copy w k t same =
-    rw (same, t.handle)
-    record {
-      due = rw (t.mapped, t.found, t.attached, t.written) refl;
-      leaves = refl;
-      sound = record { fit = tt; short = tt; counted = counted-still steps s s st (Leaves link) tt k refl refl refl refl; alone = tt };
-    }
 
 abbrev gone_body : DetachBody → Parting → Option Performative
 gone_body b p = detach_body p.handle b.closed None

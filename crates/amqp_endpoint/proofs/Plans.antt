@@ -1,5 +1,5 @@
 -- From what a check promises to a plan.
-use Rattle.std.proofs.Common.{◌≡◌, ◌≤◌, ℕ, ◌+◌, ◌*◌, ◌^◌, Bool, true, Option, Some, None, List, [], ◌∷◌, refl, ap, sym, find, ⊎_elim, inl, arith, subst, ◌∙◌}
+use Rattle.std.proofs.Common.{◌≡◌, ◌≤◌, ℕ, ◌+◌, ◌*◌, ◌^◌, Bool, true, Option, Some, List, [], ◌∷◌, refl, ap, sym, find, ⊎_elim, inl, arith, subst, ◌∙◌}
 use Rattle.std.proofs.lemmas.Bool.{cases_Bool}
 use Rattle.amqp_rules.specs.declared.refusal.Refusal.{Refusal}
 use Rattle.amqp_rules.specs.Carry.{size_so_far}
@@ -10,6 +10,7 @@ use Rattle.amqp_deliveries.specs.declared.change.Change.{Change}
 use Rattle.amqp_endpoint.specs.Stores.{StoresView}
 use Rattle.amqp_endpoint.specs.Plan.{IsBegun, IsCounted, IsKept, IsShort, AreShortOn, IsExpectedNext, view_of, next_id}
 use Rattle.amqp_endpoint.specs.Taking.{IsTaken}
+use Rattle.amqp_endpoint.proofs.Rows.{expects-same}
 
 same : {x y : LinkView} → ◌≡◌ {A = Option LinkView} (Some x) (Some y) → x ≡ y
 same h = cc
@@ -36,10 +37,6 @@ short-found steps test (m ∷ links) l h e =
 pub shorter : (steps n : ℕ) → n ≤ steps * 2 ^ 64 → n ≤ (steps + 1) * 2 ^ 64
 shorter steps n h = omega (arith, h)
 
-expected-still : (e : Option ℕ) → IsExpectedNext e e
-expected-still None = tt
-expected-still (Some n) = inl refl
-
 -- a step that begins nothing leaves the counts as they are
 pub counted-still : (steps : ℕ) (s t : Session) (st : StoresView) (change : Change) → IsBegun (view_of steps s st) change t → IsKept steps s st → t.windows.sent ≡ s.windows.sent → t.windows.first ≡ s.windows.first → t.deliveries ≡ s.deliveries → t.expected ≡ s.expected
     → IsCounted (view_of steps s st) change t
@@ -50,7 +47,7 @@ counted-still steps s t st change begins k sent first deliveries expected =
       sent = omega (arith, few, sent);
       deliveries = omega (arith, begun, deliveries);
       ours = inl (λ i. next_id (record s { deliveries = deliveries i; windows = record s.windows { first = first i } }));
-      theirs = subst (λ (e : Option ℕ). IsExpectedNext s.expected e) (sym expected) (expected-still s.expected);
+      theirs = subst (λ (e : Option ℕ). IsExpectedNext s.expected e) (sym expected) (expects-same s.expected);
       begun = begins;
     }
 

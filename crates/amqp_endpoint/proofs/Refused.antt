@@ -1,5 +1,5 @@
 -- From what a check promises to the refusal that is due.
-use Rattle.std.proofs.Common.{◌≡◌, ℕ, Bool, Option, Some, None, Result, Ok, Err, List, refl, ap, ◌∙◌, subst, sym, inr, MatchResult}
+use Rattle.std.proofs.Common.{◌≡◌, ℕ, Bool, Option, Some, None, List, refl, ap, ◌∙◌}
 use Rattle.std.specs.Option.{option_or}
 use Rattle.std.specs.Result.{result_err}
 use Rattle.amqp_performatives.specs.declared.performative.Performative.{Performative}
@@ -11,8 +11,6 @@ use Rattle.amqp_rules.specs.Refusing.{answered, first_refusal}
 use Rattle.amqp_rules.specs.Sending.{frame_refused}
 use Rattle.amqp_rules.specs.View.{View, LinkView, handle_of}
 use Rattle.amqp_endpoint.specs.declared.endpoint.onlink.OnLink.{OnLink}
-use Rattle.amqp_endpoint.specs.declared.plan.Plan.{Plan}
-use Rattle.amqp_endpoint.specs.Plan.{IsPlan, Plans}
 use Rattle.amqp_endpoint.specs.Taking.{IsTaken}
 
 pub err-of : {A E : Type 0} (x : Option E) (reply : A) → x ≡ result_err (answered x reply)
@@ -34,9 +32,3 @@ pub refused-on : (v : View) (link : ℕ) (rows : LinkView → List (Bool × Refu
 refused-on v link rows change o body reply said payload r t b h =
     let s : said ≡ body t.on = b t.on t.handle t.marks t.free in
     h ∙ ap (λ x. frame_refused v.max_frame x payload) s ∙ rw (t.mapped, t.found, t.free) (err-of (frame_refused v.max_frame (body t.on) payload) (reply t.on))
-
--- the plan of a check, where memory may be refused for its frame
-pub planned-so : {E : Type 0} (no_memory : E) (v : View) (answer : Result Reply E) (after : View) (p : Plan) (r : Result Plan E) → IsPlan v answer after p
-    → MatchResult r (λ q. q ≡ p) (λ e. e ≡ no_memory) → Plans no_memory v answer after r
-planned-so no_memory v answer after p (Ok q) h e = subst (λ (x : Plan). IsPlan v answer after x) (sym e) h
-planned-so no_memory v answer after p (Err x) h e = inr (rw h.due refl, e)

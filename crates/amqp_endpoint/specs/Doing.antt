@@ -38,6 +38,16 @@ abbrev pub DoesOnce : {E : Type 0} → E → Result Reply E → View → View �
 DoesOnce no_memory answer after new (Ok both) = IsDoneOnce answer after new both.0 both.1
 DoesOnce no_memory answer after new (Err e) = IsRefused no_memory answer e
 
+-- the reply that is due, told before the step is done
+abbrev pub Foretells : {E : Type 0} → E → Result Reply E → Result Reply E → Type 0
+Foretells no_memory answer (Ok reply) = answer ≡ Ok reply
+Foretells no_memory answer (Err e) = IsRefused no_memory answer e
+
+-- the reply that is due, twice
+abbrev pub Replies : {E : Type 0} → E → Result Reply E → Result (Reply × Reply) E → Type 0
+Replies no_memory answer (Ok both) = (answer ≡ Ok both.0) × (answer ≡ Ok both.1)
+Replies no_memory answer (Err e) = IsRefused no_memory answer e
+
 -- the session of a view
 abbrev pub session_in : View → Session
 session_in v =

@@ -15,3 +15,4 @@ pub mod Transferring
 pub mod Doing
 pub mod Written
 pub mod Arriving
+pub mod Needing

@@ -12,6 +12,7 @@ use std::alloc::{AllocError, Global};
 use std::marker::Model;
 
 mod abort;
+mod applying;
 mod attach;
 mod beat;
 mod begin;

@@ -1,5 +1,6 @@
 //! The links and the unsettled deliveries, and what a step makes of both.
 ghost use Rattle.std.specs.Prelude.{◌≡◌, ◌<◌, ◌^◌, [], OnOk, OnErr};
+ghost use Rattle.amqp_endpoint.specs.Needing.{MayNeed};
 ghost use Rattle.amqp_endpoint.specs.Starting.{change_begun};
 ghost use Rattle.amqp_endpoint.specs.Stores.{IsMet, stores_after};
 
@@ -94,6 +95,7 @@ impl Stores {
     fn hear(&mut self, role: Role, said: &Disposition) -> Result<(), AllocError>
         ensures ok { OnOk result (self.new ≡ stores_after Fate.Stay (Change.Hears role said.now) self.old) }
         ensures err { OnErr result (self.new ≡ self.old) }
+        ensures needs { OnErr result (MayNeed (Change.Hears role said.now) self.old.tables) }
     {
         match role {
             Role::Receiver => self.tables.hear(role, said),
@@ -228,12 +230,13 @@ impl Stores {
         self.links.learn(key, number);
     }
 
-    /// They become what they are to be. Memory is asked for before anything changes.
+    /// They become what they are to be. Memory is asked for before anything changes; for a disposition only as `MayNeed` tells.
     pub(crate) fn keep(&mut self, fate: Fate, change: Change) -> Result<(), AllocError>
         requires met { IsMet fate change self.old }
         requires made { self.old.links.made < 2 ^ 31 }
         ensures ok { OnOk result (self.new ≡ stores_after fate change self.old) }
         ensures err { OnErr result (self.new ≡ self.old) }
+        ensures needs { OnErr result (MayNeed change self.old.tables) }
     {
         match change {
             Change::Stay => self.links.meet(fate),

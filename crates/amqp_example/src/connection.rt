@@ -1,17 +1,14 @@
 //! `amqp_conn`: two ends of a connection, over memory. Octets go in and octets come out; each end does operations while it is running.
 
-use crate::operations::{accept, attach, grant, start};
-use amqp_conn::{Config, Conn};
-use amqp_endpoint::op::Op;
-use amqp_endpoint::reply::Given;
-use amqp_frames::Role;
-use amqp_journal::unit::Unit;
-use amqp_script::feeding::feed_front;
-use amqp_types::Text;
+use crate::operations::{attach, start};
+use amqp_conn::{Config, Conn, FromStd, Given, Hears, Op, Pump, Role, Text, ops};
 use std::alloc::Global;
 
-/// More octets in turn than either end has to say here.
+/// More pieces in turn than either end has to say here.
 const TURNS: u32 = 8;
+
+/// More reads than a piece needs.
+const READS: u32 = 100;
 
 /// A message goes there and is accepted, one comes back, and the connection is closed.
 pub fn run<R: AllocGlobal + Print>(rt: &R) -> anyhow::Result<()> {
@@ -22,9 +19,9 @@ pub fn run<R: AllocGlobal + Print>(rt: &R) -> anyhow::Result<()> {
 
 fn talk<R: AllocGlobal + Print>(rt: &R, one: &mut End, other: &mut End) -> anyhow::Result<()> {
     exchange(rt, one, other)?;
-    one.apply(rt, &Op::Begin)?;
+    one.apply(rt, &ops::begin())?;
     exchange(rt, one, other)?;
-    other.apply(rt, &Op::Begin)?;
+    other.apply(rt, &ops::begin())?;
     exchange(rt, one, other)?;
     send(rt, one, other, "there", 0)?;
     send(rt, other, one, "back", 1)?;
@@ -45,14 +42,14 @@ fn send<R: AllocGlobal + Print>(
     from.apply(rt, &attach(rt.alloc(), name, Role::Sender)?)?;
     exchange(rt, from, to)?;
     to.apply(rt, &attach(rt.alloc(), name, Role::Receiver)?)?;
-    to.apply(rt, &grant(link))?;
+    to.apply(rt, &ops::grant(link, 10))?;
     exchange(rt, from, to)?;
     from.apply(rt, &start(rt.alloc(), link)?)?;
     exchange(rt, from, to)?;
-    to.apply(rt, &Op::Take { link })?;
-    to.apply(rt, &accept())?;
+    to.apply(rt, &ops::take(link))?;
+    to.apply(rt, &ops::accept(0))?;
     exchange(rt, from, to)?;
-    from.apply(rt, &Op::Learn { link })
+    from.apply(rt, &ops::learn(link))
 }
 
 /// One end, and its name.
@@ -63,64 +60,38 @@ pub struct End {
 }
 
 impl End {
+    /// A connection of this name.
     pub fn new(alloc: Global, name: &'static str) -> anyhow::Result<End> {
-        let config = Config {
-            container_id: Text::new(alloc, name)?,
-            hostname: None,
-            max_frame: 65536,
-            idle_time_out: None,
-            first_id: 0,
-            window: 2048,
-            journal_limit: 1000,
-        };
-        let conn = Conn::new(alloc, config)?;
+        let conn = Conn::new(alloc, Config::new(Text::new(alloc, name)?))?;
         Ok(End { name, conn })
     }
 
+    /// Does the operation, and tells what it gave.
     pub fn apply<R: Print>(&mut self, rt: &R, op: &Op) -> anyhow::Result<()> {
         let given = self.conn.apply(op)?;
-        self.tell(rt, &given)
+        tell(rt, self.name, &given)
     }
 
-    /// Feeds all of the octets. A frame that breaks the rules is answered, and the next feed reads it again.
-    pub fn hear<R: Print>(&mut self, rt: &R, octets: &[u8]) -> anyhow::Result<()> {
-        let mut rest = octets;
-        while !rest.is_empty() {
-            let fed = feed_front(&mut self.conn, rest)?;
-            rest = &rest[fed.used..];
-            self.tell(rt, &fed.given)?;
-        }
-        Ok(())
-    }
-
-    /// The first unit that waits.
-    pub fn pop_unit(&mut self) -> Option<Unit> {
-        self.conn.pop_unit()
-    }
-
-    fn tell<R: Print>(&self, rt: &R, given: &Given) -> anyhow::Result<()> {
-        let name = self.name;
-        match given {
-            Given::Attached(link) => Ok(println!(rt; "{name}: link {link} is attached")?),
-            Given::Offered(link) => Ok(println!(rt; "{name}: link {link} is offered")?),
-            Given::Ready(link, id) => Ok(println!(rt;
-                "{name}: delivery {id} is ready on link {link}"
-            )?),
-            Given::Taken(taken) => {
-                let id = taken.get().id;
-                Ok(println!(rt; "{name}: delivery {id} is taken")?)
-            }
-            Given::Learned(learned) => {
-                let learned = learned.get();
-                let (id, settled) = (learned.id, learned.settled);
-                Ok(println!(rt; "{name}: delivery {id} is settled: {settled}")?)
-            }
-            Given::Nothing | Given::Link(_) | Given::Gone(_) | Given::Delivery(_) => Ok(()),
-        }
+    /// Hears the octets, and answers what goes out then.
+    pub fn hear<R: AllocGlobal + Print>(
+        &mut self,
+        rt: &R,
+        octets: &[u8],
+    ) -> anyhow::Result<Vec<u8>> {
+        let mut from = FromStd::new(octets);
+        let mut to = FromStd::new(Vec::new(rt.alloc()));
+        let mut teller = Teller {
+            rt,
+            name: self.name,
+            told: Ok(()),
+        };
+        Pump::new().drive(&mut from, &mut to, &mut self.conn, &mut teller, READS)?;
+        teller.told?;
+        Ok(to.into_inner())
     }
 
     fn tell_end<R: Print>(&self, rt: &R) -> anyhow::Result<()> {
-        let steps = self.conn.logged().journal().len();
+        let steps = self.conn.logged().steps();
         Ok(println!(rt;
             "{}: {:?} after {steps} steps",
             self.name,
@@ -129,19 +100,53 @@ impl End {
     }
 }
 
-/// Each end hears what the other put out.
-fn exchange<R: Print>(rt: &R, one: &mut End, other: &mut End) -> anyhow::Result<()> {
-    for _ in 0..TURNS {
-        hand_on(rt, one, other)?;
-        hand_on(rt, other, one)?;
-    }
-    Ok(())
+/// Tells what each entry of the journal gives, and whether that could be told.
+#[derive(Drop)]
+struct Teller<'a, R> {
+    rt: &'a R,
+    name: &'static str,
+    told: anyhow::Result<()>,
 }
 
-/// The first unit that waits at the one end is heard at the other.
-fn hand_on<R: Print>(rt: &R, from: &mut End, to: &mut End) -> anyhow::Result<()> {
-    match from.pop_unit() {
-        Some(unit) => to.hear(rt, unit.bytes.as_slice()),
-        None => Ok(()),
+impl<R: Print> Hears for Teller<'_, R> {
+    ghost use Rattle.std.specs.Prelude.{None};
+
+    ghost heard = { λ t. None };
+
+    fn hear(&mut self, given: Given) {
+        if let Err(fault) = tell(self.rt, self.name, &given) {
+            self.told = Err(fault);
+        }
+        drop(given);
     }
+}
+
+fn tell<R: Print>(rt: &R, name: &str, given: &Given) -> anyhow::Result<()> {
+    match given {
+        Given::Attached(link) => Ok(println!(rt; "{name}: link {link} is attached")?),
+        Given::Offered(link) => Ok(println!(rt; "{name}: link {link} is offered")?),
+        Given::Ready(link, id) => Ok(println!(rt;
+            "{name}: delivery {id} is ready on link {link}"
+        )?),
+        Given::Taken(taken) => {
+            let id = taken.get().id;
+            Ok(println!(rt; "{name}: delivery {id} is taken")?)
+        }
+        Given::Learned(learned) => {
+            let learned = learned.get();
+            let (id, settled) = (learned.id, learned.settled);
+            Ok(println!(rt; "{name}: delivery {id} is settled: {settled}")?)
+        }
+        Given::Nothing | Given::Link(_) | Given::Gone(_) | Given::Delivery(_) => Ok(()),
+    }
+}
+
+/// Each end hears what the other says, in turn.
+fn exchange<R: AllocGlobal + Print>(rt: &R, one: &mut End, other: &mut End) -> anyhow::Result<()> {
+    let mut said = one.hear(rt, &[])?;
+    for _ in 0..TURNS {
+        let answer = other.hear(rt, &said)?;
+        said = one.hear(rt, &answer)?;
+    }
+    Ok(())
 }

@@ -4,6 +4,7 @@
 //! |---|---|
 //! | `codec` | `amqp_frames`: frames written, and a stream read however it is cut |
 //! | `session` | `amqp_journal`: operations and heard frames in, frames to send out |
+//! | `first` | `amqp_conn`: a message sent to a peer, in some lines |
 //! | `connection` | `amqp_conn`: octets in, octets out |
 //! | `shared` | `amqp_shared`: two threads send on one connection |
 //! | `operations` | the operations that these do |
@@ -13,6 +14,7 @@
 
 mod codec;
 mod connection;
+mod first;
 mod operations;
 mod session;
 mod shared;
@@ -37,6 +39,7 @@ fn main(rt: HostRuntime) -> ExitCode {
 fn run<R: AllocGlobal + Print + Threads + Wait + Sync>(rt: &R) -> anyhow::Result<()> {
     codec::run(rt)?;
     session::run(rt)?;
+    first::send_first(rt)?;
     connection::run(rt)?;
     shared::run(rt)
 }

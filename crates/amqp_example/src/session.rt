@@ -1,10 +1,9 @@
 //! `amqp_journal`: two ends of a session, each an endpoint with its journal. The octets of one are fed to the other.
 
-use crate::operations::{accept, attach, grant, start};
+use crate::operations::{attach, start};
+use amqp_conn::{Given, Op, Role, ops};
 use amqp_endpoint::config::Config;
-use amqp_endpoint::op::Op;
-use amqp_endpoint::reply::Given;
-use amqp_frames::{Frame, Framer, Role};
+use amqp_frames::{Frame, Framer};
 use amqp_journal::logged::Logged;
 use anyhow::ensure;
 use std::alloc::Global;
@@ -20,16 +19,16 @@ pub fn run<R: AllocGlobal + Print>(rt: &R) -> anyhow::Result<()> {
     let alloc = rt.alloc();
     let mut sender = End::new(alloc, "sender")?;
     let mut receiver = End::new(alloc, "receiver")?;
-    sender.apply(rt, &Op::Begin)?;
+    sender.apply(rt, &ops::begin())?;
     exchange(rt, &mut sender, &mut receiver)?;
-    receiver.apply(rt, &Op::Begin)?;
+    receiver.apply(rt, &ops::begin())?;
     exchange(rt, &mut sender, &mut receiver)?;
     sender.apply(rt, &attach(alloc, "news", Role::Sender)?)?;
     receiver.apply(rt, &attach(alloc, "news", Role::Receiver)?)?;
     exchange(rt, &mut sender, &mut receiver)?;
     // The link has no credit yet. A refusal has changed nothing, so the same operation may be tried again.
     sender.apply(rt, &start(alloc, 0)?)?;
-    receiver.apply(rt, &grant(0))?;
+    receiver.apply(rt, &ops::grant(0, 10))?;
     exchange(rt, &mut sender, &mut receiver)?;
     sender.apply(rt, &start(alloc, 0)?)?;
     exchange(rt, &mut sender, &mut receiver)?;
@@ -42,10 +41,10 @@ fn settle<R: AllocGlobal + Print>(
     sender: &mut End,
     receiver: &mut End,
 ) -> anyhow::Result<()> {
-    receiver.apply(rt, &Op::Take { link: 0 })?;
-    receiver.apply(rt, &accept())?;
+    receiver.apply(rt, &ops::take(0))?;
+    receiver.apply(rt, &ops::accept(0))?;
     exchange(rt, sender, receiver)?;
-    sender.apply(rt, &Op::Learn { link: 0 })?;
+    sender.apply(rt, &ops::learn(0))?;
     sender.tell_steps(rt)?;
     receiver.tell_steps(rt)
 }
@@ -66,7 +65,7 @@ impl End {
             journal_limit: 1000,
         };
         ensure!(config.is_within_limits(), "a setting is out of its limits");
-        let mut logged = Logged::new(alloc, &config)?;
+        let mut logged = Logged::new(alloc, &config);
         logged.opened(MAX_FRAME)?;
         Ok(End {
             name,
@@ -124,7 +123,7 @@ impl End {
     }
 
     fn tell_steps<R: Print>(&self, rt: &R) -> anyhow::Result<()> {
-        let steps = self.logged.journal().len();
+        let steps = self.logged.steps();
         Ok(println!(rt; "{}: {steps} steps in the journal", self.name)?)
     }
 }

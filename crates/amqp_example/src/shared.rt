@@ -2,14 +2,10 @@
 ghost use Rattle.amqp_shared.specs.Passes.{IsNamed};
 
 use crate::connection::End;
-use crate::operations::{attach, grant};
-use amqp_conn::Config;
-use amqp_endpoint::op::Op;
-use amqp_frames::Role;
+use crate::operations::attach;
+use amqp_conn::{Bytes, Config, Op, Role, Tag, Text, ops};
 use amqp_shared::{Name, Pass, Seed, Shared, WriterEnd, open_shared};
-use amqp_types::{Tag, Text};
 use anyhow::{Context, anyhow, ensure};
-use bytes::Bytes;
 use std::marker::Brand;
 use std::sync::Wait;
 use std::thread;
@@ -26,15 +22,7 @@ const DELIVERIES: u8 = 4;
 
 /// Two threads send; the connection is closed, and comes back with its journal.
 pub fn run<R: AllocGlobal + Print + Threads + Wait + Sync>(rt: &R) -> anyhow::Result<()> {
-    let config = Config {
-        container_id: Text::new(rt.alloc(), "shared")?,
-        hostname: None,
-        max_frame: 65536,
-        idle_time_out: None,
-        first_id: 0,
-        window: 2048,
-        journal_limit: 1000,
-    };
+    let config = Config::new(Text::new(rt.alloc(), "shared")?);
     let seed = Seed::new(rt.alloc(), config, RING)?;
     let mut peer = End::new(rt.alloc(), "peer")?;
     talk::<Brand, R>(rt, seed, &mut peer)
@@ -65,9 +53,9 @@ fn begin<N: Name, R: AllocGlobal + Print + Wait>(
     peer: &mut End,
 ) -> anyhow::Result<()> {
     exchange(rt, shared, pass, writer, peer)?;
-    apply(rt, shared, pass, &Op::Begin)?;
+    apply(rt, shared, pass, &ops::begin())?;
     exchange(rt, shared, pass, writer, peer)?;
-    peer.apply(rt, &Op::Begin)?;
+    peer.apply(rt, &ops::begin())?;
     exchange(rt, shared, pass, writer, peer)?;
     apply(
         rt,
@@ -77,7 +65,7 @@ fn begin<N: Name, R: AllocGlobal + Print + Wait>(
     )?;
     exchange(rt, shared, pass, writer, peer)?;
     peer.apply(rt, &attach(rt.alloc(), "there", Role::Receiver)?)?;
-    peer.apply(rt, &grant(0))?;
+    peer.apply(rt, &ops::grant(0, 10))?;
     exchange(rt, shared, pass, writer, peer)
 }
 
@@ -118,14 +106,9 @@ fn send<N: Name, R: AllocGlobal + Wait>(
     pass: &mut Pass<N>,
     tag: [u8; 2],
 ) -> anyhow::Result<()> {
-    let start = Op::Start {
-        link: 0,
-        tag: Tag::new(&tag).context("a tag has at most 32 octets")?,
-        format: 0,
-        settled: false,
-        payload: Bytes::copy_from_slice(rt.alloc(), &tag)?,
-        more: false,
-    };
+    let tag_of = Tag::new(&tag).context("a tag has at most 32 octets")?;
+    let payload = Bytes::copy_from_slice(rt.alloc(), &tag)?;
+    let start = ops::start(0, tag_of, payload);
     apply(rt, shared, pass, &start)
 }
 
@@ -143,7 +126,7 @@ fn apply<N: Name, R: Wait>(
 }
 
 /// Each end hears what the other put out.
-fn exchange<N: Name, R: Print + Wait>(
+fn exchange<N: Name, R: AllocGlobal + Print + Wait>(
     rt: &R,
     shared: &Shared<N>,
     pass: &mut Pass<N>,
@@ -152,17 +135,16 @@ fn exchange<N: Name, R: Print + Wait>(
 ) -> anyhow::Result<()> {
     for _ in 0..TURNS {
         shared.move_units(&mut shared.lock(rt));
-        if let Some(unit) = writer.take() {
-            peer.hear(rt, unit.bytes.as_slice())?;
-        }
-        if let Some(unit) = peer.pop_unit() {
-            hear(rt, shared, pass, unit.bytes.as_slice())?;
-        }
+        let answer = match writer.take() {
+            Some(unit) => peer.hear(rt, unit.bytes.as_slice())?,
+            None => peer.hear(rt, &[])?,
+        };
+        hear(rt, shared, pass, &answer)?;
     }
     Ok(())
 }
 
-/// Feeds a header, or a frame.
+/// Feeds all of the octets.
 fn hear<N: Name, R: Wait>(
     rt: &R,
     shared: &Shared<N>,
@@ -170,8 +152,15 @@ fn hear<N: Name, R: Wait>(
     octets: &[u8],
 ) -> anyhow::Result<()> {
     let mut guard = shared.lock(rt);
-    let fed = shared.feed(&mut guard, pass, octets)?;
-    ensure!(fed.used == octets.len(), "the peer breaks a rule");
+    let mut rest = octets;
+    for _ in 0..octets.len() {
+        if rest.is_empty() {
+            return Ok(());
+        }
+        let fed = shared.feed(&mut guard, pass, rest)?;
+        ensure!(fed.used > 0, "the peer breaks a rule");
+        rest = &rest[fed.used..];
+    }
     Ok(())
 }
 
@@ -193,7 +182,7 @@ fn close<N: Name, R: AllocGlobal + Print>(
         Ok(closed) => closed,
         Err(refusal) => return Err(anyhow!("{}", refusal.reason)),
     };
-    let steps = closed.conn.logged().journal().len();
+    let steps = closed.conn.logged().steps();
     println!(rt;
         "shared: steps of the passes: {} + {} + {}, of the journal: {steps}",
         made[0], made[1], made[2]

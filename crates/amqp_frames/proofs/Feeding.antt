@@ -1,6 +1,6 @@
 -- What a framer holds after a piece, and that it is what the piece makes of it.
-use Rattle.std.proofs.Common.{◌≡◌, ◌≤◌, ◌<◌, ◌+◌, ◌-◌, ◌*◌, ◌⊎◌, ℕ, min, Bool, true, false, Option, Some, Result, Ok, List, [], ◌++◌, length, take, drop, refl, sym, ap, ◌∙◌, subst, inl, arith, length-append, length-drop, append_assoc, append-nil, ⊎_elim}
-use Rattle.std.specs.Prelude.{is_ok, option_map, if◌then◌else◌}
+use Rattle.std.proofs.Common.{◌≡◌, ◌≤◌, ◌<◌, ◌+◌, ◌-◌, ◌*◌, ◌⊎◌, ℕ, min, Bool, true, false, Option, Some, List, [], ◌∷◌, ◌++◌, length, take, drop, refl, sym, ap, ◌∙◌, subst, inl, arith, length-append, length-drop, append_assoc, append-nil, ⊎_elim}
+use Rattle.std.specs.Prelude.{option_map, if◌then◌else◌}
 use Rattle.std.proofs.lemmas.List.{take_at, take_all, take_min, take-append-drop, take-append-le, length-take-le}
 use Rattle.std.proofs.Math.Seq.{take-append-add, drop-append-add, take-length}
 use Rattle.std.proofs.lemmas.Slice.{take-put_mid}
@@ -13,7 +13,7 @@ use Rattle.amqp_frames.specs.declared.fault.FrameFault.TheVariants.{ShortSize, B
 use Rattle.amqp_frames.specs.Framing.{size_of, IsFrame, IsUnfinished, AreContents}
 use Rattle.amqp_frames.specs.Header.{header_octets, BeginsWith}
 use Rattle.amqp_frames.specs.Contents.{AreNoContents}
-use Rattle.amqp_frames.specs.Framer.{FramerState, HasRoom, IsSound, Faulty}
+use Rattle.amqp_frames.specs.Framer.{FramerState, FramerView, HasRoom, IsSound, Faulty, joined}
 use Rattle.amqp_frames.proofs.Framing.{begins_size, begins_header, is_frame, frame_contents}
 
 -- ---- what is held
@@ -21,11 +21,22 @@ use Rattle.amqp_frames.proofs.Framing.{begins_size, begins_header, is_frame, fra
 abbrev pub state : ℕ → List ℕ → Option (List ℕ) → FramerState
 state m k b = record { max_size = m; kept = k; before = b }
 
-abbrev pub view_max : FramerState → ℕ
-view_max s = s.max_size
+abbrev pub view_max : FramerView → ℕ
+view_max v = v.state.max_size
 
-abbrev pub view_kept : FramerState → List ℕ
-view_kept s = s.kept
+abbrev pub view_kept : FramerView → List ℕ
+view_kept v = v.state.kept
+
+abbrev pub view_state : FramerView → FramerState
+view_state v = v.state
+
+abbrev pub view_room : FramerView → ℕ
+view_room v = v.room
+
+-- what came of a frame of which some was kept
+pub joined_some : (kept : List ℕ) (count : ℕ) → 0 < length kept → joined kept count ≡ length kept + count
+joined_some [] count h = absurd (omega arith)
+joined_some (x ∷ kept) count h = refl
 
 same_state : (m m' : ℕ) (k k' : List ℕ) (b b' : Option (List ℕ)) → m ≡ m' → k ≡ k' → b ≡ b' → state m k b ≡ state m' k' b'
 same_state m m' k k' b b' e f g = ap (λ (t : ℕ). state t k b) e ∙ ap (λ (t : List ℕ). state m' t b) f ∙ ap (state m' k') g
@@ -75,13 +86,6 @@ sound_done max old room n items kept e h more =
       now = record { unfinished = inl (omega arith); sized = λ t s. absurd (omega arith) };
       then = λ octets f. subst (λ (t : List ℕ). HasRoom max room t) (sym e ∙ some_same (take n items) octets f) (more_room max old room kept more h);
     }
-
-pub extended : {E : Type 0} (r : Result (Unit {0}) E) (u : Unit {0}) (items a b : List ℕ) → items ≡ (if is_ok r then a ++ b else a) → r ≡ Ok u → items ≡ a ++ b
-extended r u items a b e k = e ∙ ap (λ t. if is_ok t then a ++ b else a) k
-
--- behind the same octets in a buffer with more room
-pub joined : {E : Type 0} (r : Result (Unit {0}) E) (u : Unit {0}) (items a old b : List ℕ) → a ≡ old → items ≡ (if is_ok r then a ++ b else a) → r ≡ Ok u → items ≡ old ++ b
-joined r u items a old b s e k = extended r u items a b e k ∙ ap (λ (t : List ℕ). t ++ b) s
 
 pub room_of : (max room : ℕ) (a b : List ℕ) → a ≡ b → HasRoom max room a → HasRoom max room b
 room_of max room a b e h = subst (λ (t : List ℕ). HasRoom max room t) e h
@@ -157,28 +161,28 @@ in_both kept piece items front place start missing at e f =
     ap (drop place) (sym (e ∙ ap (λ (t : List ℕ). kept ++ t) f)) ∙ sym (take_all (length items - place) (drop place items) (omega (arith, length-drop place items))) in
     subst (λ (t : ℕ). drop place (whole kept missing piece) ≡ take (length items - t) (drop t items)) (sym at) all
 
--- ---- the first eight octets
+-- ---- the first octets
 
-first_many : (kept piece : List ℕ) (m n : ℕ) → m ≡ min (length kept) 8 → n ≡ min (length piece) (8 - m) → 8 ≤ length kept → take m kept ++ take n piece ≡ take 8 (kept ++ piece)
-first_many kept piece m n e f h =
-    let a : m ≡ 8 = omega arith in
+first_many : (most : ℕ) (kept piece : List ℕ) (m n : ℕ) → m ≡ min (length kept) most → n ≡ min (length piece) (most - m) → most ≤ length kept → take m kept ++ take n piece ≡ take most (kept ++ piece)
+first_many most kept piece m n e f h =
+    let a : m ≡ most = omega arith in
     let b : n ≡ 0 = omega arith in
-    ap (λ (t : ℕ). take t kept ++ take n piece) a ∙ ap (λ (t : ℕ). take 8 kept ++ take t piece) b ∙ append-nil (take 8 kept) ∙ sym (take-append-le 8 kept piece h)
+    ap (λ (t : ℕ). take t kept ++ take n piece) a ∙ ap (λ (t : ℕ). take most kept ++ take t piece) b ∙ append-nil (take most kept) ∙ sym (take-append-le most kept piece h)
 
-first_few : (kept piece : List ℕ) (m n : ℕ) → m ≡ min (length kept) 8 → n ≡ min (length piece) (8 - m) → length kept < 8 → take m kept ++ take n piece ≡ take 8 (kept ++ piece)
-first_few kept piece m n e f h =
+first_few : (most : ℕ) (kept piece : List ℕ) (m n : ℕ) → m ≡ min (length kept) most → n ≡ min (length piece) (most - m) → length kept < most → take m kept ++ take n piece ≡ take most (kept ++ piece)
+first_few most kept piece m n e f h =
     let a : m ≡ length kept = omega arith in
-    let b : n ≡ min (8 - length kept) (length piece) = omega arith in
-    let c : 8 ≡ length kept + (8 - length kept) = omega arith in
+    let b : n ≡ min (most - length kept) (length piece) = omega arith in
+    let c : most ≡ length kept + (most - length kept) = omega arith in
     ap (λ (t : ℕ). take t kept ++ take n piece) a ∙ ap (λ (t : List ℕ). t ++ take n piece) (take-length kept)
-    ∙ ap (λ (t : ℕ). kept ++ take t piece) b ∙ ap (λ (t : List ℕ). kept ++ t) (take_min (8 - length kept) piece)
-    ∙ sym (ap (λ (t : ℕ). take t (kept ++ piece)) c ∙ take-append-add kept piece (8 - length kept))
+    ∙ ap (λ (t : ℕ). kept ++ take t piece) b ∙ ap (λ (t : List ℕ). kept ++ t) (take_min (most - length kept) piece)
+    ∙ sym (ap (λ (t : ℕ). take t (kept ++ piece)) c ∙ take-append-add kept piece (most - length kept))
 
-first_split : (n : ℕ) → (8 ≤ n) ⊎ (n < 8)
-first_split n = grind arith
+first_split : (most n : ℕ) → (most ≤ n) ⊎ (n < most)
+first_split most n = grind arith
 
-pub first_are : (kept piece : List ℕ) (m n : ℕ) → m ≡ min (length kept) 8 → n ≡ min (length piece) (8 - m) → take m kept ++ take n piece ≡ take 8 (kept ++ piece)
-first_are kept piece m n e f = ⊎_elim (first_many kept piece m n e f) (first_few kept piece m n e f) (first_split (length kept))
+pub first_are : (most : ℕ) (kept piece : List ℕ) (m n : ℕ) → m ≡ min (length kept) most → n ≡ min (length piece) (most - m) → take m kept ++ take n piece ≡ take most (kept ++ piece)
+first_are most kept piece m n e f = ⊎_elim (first_many most kept piece m n e f) (first_few most kept piece m n e f) (first_split most (length kept))
 
 pub written : (m n : ℕ) (zeros p q x y : List ℕ) → p ≡ take m x → q ≡ take n y → m ≤ length x → n ≤ length y → take (m + n) (put_mid m (m + n - m) (p ++ drop m zeros) q) ≡ take m x ++ take n y
 written m n zeros p q x y e f h k =

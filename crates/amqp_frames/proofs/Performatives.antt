@@ -107,6 +107,10 @@ refused_payload p x size h t = (Some p, drop size x, (take size x, h, inl (is_tr
 some_octet : (x : List ℕ) → false ≡ (length x == 0) → x ≡ [] → ⊥
 some_octet x n e = let m = not_zero _ n in let z : length x ≡ 0 = ap length e in omega arith
 
+pub none_in : (x : List ℕ) → 0 < length x → ((p : Performative) (y rest : List ℕ) → IsPerformative p y → x ≡ y ++ rest → ⊥) → (o : Option Performative) (payload : List ℕ) → AreContents o payload x → ⊥
+none_in x n none None payload k = let z : length x ≡ 0 = ap length k.1 in absurd (omega arith)
+none_in x n none (Some q) payload k = none q k.0 payload k.1 k.3
+
 pub none_there : (x : List ℕ) → false ≡ (length x == 0) → ((p : Performative) (y rest : List ℕ) → IsPerformative p y → x ≡ y ++ rest → ⊥) → (o : Option Performative) (payload : List ℕ) → AreContents o payload x → ⊥
 none_there x n none None payload k = some_octet x n k.1
 none_there x n none (Some q) payload k = none q k.0 payload k.1 k.3

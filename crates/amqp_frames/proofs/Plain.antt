@@ -1,6 +1,6 @@
 -- The fields' octets are what is written for them.
 use Rattle.std.proofs.Common.{◌≡◌, ◌≤◌, ◌<◌, ◌+◌, ◌-◌, ◌^◌, ℕ, suc, max, Bool, true, false, ltb, eqb, Option, Some, None, List, [], ◌∷◌, ◌++◌, length, take, drop, refl, sym, ap, ◌∙◌, subst, arith, length-append, append_assoc}
-use Rattle.std.specs.Prelude.{Result, Ok, Err, if◌then◌else◌}
+use Rattle.std.specs.Prelude.{Result, Ok, Err, is_ok, if◌then◌else◌}
 use Rattle.amqp_types.specs.declared.class.Kind.TheVariants as Kind
 use Rattle.amqp_types.specs.Datum.{Datum, Data, none, item, number, count_of, depth_of, greatest_depth_of}
 use Rattle.amqp_types.specs.Reading.{◌>>=◌}
@@ -25,6 +25,10 @@ use Rattle.std.proofs.lemmas.List.{append_cancel_left, length-take-le, take-appe
 use Rattle.std.proofs.Math.Seq.{take-append-add}
 use Rattle.amqp_frames.specs.Plain.{uint_octets, boolean_octets, ubyte_octets, binary_octets}
 use Rattle.amqp_frames.proofs.Leaves.{null_form, true_form, false_form, ubyte_form, uint_zero, uint_small, uint_large, binary_form}
+
+-- octets are put behind others
+pub extended : {E : Type 0} (r : Result (Unit {0}) E) (u : Unit {0}) (items a b : List ℕ) → items ≡ (if is_ok r then a ++ b else a) → r ≡ Ok u → items ≡ a ++ b
+extended r u items a b e k = e ∙ ap (λ t. if is_ok t then a ++ b else a) k
 
 -- what is written of the values
 pub record AreWritten (ds : Data) (os : List (Option (List ℕ))) : Type 0 where

@@ -1,13 +1,13 @@
 -- Frames out of a piece, feed by feed.
-use Rattle.std.proofs.Common.{◌≡◌, ◌≢◌, ◌≤◌, ◌<◌, ◌+◌, ◌-◌, ◌⊎◌, ℕ, zero, suc, Option, Some, None, List, [], ◌∷◌, ◌++◌, length, take, drop, refl, sym, ap, subst, ◌∙◌, inl, inr, arith, append_assoc, length-drop}
-use Rattle.std.specs.Prelude.{Ok, Err, IfSome}
+use Rattle.std.proofs.Common.{◌≡◌, ◌≢◌, ◌≤◌, ◌<◌, ◌+◌, ◌-◌, ◌*◌, ◌⊎◌, ℕ, max, zero, suc, Option, Some, None, List, [], ◌∷◌, ◌++◌, length, take, drop, refl, sym, ap, subst, ◌∙◌, inl, inr, arith, append_assoc, length-append, length-drop}
+use Rattle.std.specs.Prelude.{Result, Ok, Err, IfSome}
 use Rattle.std.proofs.lemmas.List.{append-nil, take_all, take-append-drop}
 use Rattle.std.proofs.Math.Seq.{drop-nil, drop-length}
 use Rattle.amqp_frames.specs.declared.frame.Frame.{Frame}
 use Rattle.amqp_frames.specs.declared.fault.FrameFault.{FrameFault}
 use Rattle.amqp_frames.specs.declared.fault.FrameFault.TheVariants.{NoMemory}
 use Rattle.amqp_frames.specs.Framing.{IsUnfinished, AreFrames}
-use Rattle.amqp_frames.specs.Framer.{FramerState, keeping, Feeds, Faulty}
+use Rattle.amqp_frames.specs.Framer.{FramerState, FramerView, keeping, joined, asked, Feeds, Faulty}
 use Rattle.amqp_frames.specs.Stream.{Takes, FeedsInto, EndsAFrame}
 
 abbrev kept_of : FramerState → List ℕ
@@ -64,17 +64,41 @@ took_all old new piece used before fed =
       inr fed.0,
     )
 
-put_back : (old mid new : FramerState) → mid ≡ keeping old [] → (octets : Option (List ℕ)) → octets ≡ mid.before → IfSome octets (λ os. new ≡ record { max_size = mid.max_size; kept = os; before = None }) → (new.kept ≡ old.kept) × (new.max_size ≡ old.max_size)
-put_back old mid new e None o h = let c : None ≡ Some old.kept = o ∙ ap before_of e in absurd cc
-put_back old mid new e (Some os) o h = let c : Some os ≡ Some old.kept = o ∙ ap before_of e in let same : os ≡ old.kept = cc in (ap kept_of h ∙ same, ap max_of h ∙ ap max_of e)
+-- what `unread` leaves
+abbrev pub Unread : FramerView → FramerView → Option (List ℕ) → Type 0
+Unread mid new octets = IfSome octets (λ os. new ≡ record { state = record { max_size = mid.state.max_size; kept = os; before = None }; room = mid.room })
 
-pub no_room : (old mid new : FramerState) (piece : List ℕ) (used : ℕ) (f : Frame) (before after : List Frame) → Feeds old piece (Ok (used, Some f)) mid → after ≡ before → IfSome mid.before (λ os. new ≡ record { max_size = mid.max_size; kept = os; before = None })
-    → FeedsInto old piece before (Err NoMemory) new after
+put_back : (old : FramerState) (mid new : FramerView) → mid.state ≡ keeping old [] → (octets : Option (List ℕ)) → octets ≡ mid.state.before → Unread mid new octets → (new.state.kept ≡ old.kept) × (new.state.max_size ≡ old.max_size)
+put_back old mid new e None o h = let c : None ≡ Some old.kept = o ∙ ap before_of e in absurd cc
+put_back old mid new e (Some os) o h = let c : Some os ≡ Some old.kept = o ∙ ap before_of e in let same : os ≡ old.kept = cc in (ap (λ v. v.state.kept) h ∙ same, ap (λ v. v.state.max_size) h ∙ ap max_of e)
+
+pub no_room : (old : FramerState) (mid new : FramerView) (piece : List ℕ) (used : ℕ) (f : Frame) (before after : List Frame) → Feeds old piece (Ok (used, Some f)) mid.state → after ≡ before → Unread mid new mid.state.before
+    → FeedsInto old piece before (Err NoMemory) new.state after
 no_room old mid new piece used f before after fed same h =
     let parts : old.kept ++ piece ≡ (old.kept ++ take used piece) ++ drop used piece =
     ap (λ (t : List ℕ). old.kept ++ t) (sym (take-append-drop used piece)) ∙ sym (append_assoc old.kept (take used piece) (drop used piece)) in
-    let back = put_back old mid new fed.3 mid.before refl h in
+    let back = put_back old mid new fed.3 mid.state.before refl h in
     (inl (f, old.kept ++ take used piece, drop used piece, fed.1, fed.2, parts), same, back.0, back.1)
+
+-- ---- the memory for one feed
+
+joined_within : (kept : List ℕ) (count : ℕ) → joined kept count ≤ length kept + count
+joined_within [] count = omega arith
+joined_within (x ∷ kept) count = omega arith
+
+pub asked_within : (old new : FramerState) (piece : List ℕ) (r : Result (ℕ × Option Frame) FrameFault) → Feeds old piece r new → asked old piece r ≤ max 512 (2 * (length old.kept + length piece))
+asked_within old new piece (Ok (used, Some f)) fed = omega (arith, fed.0, joined_within old.kept used)
+asked_within old new piece (Ok (used, None)) fed = omega (arith, fed.0)
+asked_within old new piece (Err fault) fed = omega (arith, joined_within old.kept (length piece))
+
+-- and what came of a frame grows by what was taken
+pub came_within : (old new : FramerState) (piece : List ℕ) (used : ℕ) (frame : Option Frame) → Feeds old piece (Ok (used, frame)) new → length new.kept ≤ length old.kept + used
+came_within old new piece used (Some f) fed = let none = ap length (ap kept_of fed.3) in omega arith
+came_within old new piece used None fed = omega (arith, fed.0, ap length (ap kept_of fed.2), length-append old.kept piece)
+
+pub unread_room : (mid new : FramerView) (old : FramerState) → mid.state ≡ keeping old [] → (octets : Option (List ℕ)) → octets ≡ mid.state.before → Unread mid new octets → new.room ≡ mid.room
+unread_room mid new old e None o h = let c : None ≡ Some old.kept = o ∙ ap before_of e in absurd cc
+unread_room mid new old e (Some os) o h = ap (λ v. v.room) h
 
 -- ---- one after the other
 
@@ -105,12 +129,26 @@ took_more old mid new piece used more before between after a fed =
       subst (λ (m : ℕ). IsUnfinished m new.kept) a.max b.1,
     )
 
+pub tail_length : (piece : List ℕ) (used : ℕ) → length (tail piece used) ≡ length piece - used
+tail_length piece used = ap length (tail_is piece used) ∙ length-drop used piece
+
+-- the memory for all feeds so far
+pub room_more : (old mid new : FramerView) (piece : List ℕ) (used : ℕ) → used ≤ length piece → length mid.state.kept ≤ length old.state.kept + used
+    → mid.room ≤ max old.room (max 512 (2 * (length old.state.kept + length piece))) → new.room ≤ max mid.room (max 512 (2 * (length mid.state.kept + length (tail piece used))))
+    → new.room ≤ max old.room (max 512 (2 * (length old.state.kept + length piece)))
+room_more old mid new piece used within came so next = omega (arith, within, came, so, next, tail_length piece used)
+
+pub list_more : (between after given : List Frame) (a b c : ℕ) → after ≡ between ++ given → b ≤ max a (max 4 (2 * length between)) → c ≤ max b (max 4 (2 * length after)) → c ≤ max a (max 4 (2 * length after))
+list_more between after given a b c put so next = omega (arith, so, next, ap length put, length-append between given)
+
+pub list_same : (between after : List Frame) (a b c : ℕ) → after ≡ between → b ≤ max a (max 4 (2 * length between)) → c ≤ max b (max 4 (2 * length after)) → c ≤ max a (max 4 (2 * length after))
+list_same between after a b c put so next = omega (arith, so, next, ap length put)
+
 -- where the piece is not used up, a frame ended
 ended_by : (piece kept : List ℕ) (used more : ℕ) → used ≤ length piece → used + more ≢ length piece → (kept ≡ []) ⊎ (more ≡ length (tail piece used)) → kept ≡ []
 ended_by piece kept used more within not_all (inl e) = e
 ended_by piece kept used more within not_all (inr e) =
-    let n : length (tail piece used) ≡ length piece - used = ap length (tail_is piece used) ∙ length-drop used piece in
-    absurd (not_all (omega (arith, within, e, n)))
+    absurd (not_all (omega (arith, within, e, tail_length piece used)))
 
 pub frame_ended : (old mid new : FramerState) (piece : List ℕ) (used more : ℕ) (before between after : List Frame) → Takes old piece before used mid between → FeedsInto mid (tail piece used) between (Ok more) new after → used + more ≢ length piece → EndsAFrame old (used + more) new
 frame_ended old mid new piece used more before between after a fed not_all = inr (ended_by piece new.kept used more a.within not_all fed.2)

@@ -1,9 +1,11 @@
 -- Why octets are not read as a frame's contents.
-use Rattle.std.specs.Prelude.{ℕ, ◌≡◌, ◌≢◌, IsTrue, List, [], ◌++◌, Option, ◌⊎◌}
+use Rattle.std.specs.Prelude.{ℕ, ◌≡◌, ◌<◌, List, ◌++◌, length, Option, ◌⊎◌}
 use Rattle.amqp_frames.specs.declared.fault.FrameFault.{FrameFault}
 use Rattle.amqp_frames.specs.declared.fault.FrameFault.TheVariants.{ShortSize, BadDoff, TooBig, BadKind, BadBody, NoMemory}
+use Rattle.amqp_types.specs.Datum.{Datum}
+use Rattle.amqp_types.specs.Grammar.{Spells}
 use Rattle.amqp_performatives.specs.declared.performative.Performative.{Performative}
-use Rattle.amqp_frames.specs.Framing.{is_transfer, AreContents}
+use Rattle.amqp_frames.specs.Framing.{AreContents}
 use Rattle.amqp_performatives.specs.Spelling.{IsPerformative}
 
 abbrev pub BeginsWithPerformative : List ℕ → Type 0
@@ -22,11 +24,12 @@ AreNoContents BadKind x = ⊥
 AreNoContents BadBody x = (body : Option Performative) (payload : List ℕ) → AreContents body payload x → ⊥
 AreNoContents NoMemory x = (body : Option Performative) × (payload : List ℕ) × AreContents body payload x
 
--- Octets with more behind them are no contents; or they may be, and memory was refused: they begin with a transfer, or have no whole performative.
-abbrev pub IsFrontFault : FrameFault → List ℕ → Type 0
-IsFrontFault ShortSize x = ⊥
-IsFrontFault BadDoff x = ⊥
-IsFrontFault TooBig x = ⊥
-IsFrontFault BadKind x = ⊥
-IsFrontFault BadBody x = (rest : List ℕ) → rest ≢ [] → (body : Option Performative) (payload : List ℕ) → AreContents body payload (x ++ rest) → ⊥
-IsFrontFault NoMemory x = ((p : Performative) × (spelled rest : List ℕ) × IsPerformative p spelled × IsTrue (is_transfer p) × (x ≡ spelled ++ rest)) ⊎ NoPerformative x
+-- More than 512 octets in two places, one after the other, with no performative in the first; and a value that begins there has more than 512.
+pub record IsLong (x y : List ℕ) : Type 0 where
+  pub cut : NoPerformative x
+  pub more : 512 < length (x ++ y)
+  pub long : (v : Datum) (spelled rest : List ℕ) → Spells v spelled → x ++ y ≡ spelled ++ rest → 512 < length spelled
+
+-- the octets in two places are no contents, or they are and memory was refused; or memory was refused to look at what is long
+abbrev pub IsFrontFault : FrameFault → List ℕ → List ℕ → Type 0
+IsFrontFault fault x y = AreNoContents fault (x ++ y) ⊎ ((fault ≡ NoMemory) × IsLong x y)

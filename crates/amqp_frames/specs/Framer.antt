@@ -1,8 +1,10 @@
 -- A framer: what it holds, and what a piece of octets makes of it.
-use Rattle.std.specs.Prelude.{ℕ, ◌≡◌, ◌≤◌, ◌<◌, ◌*◌, ◌⊎◌, List, [], ◌++◌, length, take, drop, Option, Some, None, Result, Ok, Err}
+use Rattle.std.specs.Prelude.{ℕ, ◌≡◌, ◌≤◌, ◌<◌, ◌+◌, ◌*◌, ◌⊎◌, max, List, [], ◌∷◌, ◌++◌, length, take, drop, Option, Some, None, Result, Ok, Err}
 use Rattle.amqp_frames.specs.declared.fault.FrameFault.{FrameFault}
 use Rattle.amqp_frames.specs.declared.fault.FrameFault.TheVariants.{ShortSize, BadDoff, TooBig, BadKind, BadBody, NoMemory}
 use Rattle.amqp_frames.specs.declared.frame.Frame.{Frame}
+use Rattle.amqp_types.specs.Datum.{Datum}
+use Rattle.amqp_types.specs.Grammar.{Spells}
 use Rattle.amqp_performatives.specs.declared.performative.Performative.{Performative}
 use Rattle.amqp_performatives.specs.Spelling.{IsPerformative}
 use Rattle.amqp_frames.specs.Framing.{IsFrame, IsHeader, Shows, IsUnfinished, size_of, doff_of}
@@ -12,6 +14,11 @@ pub record FramerState : Type 0 where
   pub max_size : ℕ
   pub kept : List ℕ
   pub before : Option (List ℕ)
+
+-- a framer: what it holds, and for how many octets it has memory
+pub record FramerView : Type 0 where
+  pub state : FramerState
+  pub room : ℕ
 
 -- the framer keeps these octets now, and unread takes it back to what it kept
 abbrev pub keeping : FramerState → List ℕ → FramerState
@@ -31,16 +38,22 @@ pub record IsSound (max room : ℕ) (kept : List ℕ) (before : Option (List ℕ
 abbrev pub BeginsWithFrame : ℕ → List ℕ → Type 0
 BeginsWithFrame max x = (f : Frame) × (front back : List ℕ) × IsFrame f front × (length front ≤ max) × (x ≡ front ++ back)
 
--- A frame of more octets than each peer takes (part 2, 2.8.19) with a header that shows no fault, whole in what is kept and the piece, with its performative in neither alone.
+-- what comes after the header, its extension included, in the frame that octets begin with
+abbrev pub contents_of : List ℕ → List ℕ
+contents_of x = drop (4 * doff_of x) (take (size_of x) x)
+
+-- A frame with a header that shows no fault, whole in what is kept and the piece, and both have some of its contents. These are more than 512 octets (as many as
+-- each peer takes: part 2, 2.8.19), no performative of them lies in what is kept, and a value that they begin with has more than 512 octets itself.
 pub record IsCut (max : ℕ) (kept piece : List ℕ) : Type 0 where
   pub header : IsHeader max (kept ++ piece)
-  pub long : 512 < size_of (kept ++ piece)
   pub whole : size_of (kept ++ piece) ≤ length (kept ++ piece)
   pub begun : 4 * doff_of (kept ++ piece) < length kept
   pub cut : (p : Performative) (spelled rest : List ℕ) → IsPerformative p spelled → drop (4 * doff_of (kept ++ piece)) kept ≡ spelled ++ rest → ⊥
+  pub more : 512 < length (contents_of (kept ++ piece))
+  pub long : (v : Datum) (spelled rest : List ℕ) → Spells v spelled → contents_of (kept ++ piece) ≡ spelled ++ rest → 512 < length spelled
 
 -- What a fault says of the octets that are kept and then those of the piece: they show it, or for want of memory was refused what they show. A performative is
--- read in one place, so want of memory for a performative that is cut says nothing of it.
+-- read in one place, so want of memory for one that is cut and long says nothing of it.
 abbrev pub Faulty : FrameFault → ℕ → List ℕ → List ℕ → Type 0
 Faulty ShortSize max kept piece = Shows ShortSize max (kept ++ piece)
 Faulty BadDoff max kept piece = Shows BadDoff max (kept ++ piece)
@@ -58,3 +71,21 @@ Feeds old piece (Ok (used, Some f)) new =
     × (new ≡ keeping old [])
 Feeds old piece (Ok (used, None)) new = (used ≡ length piece) × IsUnfinished old.max_size (old.kept ++ piece) × (new ≡ keeping old (old.kept ++ piece))
 Feeds old piece (Err fault) new = Faulty fault old.max_size old.kept piece × (new ≡ old)
+
+-- How many octets came of a frame, where some were kept and then a piece brought so many. A frame that lies
+-- whole in a piece asks for no room.
+abbrev pub joined : List ℕ → ℕ → ℕ
+joined [] count = 0
+joined (x ∷ kept) count = length (x ∷ kept) + count
+
+-- For how many octets a feed may ask for memory, whatever size the frame's header tells: while the frame is not
+-- whole, for the 512 that each peer takes (part 2, 2.8.19) or for twice as many as came of it; and else for
+-- those that came.
+abbrev pub asked : FramerState → List ℕ → Result (ℕ × Option Frame) FrameFault → ℕ
+asked old piece (Ok (used, Some f)) = joined old.kept used
+asked old piece (Ok (used, None)) = max 512 (2 * (length old.kept + used))
+asked old piece (Err fault) = joined old.kept (length piece)
+
+-- The framer has memory for no more octets than before, or than the feed may ask for.
+abbrev pub Roomy : FramerView → List ℕ → Result (ℕ × Option Frame) FrameFault → FramerView → Type 0
+Roomy old piece result new = new.room ≤ max old.room (asked old.state piece result)

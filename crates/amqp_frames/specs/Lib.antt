@@ -28,3 +28,5 @@ pub mod Field
 pub mod Header
 -- why octets are not a frame's contents
 pub mod Contents
+-- octets in room of a known size
+pub mod Buffer

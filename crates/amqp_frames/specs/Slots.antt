@@ -6,7 +6,7 @@ use Rattle.amqp_frames.specs.declared.frame.Frame.{Frame}
 use Rattle.amqp_frames.specs.declared.filled.Filled.{Filled}
 use Rattle.amqp_frames.specs.declared.filled.Filled.TheVariants.{Part, Whole}
 use Rattle.amqp_frames.specs.Framing.{is_transfer}
-use Rattle.amqp_frames.specs.Framer.{FramerState, Feeds}
+use Rattle.amqp_frames.specs.Framer.{FramerState, FramerView, Feeds, Roomy}
 
 abbrev pub holds_transfer : Option Performative → Bool
 holds_transfer None = false
@@ -17,3 +17,9 @@ abbrev pub FeedsSlot : FramerState → List ℕ → Result Filled FrameFault →
 FeedsSlot old piece (Ok (Whole used)) slot new = Feeds old piece (Ok (used, Some slot)) new
 FeedsSlot old piece (Ok (Part used)) slot new = Feeds old piece (Ok (used, None)) new
 FeedsSlot old piece (Err fault) slot new = Feeds old piece (Err fault) new
+
+-- the memory that the framer then has
+abbrev pub RoomySlot : FramerView → List ℕ → Result Filled FrameFault → Frame → FramerView → Type 0
+RoomySlot old piece (Ok (Whole used)) slot new = Roomy old piece (Ok (used, Some slot)) new
+RoomySlot old piece (Ok (Part used)) slot new = Roomy old piece (Ok (used, None)) new
+RoomySlot old piece (Err fault) slot new = Roomy old piece (Err fault) new

@@ -1,12 +1,12 @@
 //! Frames out of octets that come in pieces (part 2, 2.3).
-ghost use Rattle.std.specs.Prelude.{◌≡◌, ◌≢◌, ◌≤◌, ◌<◌, ◌*◌, ◌++◌, [], ℕ, List, Some, None, Ok, Err, MatchOption, MatchResult, IsSome, IfOk, IfSome, OnOk, ◌+◌, length, take, drop, min, max};
-ghost use Rattle.std.specs.Vec.{vec_len, vec_capacity};
+ghost use Rattle.std.specs.Prelude.{◌≡◌, ◌≢◌, ◌≤◌, ◌<◌, ◌*◌, ◌++◌, [], ℕ, List, Some, None, Ok, Err, MatchOption, MatchResult, IsSome, IfOk, IfSome, OnOk, OnErr, ◌+◌, length, take, drop, min, max};
 ghost use Rattle.amqp_frames.specs.Framing.{IsUnfinished, AreContents, size_of};
 ghost use Rattle.amqp_frames.specs.Header.{BeginsWith, IsHeaderPart, IsHeaderFault};
 ghost use Rattle.amqp_frames.specs.Contents.{AreNoContents};
-ghost use Rattle.amqp_frames.specs.Framer.{Feeds};
-ghost use Rattle.amqp_frames.specs.Slots.{FeedsSlot};
+ghost use Rattle.amqp_frames.specs.Framer.{Feeds, Roomy};
+ghost use Rattle.amqp_frames.specs.Slots.{FeedsSlot, RoomySlot};
 
+use crate::buffer::Buffer;
 use crate::contents::{front_fault, read_contents, share_contents};
 use crate::fault::FrameFault;
 use crate::filled::Filled;
@@ -25,7 +25,7 @@ const MIN_MAX_FRAME_SIZE: usize = 512;
 pub struct Framer {
     max_size: u32,
     /// What has come of the next frame; or, where `is_done`, octets of the one that was given last.
-    buffer: Vec<u8>,
+    buffer: Buffer,
     is_done: bool,
     /// How many octets of the buffer `unread` keeps.
     before: Option<usize>,
@@ -33,24 +33,23 @@ pub struct Framer {
 
 impl Model for Framer {
     ghost use Rattle.std.specs.Prelude.{[], if◌then◌else◌, take, option_map};
-    ghost use Rattle.std.specs.Vec.{vec_capacity};
-    ghost use Rattle.amqp_frames.specs.Framer.{FramerState, IsSound};
+    ghost use Rattle.amqp_frames.specs.Framer.{FramerView, IsSound};
 
-    ghost Value = { FramerState };
+    ghost Value = { FramerView };
 
-    ghost view = { λ f. record { max_size = f.max_size; kept = (if f.is_done then [] else f.buffer.items); before = option_map (λ n. take n f.buffer.items) f.before } };
+    ghost view = { λ f. record { state = record { max_size = f.max_size; kept = (if f.is_done then [] else f.buffer.octets); before = option_map (λ n. take n f.buffer.octets) f.before }; room = f.buffer.room } };
 
-    ghost invariant = { λ f. IsSound f.max_size (vec_capacity f.buffer) (if f.is_done then [] else f.buffer.items) (option_map (λ n. take n f.buffer.items) f.before) };
+    ghost invariant = { λ f. IsSound f.max_size f.buffer.room (if f.is_done then [] else f.buffer.octets) (option_map (λ n. take n f.buffer.octets) f.before) };
 }
 
 impl Framer {
     /// A framer that takes frames of at most `max_size` octets. It takes no memory.
     pub fn new(alloc: Global, max_size: u32) -> Framer
-        ensures { result ≡ record { max_size = max_size; kept = []; before = None } }
+        ensures { result ≡ record { state = record { max_size = max_size; kept = []; before = None }; room = 0 } }
     {
         Framer {
             max_size,
-            buffer: Vec::new(alloc),
+            buffer: Buffer::new(alloc),
             is_done: false,
             before: None,
         }
@@ -60,10 +59,11 @@ impl Framer {
     ///
     /// A fault is answered as soon as the octets show it (`FrameFault`): the size once four octets of the frame are there, the rest of its
     /// header once eight are, its body once it is whole. After a fault the framer is as before. A frame that lies whole in the piece is
-    /// read in place; a payload is copied once. Want of memory is told of octets that show no fault, with one exception: in a frame of more than
-    /// 512 octets a performative of which a part was kept is not read where there is no memory to join it.
+    /// read in place; a payload is copied once. Want of memory is told of octets that show no fault, with one exception: a body of which a
+    /// part was kept, and which may begin with a performative of more than 512 octets, is not read where there is no memory to join it.
     pub fn feed(&mut self, piece: &[u8]) -> Result<(usize, Option<Frame>), FrameFault>
-        ensures fed { Feeds self.old piece.now result self.new }
+        ensures fed { Feeds self.old.state piece.now result self.new.state }
+        ensures room { Roomy self.old piece.now result self.new }
         ensures empty { piece.now ≡ [] → result ≡ Ok (0, None) }
         ensures progress { piece.now ≢ [] → IfOk result (λ fed. 0 < fed.0) }
     {
@@ -80,15 +80,22 @@ impl Framer {
 
     /// How many octets have come of a frame that is not whole.
     pub fn pending(&self) -> usize
-        ensures { result ≡ length self.now.kept }
+        ensures { result ≡ length self.now.state.kept }
     {
         self.kept().len()
     }
 
+    /// For how many octets it has memory: at most for 512, or for twice as many as ever came of a frame that was cut.
+    pub fn room(&self) -> usize
+        ensures { result ≡ self.now.room }
+    {
+        self.buffer.room()
+    }
+
     /// The octets that are kept.
     fn kept(&self) -> &[u8]
-        ensures value { result.now ≡ self.now.kept }
-        ensures unfinished { IsUnfinished self.now.max_size self.now.kept }
+        ensures value { result.now ≡ self.now.state.kept }
+        ensures unfinished { IsUnfinished self.now.state.max_size self.now.state.kept }
     {
         if self.is_done {
             &[]
@@ -99,10 +106,11 @@ impl Framer {
 
     /// Keeps a piece that does not make the next frame whole. The frame has so many octets, or the header that tells it has.
     fn keep(&mut self, piece: &[u8], size: usize) -> Result<(usize, Option<Frame>), FrameFault>
-        requires unfinished { IsUnfinished self.old.max_size (self.old.kept ++ piece.now) }
-        requires within { length (self.old.kept ++ piece.now) ≤ size }
-        requires size { 8 ≤ length (self.old.kept ++ piece.now) → size_of (self.old.kept ++ piece.now) ≤ size }
-        ensures { Feeds self.old piece.now result self.new }
+        requires unfinished { IsUnfinished self.old.state.max_size (self.old.state.kept ++ piece.now) }
+        requires within { length (self.old.state.kept ++ piece.now) ≤ size }
+        requires size { 8 ≤ length (self.old.state.kept ++ piece.now) → size_of (self.old.state.kept ++ piece.now) ≤ size }
+        ensures fed { Feeds self.old.state piece.now result self.new.state }
+        ensures room { Roomy self.old piece.now result self.new }
     {
         let count = self.kept().len();
         let Ok(()) = make_room(&mut self.buffer, count + piece.len(), size) else {
@@ -111,14 +119,15 @@ impl Framer {
         self.buffer.truncate(count);
         self.is_done = false;
         self.before = Some(count);
-        self.buffer.extend_from_slice(piece).unwrap();
+        self.buffer.append(piece);
         Ok((piece.len(), None))
     }
 
     /// Keeps the piece after a header that shows no fault, or gives the frame that it makes whole.
     fn take(&mut self, header: Header, piece: &[u8]) -> Result<(usize, Option<Frame>), FrameFault>
-        requires { BeginsWith header self.old.max_size (self.old.kept ++ piece.now) }
-        ensures { Feeds self.old piece.now result self.new }
+        requires { BeginsWith header self.old.state.max_size (self.old.state.kept ++ piece.now) }
+        ensures fed { Feeds self.old.state piece.now result self.new.state }
+        ensures room { Roomy self.old piece.now result self.new }
     {
         let count = self.kept().len();
         let size = header.size as usize;
@@ -140,15 +149,16 @@ impl Framer {
         piece: &[u8],
         missing: usize,
     ) -> Result<(usize, Option<Frame>), FrameFault>
-        requires begins { BeginsWith header self.old.max_size (self.old.kept ++ piece.now) }
-        requires size { length self.old.kept + missing ≡ header.size }
+        requires begins { BeginsWith header self.old.state.max_size (self.old.state.kept ++ piece.now) }
+        requires size { length self.old.state.kept + missing ≡ header.size }
         requires whole { missing ≤ length piece.now }
-        requires place { length self.old.kept ≤ 4 * header.doff }
-        ensures { Feeds self.old piece.now result self.new }
+        requires place { length self.old.state.kept ≤ 4 * header.doff }
+        ensures fed { Feeds self.old.state piece.now result self.new.state }
+        ensures room { Roomy self.old piece.now result self.new }
     {
         let count = self.kept().len();
         let contents = &piece[header.start() - count..missing];
-        match read_contents(*self.buffer.allocator(), header.channel, contents) {
+        match read_contents(self.buffer.allocator(), header.channel, contents) {
             Ok(frame) => {
                 self.before = Some(count);
                 self.is_done = true;
@@ -166,21 +176,26 @@ impl Framer {
         piece: &[u8],
         missing: usize,
     ) -> Result<(usize, Option<Frame>), FrameFault>
-        requires begins { BeginsWith header self.old.max_size (self.old.kept ++ piece.now) }
-        requires size { length self.old.kept + missing ≡ header.size }
+        requires begins { BeginsWith header self.old.state.max_size (self.old.state.kept ++ piece.now) }
+        requires size { length self.old.state.kept + missing ≡ header.size }
         requires whole { missing ≤ length piece.now }
-        requires place { 4 * header.doff < length self.old.kept }
-        ensures { Feeds self.old piece.now result self.new }
+        requires place { 4 * header.doff < length self.old.state.kept }
+        ensures fed { Feeds self.old.state piece.now result self.new.state }
+        ensures room { Roomy self.old piece.now result self.new }
     {
         let count = self.kept().len();
-        let Ok(()) = self.buffer.reserve_exact(missing) else {
-            return Err(front_fault(*self.buffer.allocator(), &self.buffer[header.start()..]));
+        let Ok(()) = self.buffer.reserve(header.size as usize) else {
+            return Err(front_fault(
+                self.buffer.allocator(),
+                &self.buffer.as_slice()[header.start()..],
+                &piece[..missing],
+            ));
         };
-        self.buffer.extend_from_slice(&piece[..missing]).unwrap();
+        self.buffer.append(&piece[..missing]);
         match read_contents(
-            *self.buffer.allocator(),
+            self.buffer.allocator(),
             header.channel,
-            &self.buffer[header.start()..],
+            &self.buffer.as_slice()[header.start()..],
         ) {
             Ok(frame) => {
                 self.before = Some(count);
@@ -203,7 +218,8 @@ impl Framer {
         slot: &mut Frame,
     ) -> Result<Filled, FrameFault>
         requires { from ≤ length shared.now }
-        ensures { FeedsSlot self.old (drop from shared.now) result slot.new self.new }
+        ensures fed { FeedsSlot self.old.state (drop from shared.now) result slot.new self.new.state }
+        ensures room { RoomySlot self.old (drop from shared.now) result slot.new self.new }
     {
         let piece = rest(shared, from);
         let Some(header) = self.whole_front(piece) else {
@@ -218,8 +234,8 @@ impl Framer {
     /// The header of a frame that lies whole in the piece and has contents, where no octets are kept.
     #[inline(always)]
     fn whole_front(&self, piece: &[u8]) -> Option<Header>
-        ensures none { IfSome result (λ _. self.now.kept ≡ []) }
-        ensures begins { IfSome result (λ header. BeginsWith header self.now.max_size (self.now.kept ++ piece.now)) }
+        ensures none { IfSome result (λ _. self.now.state.kept ≡ []) }
+        ensures begins { IfSome result (λ header. BeginsWith header self.now.state.max_size (self.now.state.kept ++ piece.now)) }
         ensures whole { IfSome result (λ header. header.size ≤ length piece.now) }
         ensures some { IfSome result (λ header. 4 * header.doff < header.size) }
     {
@@ -240,7 +256,8 @@ impl Framer {
     /// As `feed_shared`, by way of `feed`.
     #[inline(never)]
     fn feed_apart(&mut self, piece: &[u8], slot: &mut Frame) -> Result<Filled, FrameFault>
-        ensures { FeedsSlot self.old piece.now result slot.new self.new }
+        ensures fed { FeedsSlot self.old.state piece.now result slot.new self.new.state }
+        ensures room { RoomySlot self.old piece.now result slot.new self.new }
     {
         match self.feed(piece) {
             Ok((used, Some(frame))) => {
@@ -262,14 +279,15 @@ impl Framer {
         slot: &mut Frame,
     ) -> Result<(), FrameFault>
         requires from { from ≤ length shared.now }
-        requires begins { BeginsWith header self.old.max_size (self.old.kept ++ drop from shared.now) }
-        requires none { self.old.kept ≡ [] }
+        requires begins { BeginsWith header self.old.state.max_size (self.old.state.kept ++ drop from shared.now) }
+        requires none { self.old.state.kept ≡ [] }
         requires whole { header.size ≤ length (drop from shared.now) }
         requires some { 4 * header.doff < header.size }
-        ensures { MatchResult result (λ _. FeedsSlot self.old (drop from shared.now) (Ok (Filled.Whole header.size)) slot.new self.new) (λ fault. FeedsSlot self.old (drop from shared.now) (Err fault) slot.new self.new) }
+        ensures fed { MatchResult result (λ _. FeedsSlot self.old.state (drop from shared.now) (Ok (Filled.Whole header.size)) slot.new self.new.state) (λ fault. FeedsSlot self.old.state (drop from shared.now) (Err fault) slot.new self.new.state) }
+        ensures room { self.new.room ≡ self.old.room }
     {
         let size = header.size as usize;
-        let alloc = *self.buffer.allocator();
+        let alloc = self.buffer.allocator();
         // No place is past the count of the octets.
         let all = shared.len();
         prove!(from <= all);
@@ -292,8 +310,8 @@ impl Framer {
 
     /// Puts the framer back to before the last feed that succeeded.
     pub fn unread(&mut self)
-        requires { IsSome self.old.before }
-        ensures { IfSome self.old.before (λ octets. self.new ≡ record { max_size = self.old.max_size; kept = octets; before = None }) }
+        requires { IsSome self.old.state.before }
+        ensures { IfSome self.old.state.before (λ octets. self.new ≡ record { state = record { max_size = self.old.state.max_size; kept = octets; before = None }; room = self.old.room }) }
     {
         if let Some(count) = self.before {
             self.buffer.truncate(count);
@@ -304,19 +322,20 @@ impl Framer {
 }
 
 /// Makes room for so many octets of a frame of this size: for the whole frame where it is short, else for some of what is to come.
-fn make_room(buffer: &mut Vec<u8>, count: usize, size: usize) -> Result<(), AllocError>
+fn make_room(buffer: &mut Buffer, count: usize, size: usize) -> Result<(), AllocError>
     requires { count ≤ size }
-    ensures items { buffer.new.items ≡ buffer.old.items }
-    ensures capacity { vec_capacity buffer.old ≤ vec_capacity buffer.new }
-    ensures enough { OnOk result (count ≤ vec_capacity buffer.new) }
-    ensures short { OnOk result (min size 512 ≤ vec_capacity buffer.new) }
-    ensures bounded { vec_capacity buffer.new ≤ max (vec_capacity buffer.old) (max 512 (2 * count)) }
+    ensures octets { buffer.new.octets ≡ buffer.old.octets }
+    ensures more { buffer.old.room ≤ buffer.new.room }
+    ensures enough { OnOk result (count ≤ buffer.new.room) }
+    ensures short { OnOk result (min size 512 ≤ buffer.new.room) }
+    ensures bounded { buffer.new.room ≤ max buffer.old.room (max 512 (2 * count)) }
+    ensures refused { OnErr result (buffer.new.room ≡ buffer.old.room) }
 {
-    if count.max(size.min(MIN_MAX_FRAME_SIZE)) <= buffer.capacity() {
+    if count.max(size.min(MIN_MAX_FRAME_SIZE)) <= buffer.room() {
         return Ok(());
     }
     let room = count.saturating_mul(2).max(MIN_MAX_FRAME_SIZE).min(size);
-    buffer.reserve_exact(room.saturating_sub(buffer.len()))
+    buffer.reserve(room)
 }
 
 /// The octets from a place on.

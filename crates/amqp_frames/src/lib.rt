@@ -1,5 +1,13 @@
 //! Frames (OASIS AMQP 1.0 part 2, 2.3): written into one buffer, and read from a stream however it is cut.
 //!
+//! | module | what it has |
+//! |---|---|
+//! | `frame`, `fault` | a frame; what is wrong with octets, and why a frame is not written |
+//! | `framer`, `stream`, `header`, `contents`, `filled` | frames out of pieces: kept octets, a whole piece, the header, what follows it, a slot for the frame |
+//! | `written`, `append`, `kinds`, `writing`, `leaf` | frames written: alone, behind others, by kind of performative, by field, by run of octets |
+//! | `measured`, `measure`, `lent`, `fair` | how long a frame will be, without memory, also from lent parts; whether it can be written |
+//! | `laws` | what octets in a frame's place are, and that cutting makes no difference |
+//!
 //! - [`Frame`]: a channel, a performative and a transfer's payload
 //! - Writing: [`write_frame`] into octets of its own; [`append_frame`] behind others, as for a batch. [`measure_frame`] tells without memory whether
 //!   and in how many octets a frame is written, and [`write_measured`] writes it then; [`frame_refusal`] tells the refusal alone.
@@ -9,6 +17,7 @@
 #![tactic(auto)]
 
 mod append;
+mod buffer;
 mod contents;
 mod fair;
 mod fault;

@@ -1,5 +1,5 @@
 -- What holds at all times goes on with a step, with what is put and with what is popped.
-use Rattle.std.proofs.Common.{◌≡◌, ◌<◌, ◌≤◌, ℕ, ◌+◌, ◌^◌, zero, suc, Option, Some, None, List, [], ◌∷◌, ◌++◌, length, map, drop, reverse, refl, sym, ap, ◌∙◌, subst, arith, length-append}
+use Rattle.std.proofs.Common.{◌≡◌, ◌<◌, ◌≤◌, ℕ, ◌+◌, ◌^◌, zero, suc, Option, Some, None, List, [], ◌∷◌, ◌++◌, length, map, drop, reverse, refl, sym, ap, ◌∙◌, subst, arith, length-append, append-nil, append_assoc}
 use Rattle.std.specs.Prelude.{option_to_list, slice_get}
 use Rattle.std.proofs.lemmas.List.{reverse-append, length-reverse, drop-append-le}
 use Rattle.amqp_rules.specs.declared.config.Config.{Config}
@@ -11,7 +11,7 @@ use Rattle.amqp_laws.specs.declared.entry.Step.{Step}
 use Rattle.amqp_laws.specs.Past.{past}
 use Rattle.amqp_laws.specs.At.{at}
 use Rattle.amqp_laws.specs.Lawful.{IsLawful, Answers, GoesOn, next}
-use Rattle.amqp_journal.specs.Log.{Log, new_log, logging, putting, popping}
+use Rattle.amqp_journal.specs.Log.{Log, new_log, logging, putting, popping, forgetting}
 use Rattle.amqp_journal.specs.Units.{units, octets_sent}
 use Rattle.amqp_journal.specs.Kept.{IsKept}
 use Rattle.amqp_journal.proofs.UnitLaws.{logged-behind, put-behind, logged-within, put-within}
@@ -49,6 +49,7 @@ kept-logged l endpoint after queue step reply unit goes k room a n u =
       within = logged-within l e k.within;
       some = omega (arith, some, many);
       few = omega (arith, few, one, same, many, longer);
+      forgot = (let f : l.forgotten ≤ length l.journal = k.forgot in omega (arith, f, longer));
     }
   where
     at-most-one : (o : Option (List ℕ)) → length (option_to_list o) ≤ 1
@@ -70,6 +71,7 @@ kept-put l endpoint queue octets k =
       within = put-within l octets k.within;
       some = omega (arith, some, many);
       few = omega (arith, few, many, longer);
+      forgot = k.forgot;
     }
 
 -- the first of what is left is in its place
@@ -89,7 +91,7 @@ popped-first l endpoint queue left bytes k e = (first-left l.popped (units l) by
 pub kept-popped : (l : Log) (endpoint : View) (queue left : List (List ℕ)) (bytes : List ℕ) → IsKept l endpoint queue → queue ≡ bytes ∷ left → IsKept (popping l) endpoint left
 kept-popped l endpoint queue left bytes k e =
     let first = first-left l.popped (units l) bytes left (sym e ∙ k.queued) in
-    record { limits = k.limits; lawful = k.lawful; is_at = k.is_at; queued = first.1; within = k.within; some = first.2; few = k.few }
+    record { limits = k.limits; lawful = k.lawful; is_at = k.is_at; queued = first.1; within = k.within; some = first.2; few = k.few; forgot = k.forgot }
 
 -- before the first step
 pub kept-first : (c : Config) (endpoint : View) → IsWithinLimits c → endpoint ≡ initial c → initial c ≡ at c (past []) → IsKept (new_log c) endpoint []
@@ -102,6 +104,7 @@ kept-first c endpoint limits e first =
       within = tt;
       some = omega arith;
       few = omega arith;
+      forgot = omega arith;
     }
 
 -- the queue is as long as what waits
@@ -116,23 +119,56 @@ put-out l endpoint queue k = ap (λ q. l.popped + length q) k.queued ∙ by l.po
 pub few-steps : (c : Config) → IsWithinLimits c → c.journal_limit ≤ 2 ^ 30
 few-steps c h = let few : c.journal_limit ≤ 1073741824 = h.few in omega (arith, few)
 
--- the same of parts that were changed one by one
-pub kept-step : (c : Config) (before after : List Entry) (put : List (ℕ × List ℕ)) (popped : ℕ) (endpoint later : View) (queue queued : List (List ℕ)) (step : Step) (reply : Reply) (unit : Option (List ℕ))
-    → GoesOnAlong c → IsKept (record { config = c; journal = before; put = put; popped = popped }) endpoint queue → length before < c.journal_limit → Answers (at c (past before)) step reply
-    → later ≡ next (at c (past before)) step → option_to_list unit ≡ map (λ s. s.bytes) reply.sent → after ≡ before ++ record { step = step; reply = reply } ∷ [] → queued ≡ queue ++ option_to_list unit
-    → IsKept (record { config = c; journal = after; put = put; popped = popped }) later queued
-kept-step c before after put popped endpoint later queue queued step reply unit goes k room a n u j q =
-    let l : Log = record { config = c; journal = before; put = put; popped = popped } in
-    let here : IsKept (logging l step reply) later (queue ++ option_to_list unit) = kept-logged l endpoint later queue step reply unit goes k room a n u in
-    let P : List (List ℕ) → Type 0 = λ x. IsKept (record { config = c; journal = after; put = put; popped = popped }) later x in
-    let Q : List Entry → Type 0 = λ x. IsKept (record { config = c; journal = x; put = put; popped = popped }) later (queue ++ option_to_list unit) in
-    subst P (sym q) (subst Q (sym j) here)
+-- the endpoint counts the steps
+pub steps-are : (l : Log) (endpoint : View) (queue : List (List ℕ)) → IsKept l endpoint queue → endpoint.steps ≡ length l.journal
+steps-are l endpoint queue k = ap (λ (v : View). v.steps) k.is_at ∙ length-reverse l.journal
 
-pub kept-put-parts : (c : Config) (journal : List Entry) (before after : List (ℕ × List ℕ)) (popped : ℕ) (endpoint : View) (queue queued : List (List ℕ)) (octets : List ℕ)
-    → IsKept (record { config = c; journal = journal; put = before; popped = popped }) endpoint queue → after ≡ before ++ (length journal, octets) ∷ [] → queued ≡ queue ++ octets ∷ []
-    → IsKept (record { config = c; journal = journal; put = after; popped = popped }) endpoint queued
-kept-put-parts c journal before after popped endpoint queue queued octets k p q =
-    let l : Log = record { config = c; journal = journal; put = before; popped = popped } in
-    let P : List (List ℕ) → Type 0 = λ x. IsKept (record { config = c; journal = journal; put = after; popped = popped }) endpoint x in
-    let Q : List (ℕ × List ℕ) → Type 0 = λ x. IsKept (record { config = c; journal = journal; put = x; popped = popped }) endpoint (queue ++ octets ∷ []) in
-    subst P (sym q) (subst Q (sym p) (kept-put l endpoint queue octets k))
+-- # The same of parts that were changed one by one: the entries that were forgotten, and those after them
+
+abbrev pub log_of : Config → List Entry → List Entry → List (ℕ × List ℕ) → ℕ → Log
+log_of c gone journal put popped = record { config = c; journal = gone ++ journal; forgotten = length gone; put = put; popped = popped }
+
+pub kept-step : (c : Config) (gone before after : List Entry) (put : List (ℕ × List ℕ)) (popped : ℕ) (endpoint later : View) (queue queued : List (List ℕ)) (step : Step) (reply : Reply) (unit : Option (List ℕ))
+    → GoesOnAlong c → IsKept (log_of c gone before put popped) endpoint queue → length (gone ++ before) < c.journal_limit → Answers (at c (past (gone ++ before))) step reply
+    → later ≡ next (at c (past (gone ++ before))) step → option_to_list unit ≡ map (λ s. s.bytes) reply.sent → after ≡ before ++ record { step = step; reply = reply } ∷ [] → queued ≡ queue ++ option_to_list unit
+    → IsKept (log_of c gone after put popped) later queued
+kept-step c gone before after put popped endpoint later queue queued step reply unit goes k room a n u j q =
+    let l : Log = log_of c gone before put popped in
+    let e : Entry = record { step = step; reply = reply } in
+    let here : IsKept (logging l step reply) later (queue ++ option_to_list unit) = kept-logged l endpoint later queue step reply unit goes k room a n u in
+    let all : gone ++ after ≡ (gone ++ before) ++ e ∷ [] = ap (λ (x : List Entry). gone ++ x) j ∙ sym (append_assoc gone before (e ∷ [])) in
+    let P : List (List ℕ) → Type 0 = λ x. IsKept (log_of c gone after put popped) later x in
+    let Q : List Entry → Type 0 = λ x. IsKept (record { config = c; journal = x; forgotten = length gone; put = put; popped = popped }) later (queue ++ option_to_list unit) in
+    subst P (sym q) (subst Q (sym all) here)
+
+-- the log of the parts after a step is the one that the step makes
+pub logged-parts : (l : Log) (c : Config) (gone before after : List Entry) (put : List (ℕ × List ℕ)) (popped : ℕ) (step : Step) (reply : Reply) → log_of c gone before put popped ≡ l
+    → after ≡ before ++ record { step = step; reply = reply } ∷ [] → log_of c gone after put popped ≡ logging l step reply
+logged-parts l c gone before after put popped step reply is j =
+    let e : Entry = record { step = step; reply = reply } in
+    let all : gone ++ after ≡ (gone ++ before) ++ e ∷ [] = ap (λ (x : List Entry). gone ++ x) j ∙ sym (append_assoc gone before (e ∷ [])) in
+    let here : log_of c gone after put popped ≡ logging (log_of c gone before put popped) step reply = ap (λ (x : List Entry). record { config = c; journal = x; forgotten = length gone; put = put; popped = popped }) all in
+    here ∙ ap (λ (x : Log). logging x step reply) is
+
+pub kept-put-parts : (c : Config) (gone journal : List Entry) (before after : List (ℕ × List ℕ)) (popped place : ℕ) (endpoint : View) (queue queued : List (List ℕ)) (octets : List ℕ)
+    → IsKept (log_of c gone journal before popped) endpoint queue → place ≡ length (gone ++ journal) → after ≡ before ++ (place, octets) ∷ [] → queued ≡ queue ++ octets ∷ []
+    → IsKept (log_of c gone journal after popped) endpoint queued
+kept-put-parts c gone journal before after popped place endpoint queue queued octets k h p q =
+    let l : Log = log_of c gone journal before popped in
+    let P : List (List ℕ) → Type 0 = λ x. IsKept (log_of c gone journal after popped) endpoint x in
+    let Q : List (ℕ × List ℕ) → Type 0 = λ x. IsKept (record { config = c; journal = gone ++ journal; forgotten = length gone; put = x; popped = popped }) endpoint (queue ++ octets ∷ []) in
+    let here : after ≡ before ++ (length (gone ++ journal), octets) ∷ [] = p ∙ ap (λ n. before ++ (n, octets) ∷ []) h in
+    subst P (sym q) (subst Q (sym here) (kept-put l endpoint queue octets k))
+
+-- what was forgotten is all that there was
+all-gone : (gone journal after left : List Entry) → after ≡ gone ++ journal → left ≡ [] → after ++ left ≡ gone ++ journal
+all-gone gone journal after left a e = ap (λ (x : List Entry). after ++ x) e ∙ append-nil after ∙ a
+
+pub forgetting-is : (c : Config) (gone journal after left : List Entry) (put : List (ℕ × List ℕ)) (popped : ℕ) → after ≡ gone ++ journal → left ≡ []
+    → log_of c after left put popped ≡ forgetting (log_of c gone journal put popped)
+forgetting-is c gone journal after left put popped a e =
+    λ i. record { config = c; journal = all-gone gone journal after left a e i; forgotten = length (a i); put = put; popped = popped }
+
+pub kept-forgotten : (l : Log) (endpoint : View) (queue : List (List ℕ)) → IsKept l endpoint queue → IsKept (forgetting l) endpoint queue
+kept-forgotten l endpoint queue k =
+    record { limits = k.limits; lawful = k.lawful; is_at = k.is_at; queued = k.queued; within = k.within; some = k.some; few = k.few; forgot = omega arith }

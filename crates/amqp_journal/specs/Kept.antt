@@ -19,3 +19,4 @@ pub record IsKept (l : Log) (endpoint : View) (queue : List (List ℕ)) : Type 0
   pub within : PutWithin (length l.journal) l.put
   pub some : l.popped ≤ length (units l)
   pub few : length (units l) ≤ length l.journal + length l.put
+  pub forgot : l.forgotten ≤ length l.journal

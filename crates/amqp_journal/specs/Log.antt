@@ -19,7 +19,10 @@ use Rattle.amqp_laws.specs.At.{at}
 
 pub record Log : Type 0 where
   pub config : Config
+  -- all entries, those that were forgotten too
   pub journal : List Entry
+  -- how many of them, from the oldest on, were forgotten
+  pub forgotten : ℕ
   -- octets that no step sent, each with the number of entries before it
   pub put : List (ℕ × List ℕ)
   -- how many units were popped
@@ -37,7 +40,7 @@ unfoldable pub heard_due : Log → Frame → Result Reply Violation
 heard_due l frame = cond (nat_le l.config.journal_limit (length l.journal)) (Err (unlinked Full)) (heard_answer (at l.config (past l.journal)) frame)
 
 abbrev pub new_log : Config → Log
-new_log c = record { config = c; journal = []; put = []; popped = 0 }
+new_log c = record { config = c; journal = []; forgotten = 0; put = []; popped = 0 }
 
 -- one entry more
 abbrev pub logging : Log → Step → Reply → Log
@@ -64,3 +67,7 @@ Extends old step (Err e) new = ⊥
 -- this refusal is due, or memory was refused where a reply is due
 abbrev pub IsRefusal : {E : Type 0} → E → Result Reply E → E → Type 0
 IsRefusal refused_memory answer e = (answer ≡ Err e) ⊎ (IsOk answer × (e ≡ refused_memory))
+
+-- the entries so far are forgotten; all that is said of them stays
+abbrev pub forgetting : Log → Log
+forgetting l = record l { forgotten = length l.journal }

@@ -7,7 +7,7 @@
 //! | `receipt` | what stands for an operation that was done |
 //!
 //! Room is made for a step's entry and its unit, and the copy that the entry keeps; only then the endpoint does the step: one that is refused,
-//! or for which memory is wanting, leaves all as it was. Entries, and the laws of whole journals, are those of `amqp_laws`.
+//! or for which memory is wanting, leaves all as it was. The entries are kept until they are forgotten. Entries, and the laws of whole journals, are those of `amqp_laws`.
 #![tactic(auto)]
 
 pub mod logged;

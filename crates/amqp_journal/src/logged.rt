@@ -12,14 +12,15 @@ ghost use Rattle.amqp_laws.specs.At.{at};
 ghost use Rattle.amqp_laws.specs.Lawful.{IsLawful, NeverWithoutCredit};
 ghost use Rattle.amqp_laws.specs.DeliveryLaws.{AreLeft, NeverTwice, SendsSerials};
 ghost use Rattle.amqp_laws.specs.declared.entry.Step.TheVariants as step;
-ghost use Rattle.amqp_journal.specs.Log.{Log, Appends, Extends, IsRefusal, opened_due, own_due, heard_due, new_log, logging, putting, popping};
+ghost use Rattle.amqp_journal.specs.Log.{Log, Appends, Extends, IsRefusal, opened_due, own_due, heard_due, new_log, logging, putting, popping, forgetting};
 ghost use Rattle.amqp_journal.specs.Units.{units, waiting, Stands, PutWithin, given_link, given_id};
 
-use crate::receipt::Receipt;
+use crate::receipt::{Receipt, id_of, link_of};
 use crate::unit::Unit;
 use amqp_endpoint::done::Done;
 use amqp_endpoint::endpoint::Endpoint;
 use amqp_frames::Frame;
+use amqp_history::history::History;
 use amqp_laws::entry::{Entry, Step};
 use amqp_laws::laws::laws;
 use amqp_rules::config::Config;
@@ -36,11 +37,15 @@ use std::marker::Model;
 /// An endpoint with the journal of its steps, and the units that wait to go out.
 ///
 /// The journal is lawful: each entry has the reply that is due after the entries before it; and the endpoint is what the journal makes it.
+/// So it is of the whole journal, whether its older entries are kept or forgotten (`forget`).
 /// The units that wait are those of the journal, with what was put among them, without those that were popped.
 #[derive(Drop)]
 pub struct Logged {
     config: Config,
     endpoint: Endpoint,
+    /// The entries that were forgotten, for proofs alone.
+    gone: History<Entry>,
+    /// Those that came after.
     journal: Vec<Entry>,
     /// What was put, each with the number of entries before it.
     put: Vec<(u64, Bytes)>,
@@ -49,6 +54,7 @@ pub struct Logged {
 }
 
 impl Model for Logged {
+    ghost use Rattle.std.specs.Prelude.{◌++◌, length};
     ghost use Rattle.amqp_journal.specs.Log.{Log};
     ghost use Rattle.amqp_journal.specs.Kept.{IsKept};
     ghost use Rattle.amqp_types.specs.contracts.value.Value as value;
@@ -58,38 +64,38 @@ impl Model for Logged {
 
     ghost coded = { Prim.hlevel (codes, value.the_row.coded) };
 
-    ghost view = { λ l. record { config = l.config; journal = l.journal.items; put = l.put.items; popped = l.popped } };
+    ghost view = { λ l. record { config = l.config; journal = l.gone.items ++ l.journal.items; forgotten = length l.gone.items; put = l.put.items; popped = l.popped } };
 
-    ghost invariant = { λ l. IsKept (record { config = l.config; journal = l.journal.items; put = l.put.items; popped = l.popped }) l.endpoint l.waiting.items };
+    ghost invariant = { λ l. IsKept (record { config = l.config; journal = l.gone.items ++ l.journal.items; forgotten = length l.gone.items; put = l.put.items; popped = l.popped }) l.endpoint l.waiting.items };
 }
 
 impl Logged {
     /// An endpoint with an empty journal. It asks for no memory.
-    pub fn new(alloc: Global, config: &Config) -> Result<Logged, AllocError>
+    pub fn new(alloc: Global, config: &Config) -> Logged
         requires { IsWithinLimits config.now }
-        ensures { IfOk result (λ l. l ≡ new_log config.now) }
+        ensures { result ≡ new_log config.now }
     {
         laws();
-        match Endpoint::new(alloc, config) {
-            Ok(endpoint) => Ok(Logged {
-                config: *config,
-                endpoint,
-                journal: Vec::new(alloc),
-                put: Vec::new(alloc),
-                waiting: VecDeque::new(alloc),
-                popped: 0,
-            }),
-            Err(error) => Err(error),
+        Logged {
+            config: *config,
+            endpoint: Endpoint::new(alloc, config),
+            gone: History::new(),
+            journal: Vec::new(alloc),
+            put: Vec::new(alloc),
+            waiting: VecDeque::new(alloc),
+            popped: 0,
         }
     }
 
-    /// The steps that were accepted, with their replies, the oldest first.
+    /// The steps that were accepted since the last `forget`, with their replies, the oldest first. The laws are
+    /// said of the whole journal, what was forgotten included.
     ///
     /// Each has the reply that is due after those before it. No delivery begins without credit, at either end (part 2, 2.6.7); the i-th first
     /// transfer that is sent has the i-th serial number from the configured first one on (part 2, 2.8.9); no delivery is named twice as
     /// ended; and the unsettled deliveries are those that began unsettled, less those that were named.
     pub fn journal(&self) -> &[Entry]
-        ensures value { result.now ≡ self.now.journal }
+        ensures value { result.now ≡ drop self.now.forgotten self.now.journal }
+        ensures forgotten { self.now.forgotten ≤ length self.now.journal }
         ensures lawful { IsLawful self.now.config (past self.now.journal) }
         ensures credit { NeverWithoutCredit self.now.config self.now.journal }
         ensures serials { SendsSerials self.now.config.first_id self.now.journal }
@@ -98,6 +104,25 @@ impl Logged {
     {
         laws();
         self.journal.as_slice()
+    }
+
+    /// Forgets the entries so far: `journal` gives those that come after, and no earlier receipt stands. All else
+    /// stays, units and steps with their numbers, and the laws of the whole journal.
+    ///
+    /// It takes no memory and cannot fail. What the entries own is given back; their places serve later ones. It
+    /// costs what dropping them does, so whoever forgets each time that so many stand pays no more for a step.
+    pub fn forget(&mut self)
+        ensures { self.new ≡ forgetting self.old }
+    {
+        self.gone = self.gone.and(&self.journal);
+        self.journal.clear();
+    }
+
+    /// How many steps were accepted, those that were forgotten too.
+    pub fn steps(&self) -> u32
+        ensures { result ≡ length self.now.journal }
+    {
+        self.endpoint.steps()
     }
 
     /// The endpoint, as it stands.
@@ -113,7 +138,7 @@ impl Logged {
         ensures refusal { IfErr result (IsRefusal Refusal.NoMemory (opened_due self.old)) }
         ensures err { OnErr result (self.new ≡ self.old) }
     {
-        if self.journal.len() >= self.config.journal_limit as usize {
+        if self.endpoint.steps() >= self.config.journal_limit {
             return Err(Refusal::JournalFull);
         }
         let Ok(()) = self.journal.reserve(1) else {
@@ -141,7 +166,7 @@ impl Logged {
         ensures refusal { IfErr result (IsRefusal Refusal.NoMemory (own_due self.old op.now)) }
         ensures err { OnErr result (self.new ≡ self.old) }
     {
-        if self.journal.len() >= self.config.journal_limit as usize {
+        if self.endpoint.steps() >= self.config.journal_limit {
             return Err(Refusal::JournalFull);
         }
         let own = match room_for_own(&mut self.journal, &mut self.waiting, op) {
@@ -175,7 +200,7 @@ impl Logged {
         ensures refusal { IfErr result (IsRefusal Refusal.NoMemory (own_due self.old op)) }
         ensures err { OnErr result (self.new ≡ self.old) }
     {
-        if self.journal.len() >= self.config.journal_limit as usize {
+        if self.endpoint.steps() >= self.config.journal_limit {
             drop(op);
             return Err(Refusal::JournalFull);
         }
@@ -212,7 +237,7 @@ impl Logged {
         ensures violation { IfErr result (IsRefusal no_memory (heard_due self.old frame.now)) }
         ensures err { OnErr result (self.new ≡ self.old) }
     {
-        if self.journal.len() >= self.config.journal_limit as usize {
+        if self.endpoint.steps() >= self.config.journal_limit {
             return Err(Violation::unlinked(ViolationKind::JournalFull));
         }
         let heard = match room_for_heard(&mut self.journal, &mut self.waiting, frame) {
@@ -244,7 +269,7 @@ impl Logged {
         ensures violation { IfErr result (IsRefusal no_memory (heard_due self.old frame)) }
         ensures err { OnErr result (self.new ≡ self.old) }
     {
-        if self.journal.len() >= self.config.journal_limit as usize {
+        if self.endpoint.steps() >= self.config.journal_limit {
             drop(frame);
             return Err(Violation::unlinked(ViolationKind::JournalFull));
         }
@@ -285,7 +310,8 @@ impl Logged {
     {
         let copy = octets.clone()?;
         room_for_put(&mut self.put, &mut self.waiting)?;
-        self.put.push_reserved((self.journal.len() as u64, octets));
+        self.put
+            .push_reserved((self.endpoint.steps() as u64, octets));
         self.waiting.push_back_reserved(copy);
         Ok(())
     }
@@ -301,11 +327,16 @@ impl Logged {
         Some(Unit { number, bytes })
     }
 
-    /// The entry at the receipt's place is this operation's, and gave this link and this delivery. It costs the comparison of two operations.
+    /// The entry at the receipt's place was not forgotten, is this operation's, and gave this link and this
+    /// delivery. It costs the comparison of two operations.
     pub fn stands(&self, op: &Op, receipt: &Receipt) -> bool
-        ensures { IsTrue result ↔ Stands self.now op.now receipt.now.place receipt.now.link receipt.now.id }
+        ensures { IsTrue result ↔ (self.now.forgotten ≤ receipt.now.place) × Stands self.now op.now receipt.now.place receipt.now.link receipt.now.id }
     {
-        match self.journal.get(receipt.place as usize) {
+        let forgotten = self.endpoint.steps() as u64 - self.journal.len() as u64;
+        if receipt.place < forgotten {
+            return false;
+        }
+        match self.journal.get((receipt.place - forgotten) as usize) {
             Some(entry) => stands_in(entry, op, receipt),
             None => false,
         }
@@ -447,31 +478,4 @@ fn gives(given: &Given, receipt: &Receipt) -> bool
     ensures { IsTrue result ↔ (given_link given.now ≡ receipt.now.link) × (given_id given.now ≡ receipt.now.id) }
 {
     link_of(given) == receipt.link && id_of(given) == receipt.id
-}
-
-fn link_of(given: &Given) -> Option<u32>
-    ensures { result ≡ given_link given.now }
-{
-    match given {
-        Given::Link(link)
-        | Given::Offered(link)
-        | Given::Attached(link)
-        | Given::Gone(link)
-        | Given::Ready(link, _) => Some(*link),
-        Given::Taken(taken) => Some(taken.get().link),
-        Given::Learned(learned) => Some(learned.get().link),
-        Given::Delivery(_) | Given::Nothing => None,
-    }
-}
-
-fn id_of(given: &Given) -> Option<u32>
-    ensures { result ≡ given_id given.now }
-{
-    match given {
-        Given::Delivery(id) | Given::Ready(_, id) => Some(*id),
-        Given::Taken(taken) => Some(taken.get().id),
-        Given::Learned(learned) => Some(learned.get().id),
-        Given::Link(_) | Given::Offered(_) | Given::Attached(_) | Given::Gone(_) | Given::Nothing =>
-            None,
-    }
 }

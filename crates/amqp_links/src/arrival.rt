@@ -149,30 +149,35 @@ impl Unfinished {
 }
 
 impl Waiting {
+    /// Its delivery-id.
     pub fn id(&self) -> u32
         ensures { result ≡ self.now.id }
     {
         self.id
     }
 
+    /// Its tag.
     pub fn tag(&self) -> &Tag
         ensures { result.now ≡ self.now.tag }
     {
         &self.tag
     }
 
+    /// Its message-format.
     pub fn format(&self) -> u32
         ensures { result ≡ self.now.format }
     {
         self.format
     }
 
+    /// Its receiver settles after the sender.
     pub fn is_second(&self) -> bool
         ensures { result ≡ self.now.second }
     {
         self.second
     }
 
+    /// It came settled.
     pub fn is_settled(&self) -> bool
         ensures { result ≡ self.now.settled }
     {

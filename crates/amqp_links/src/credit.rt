@@ -56,6 +56,7 @@ pub fn opposite(role: Role) -> Role
 }
 
 impl Credit {
+    /// The role of the link that it counts for.
     pub fn role(&self) -> Role
         ensures { result ≡ role_of self.now }
     {

@@ -26,6 +26,7 @@ impl Model for End {
 }
 
 impl End {
+    /// The handle of our end.
     pub fn handle(&self) -> u32
         ensures { result ≡ self.now.handle }
     {

@@ -155,6 +155,7 @@ impl Link {
         self.ours.is_some() && self.theirs.is_some() && !self.left
     }
 
+    /// Of this role and name.
     pub fn has_name(&self, role: Role, name: &Text) -> bool
         ensures { result ≡ has_name role name.now self.now }
     {
@@ -175,6 +176,7 @@ impl Link {
         self.has_name(role, name) && self.theirs.is_some()
     }
 
+    /// The number that this end calls it by.
     pub fn number(&self) -> u32
         ensures { result ≡ self.now.number }
     {

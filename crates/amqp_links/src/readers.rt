@@ -98,6 +98,7 @@ impl Link {
         max_of(&self.ours)
     }
 
+    /// Our role on it.
     pub fn role(&self) -> Role
         ensures { result ≡ self.now.role }
     {

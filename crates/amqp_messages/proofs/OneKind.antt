@@ -1,5 +1,5 @@
 -- A descriptor names one kind at most.
-use Rattle.std.proofs.Common.{◌≡◌, ℕ, inl, inr, Bool, true, false, eqb, cond, List, [], ◌∷◌, Option, Some, None, refl, sym, ap, ◌∙◌}
+use Rattle.std.proofs.Common.{◌≡◌, inl, inr, Bool, eqb, cond, List, [], ◌∷◌, Option, Some, None, refl, sym, ap, ◌∙◌}
 use Rattle.std.specs.Str.{bytes_eq}
 use Rattle.amqp_types.specs.declared.class.Kind.TheVariants as Kind
 use Rattle.amqp_types.specs.declared.class.Run.TheVariants as Run

@@ -1,8 +1,8 @@
 -- The sections of a message (part 3, 3.2): each is a described value.
-use Rattle.std.specs.Prelude.{ℕ, ◌≡◌, ◌≤◌, ◌++◌, Bool, true, false, IsTrue, Result, Ok, Err, List, [], ◌∷◌, length, take, codes}
+use Rattle.std.specs.Prelude.{ℕ, ◌≡◌, ◌≤◌, ◌++◌, Bool, true, false, IsTrue, Result, Ok, Err, List, length, take, codes}
 use Rattle.amqp_types.specs.declared.class.Run.TheVariants as Run
-use Rattle.amqp_types.specs.Datum.{Datum, number, octets, list, map, array, described}
-use Rattle.amqp_types.specs.Grammar.{Spells, Then}
+use Rattle.amqp_types.specs.Datum.{Datum, octets, list, map, described}
+use Rattle.amqp_types.specs.Grammar.{Spells}
 use Rattle.amqp_types.specs.View.{view}
 use Rattle.amqp_performatives.specs.Part.{IsDescriptor}
 use Rattle.amqp_messages.specs.declared.kind.SectionKind.{SectionKind}
@@ -51,7 +51,10 @@ is_body AmqpSequence v = is_list v
 is_body AmqpValue v = true
 is_body Footer v = is_map v
 
--- a section as plain data
+-- a section as plain data: its kind and its body
+abbrev pub SectionData : Type 0
+SectionData = SectionKind × Datum
+
 abbrev pub seen : Section → SectionKind × Datum
 seen s = (s.kind, view s.body)
 

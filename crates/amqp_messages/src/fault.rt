@@ -23,3 +23,20 @@ impl From<AllocError> for SectionFault {
         SectionFault::NoMemory
     }
 }
+
+/// Why no message is read. Places are octets, counted from the first.
+#[derive(Clone, Copy, Debug, PartialEq, Eq, Error)]
+pub enum MessageFault {
+    /// Sections end at this octet, and none begins there.
+    #[error("no section begins at octet {at}")]
+    NoSection { at: usize },
+    /// The section that begins at this octet may not stand behind those before it.
+    #[error("the section at octet {at} is out of order")]
+    OutOfOrder { at: usize },
+    /// The sections are in order, and none of them is data, amqp-sequence or amqp-value.
+    #[error("the message has no body")]
+    NoBody,
+    /// The octets spell a message, and there is no memory for it.
+    #[error("out of memory")]
+    NoMemory,
+}

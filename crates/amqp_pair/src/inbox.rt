@@ -30,6 +30,7 @@ pub struct Inbox {
 }
 
 impl Inbox {
+    /// Without octets.
     pub fn new(alloc: Global) -> Inbox {
         Inbox {
             buffer: BytesMut::new(alloc),

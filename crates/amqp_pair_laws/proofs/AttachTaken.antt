@@ -1,9 +1,7 @@
 -- An attach is taken.
-use Rattle.std.proofs.Common.{◌≡◌, ℕ, ◌==◌, ◌&&◌, Bool, true, false, not, cond, Option, Some, None, Ok, List, [], ◌∷◌, refl, sym, ap, ◌∙◌, subst, find, is_some, is_none, IsOk, nat_eq}
-use Rattle.std.specs.Cmp.Lexicographic.{pointwise}
+use Rattle.std.proofs.Common.{◌≡◌, ℕ, ◌==◌, ◌&&◌, Bool, true, false, cond, Option, Some, None, Ok, List, [], refl, sym, ap, ◌∙◌, find, is_some, is_none, IsOk}
 use Rattle.amqp_performatives.specs.declared.bodies.Role.{Role}
 use Rattle.amqp_performatives.specs.declared.bodies.Role.TheVariants.{Sender, Receiver}
-use Rattle.amqp_performatives.specs.declared.bodies.AttachBody.{AttachBody}
 use Rattle.amqp_performatives.specs.declared.performative.Performative.{Performative}
 use Rattle.amqp_performatives.specs.declared.performative.Performative.TheVariants as heard
 use Rattle.amqp_frames.specs.declared.frame.Frame.{Frame}
@@ -12,15 +10,14 @@ use Rattle.amqp_rules.specs.declared.op.Op.{Op}
 use Rattle.amqp_rules.specs.declared.op.Op.TheVariants.{Attach}
 use Rattle.amqp_rules.specs.declared.reply.Reply.{Reply}
 use Rattle.amqp_rules.specs.declared.reply.Given.TheVariants as given
-use Rattle.amqp_rules.specs.View.{EndView, LinkView, View, free_handle, has_handle, has_name, has_peer_handle, holds, is_mapped, is_offered_as, is_ours, is_over, is_sender, is_theirs, opposite, same_role, takes_frames}
-use Rattle.amqp_rules.specs.Attach.{Wanted, attach_answer, attach_refusals, attach_sent, number_met, own_attach}
+use Rattle.amqp_rules.specs.View.{EndView, LinkView, View, free_handle, has_handle, has_name, has_peer_handle, holds, is_mapped, is_offered_as, is_over, is_sender, is_theirs, opposite, takes_frames}
+use Rattle.amqp_rules.specs.Attach.{Wanted, attach_answer, attach_refusals, attach_sent, number_met}
 use Rattle.amqp_rules.specs.PeerAttach.{lacks_count}
-use Rattle.amqp_rules.specs.Answer.{body_answer, heard_answer, is_end, own_answer}
-use Rattle.amqp_rules.specs.Sending.{sent_of}
+use Rattle.amqp_rules.specs.Answer.{heard_answer, is_end, own_answer}
 use Rattle.amqp_rules.specs.Sound.{IsSound}
 use Rattle.amqp_rules.proofs.Accepted.{not-false, sends-ok}
 use Rattle.amqp_rules.proofs.Free.{free-handle_is-lowest}
-use Rattle.amqp_rules.proofs.Listed.{by-bool, none-passes}
+use Rattle.amqp_rules.proofs.Listed.{none-passes}
 use Rattle.amqp_laws.specs.declared.entry.Entry.{Entry}
 use Rattle.amqp_laws.specs.declared.entry.Step.{Step}
 use Rattle.amqp_laws.specs.declared.entry.Step.TheVariants.{Opened, Own, Heard}
@@ -60,7 +57,7 @@ was-attach v (Heard f) reply h is = absurd (cc (is))
 
 attach-asked : (v after : View) (hears : Option Performative) (op : Option Op) (reply : Reply) (f : Frame) → Sending v after hears op reply → frame_among reply.sent ≡ Some f → is_attach f.body ≡ true → is_own_attach op ≡ true
 attach-asked v after hears op reply f (silent q) sent is = absurd (cc (q, sent))
-attach-asked v after hears op reply f (transfers t payload deaf mapped room one) sent is = let b = ap is_attach (body-of reply.sent (heard.Transfer t) payload f one sent) in absurd (cc (b, is))
+attach-asked v after hears op reply f (transfers t payload deaf mapped room named one) sent is = let b = ap is_attach (body-of reply.sent (heard.Transfer t) payload f one sent) in absurd (cc (b, is))
 attach-asked v after hears op reply f (flows w t mapped open' begun numbers one) sent is = let b = ap is_attach (body-of reply.sent (heard.Flow w) [] f one sent) in absurd (cc (b, is))
 attach-asked v after hears op reply f (begins w deaf is-begin unsent open' takes comes one) sent is = let b = ap is_attach (body-of reply.sent (heard.Begin w) [] f one sent) in absurd (cc (b, is))
 attach-asked v after hears op reply f (others p payload t w beside one) sent is = let b = ap is_attach (body-of reply.sent p payload f one sent) in beside.attaches (sym b ∙ is)

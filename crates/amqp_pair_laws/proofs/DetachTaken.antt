@@ -1,5 +1,5 @@
 -- A detach is taken.
-use Rattle.std.proofs.Common.{suc, ◌==◌, ◌≡◌, ℕ, ◌||◌, Bool, true, false, not, cond, Option, Some, None, Ok, List, [], ◌∷◌, refl, sym, ap, ◌∙◌, subst, find, is_some, IsOk}
+use Rattle.std.proofs.Common.{suc, ◌==◌, ◌≡◌, ℕ, true, false, Option, Some, None, List, [], ◌∷◌, refl, sym, ap, ◌∙◌, IsOk}
 use Rattle.amqp_performatives.specs.declared.bodies.Role.{Role}
 use Rattle.amqp_performatives.specs.declared.bodies.Role.TheVariants.{Sender}
 use Rattle.amqp_performatives.specs.declared.bodies.DetachBody.{DetachBody}
@@ -7,21 +7,20 @@ use Rattle.amqp_performatives.specs.declared.performative.Performative.{Performa
 use Rattle.amqp_performatives.specs.declared.performative.Performative.TheVariants as heard
 use Rattle.amqp_frames.specs.declared.frame.Frame.{Frame}
 use Rattle.amqp_rules.specs.declared.config.Config.{Config}
-use Rattle.amqp_rules.specs.View.{EndView, LinkView, View, has_name, has_peer_handle, is_over, opposite}
+use Rattle.amqp_rules.specs.View.{EndView, LinkView, has_peer_handle, is_over, opposite}
 use Rattle.amqp_rules.specs.Answer.{heard_answer, is_end}
 use Rattle.amqp_rules.proofs.Listed.{by-bool}
 use Rattle.amqp_laws.specs.declared.entry.Entry.{Entry}
 use Rattle.amqp_laws.specs.Past.{some_entry}
 use Rattle.amqp_laws.specs.Said.{hears_end}
 use Rattle.amqp_laws.specs.Live.{live}
-use Rattle.amqp_laws.specs.Session.{session_at}
 use Rattle.amqp_laws.specs.At.{at}
 use Rattle.amqp_laws.specs.Lawful.{next}
 use Rattle.amqp_pair_laws.specs.World.{IsFair, hears, sends}
 use Rattle.amqp_pair_laws.specs.Taken.{AreTaken, IsDetach}
 use Rattle.amqp_pair_laws.proofs.Lag as lag
-use Rattle.amqp_pair_laws.proofs.Slots.{Slot, kept}
-use Rattle.amqp_pair_laws.proofs.SlotOf.{shape, slot_of}
+use Rattle.amqp_pair_laws.proofs.Slots.{kept}
+use Rattle.amqp_pair_laws.proofs.SlotOf.{shape}
 use Rattle.amqp_pair_laws.proofs.Named.{found-passes, name-self, named-found}
 use Rattle.amqp_pair_laws.proofs.SlotActs.{DetachSent, IsMet, act, begun-first, does-detach, is-met, one-more, slots-known}
 use Rattle.amqp_laws.proofs.Sound.{at-is-sound}

@@ -1,5 +1,5 @@
 -- What one accepted step does in the slot of a role and a name, and what of it the other end is told.
-use Rattle.std.proofs.Common.{◌≡◌, ℕ, ◌==◌, ◌&&◌, ◌||◌, Bool, true, false, not, cond, Option, Some, None, Result, Ok, List, [], ◌∷◌, refl, sym, ap, ◌∙◌, subst, find, map, is_some, is_none, nat_eq}
+use Rattle.std.proofs.Common.{◌≡◌, ℕ, ◌==◌, ◌&&◌, ◌||◌, Bool, true, false, not, cond, Option, Some, None, Result, Ok, List, [], refl, sym, ap, ◌∙◌, subst, find, is_some, is_none, nat_eq}
 use Rattle.std.specs.Cmp.Lexicographic.{pointwise}
 use Rattle.amqp_performatives.specs.declared.bodies.Role.{Role}
 use Rattle.amqp_performatives.specs.declared.bodies.AttachBody.{AttachBody}
@@ -15,7 +15,7 @@ use Rattle.amqp_rules.specs.declared.reply.Reply.{Reply}
 use Rattle.amqp_rules.specs.declared.reply.Given.TheVariants as given
 use Rattle.amqp_rules.specs.declared.violation.Violation.{Violation}
 use Rattle.amqp_rules.specs.declared.violation.ViolationKind.TheVariants.{OutOfSession, BadHandle}
-use Rattle.amqp_rules.specs.View.{EndView, LinkView, View, handle_of, has_name, has_number, has_peer_handle, holds, is_attached, is_asked_as, is_offered_as, is_offered, is_asked, is_mapped, is_ours, is_over, is_theirs, new_link, opposite, remove_first, same_role, takes_frames}
+use Rattle.amqp_rules.specs.View.{EndView, LinkView, View, handle_of, has_name, has_number, has_peer_handle, holds, is_attached, is_asked_as, is_offered_as, is_offered, is_asked, is_mapped, is_ours, is_over, is_theirs, new_link, opposite, same_role, takes_frames}
 use Rattle.amqp_rules.specs.Refusing.{first_refusal, if_there, unlinked}
 use Rattle.amqp_rules.specs.Opened.{no_reply}
 use Rattle.amqp_rules.specs.Sending.{frame_of, reply_ending, sends_ending}
@@ -23,10 +23,9 @@ use Rattle.amqp_rules.specs.Deliveries.{ended_by}
 use Rattle.amqp_rules.specs.Attach.{Wanted, attach_answer, attach_refusals, attach_sent, attached_by_peer, attached_by_us, end_of, next_attach, number_met}
 use Rattle.amqp_rules.specs.PeerAttach.{attach_heard_answer, attach_heard_reply, attach_violations, next_attach_heard}
 use Rattle.amqp_rules.specs.Detach.{detach_answer, detach_body, detach_refusals, left_by_us, next_detach}
-use Rattle.amqp_rules.specs.OnLink.{on_link}
 use Rattle.amqp_rules.specs.PeerDetach.{detach_heard_answer, detach_reply, next_detach_heard}
-use Rattle.amqp_rules.specs.Answer.{body_answer, heard_answer, is_dropped, next_body, next_heard, next_own, own_answer}
-use Rattle.amqp_rules.specs.Sound.{Every, IsSound, has_end, keys}
+use Rattle.amqp_rules.specs.Answer.{body_answer, is_dropped, next_body, next_own, own_answer}
+use Rattle.amqp_rules.specs.Sound.{IsSound, has_end, keys}
 use Rattle.amqp_rules.proofs.Accepted.{answered_Ok, no_refusal, not-false, on-link-ok, sends-ok, sends-ending-ok, there_Ok, unless_Ok}
 use Rattle.amqp_rules.proofs.Listed.{by-bool, none-passes}
 use Rattle.amqp_laws.specs.Said.{is_detach}
@@ -35,11 +34,11 @@ use Rattle.amqp_laws.specs.declared.entry.Step.TheVariants.{Opened, Own, Heard}
 use Rattle.amqp_laws.specs.Lawful.{Answers, next}
 use Rattle.amqp_laws.proofs.Twice.{and-both}
 use Rattle.amqp_pair_laws.specs.World.{frame_among}
-use Rattle.amqp_pair_laws.proofs.Slots.{Act, Slot, idle, asks, meets, leaves, goes, after, no_slot}
+use Rattle.amqp_pair_laws.proofs.Slots.{Act, idle, asks, meets, leaves, goes, after, no_slot}
 use Rattle.amqp_pair_laws.proofs.SlotOf.{IsIdle, IsIdleBody, body-idle, own-idle, shape, slot_of}
 use Rattle.amqp_pair_laws.proofs.Sends.{Sending, begins, body-sending, flows, is_attach, is_own_attach, is_own_detach, others, own-sending, silent, transfers}
 use Rattle.amqp_pair_laws.proofs.Opens.{body-of}
-use Rattle.amqp_pair_laws.proofs.Named.{KeepsName, Meets, changed-other, changed-there, every-found, every-unmapped, found-passes, joined-other, joined-there, name-self, named-found, none-is, or_this, removed-other, removed-there, role-same, texts-same}
+use Rattle.amqp_pair_laws.proofs.Named.{KeepsName, Meets, changed-other, changed-there, every-found, every-unmapped, found-passes, joined-other, joined-there, named-found, none-is, or_this, removed-other, removed-there, role-same, texts-same}
 
 -- # Acts
 
@@ -109,7 +108,7 @@ apart-by : (role : Role) (name : List ℕ) (v after' : View) (hears : Option Per
     → is_own_attach op ≡ false → is_own_detach op || is_detach hears ≡ false → (o : Option Frame) → frame_among reply.sent ≡ o → IsApart role name v o
 apart-by role name v after' hears op reply s na nd None is = tt
 apart-by role name v after' hears op reply (silent q) na nd (Some f) is = absurd (cc (q, is))
-apart-by role name v after' hears op reply (transfers t payload deaf mapped room one) na nd (Some f) is =
+apart-by role name v after' hears op reply (transfers t payload deaf mapped room named one) na nd (Some f) is =
     subst (λ (o : Option Performative). IsApartIn role name v o) (sym (body-of reply.sent (heard.Transfer t) payload f one is)) tt
 apart-by role name v after' hears op reply (flows w t mapped open' begun numbers one) na nd (Some f) is =
     subst (λ (o : Option Performative). IsApartIn role name v o) (sym (body-of reply.sent (heard.Flow w) [] f one is)) tt
@@ -157,7 +156,7 @@ free-ours v role name free None h = refl
 free-ours v role name free (Some l) h =
     and-some-none (has_name role name l) l.ours (found-passes (has_name role name) v.links l h) (every-found (λ l. is_ours role name l ≡ false) (has_name role name) v.links l (none-passes (is_ours role name) v.links free) h)
 
-free-theirs : (v : View) (role : Role) (name : List ℕ) → is_some (find (is_theirs role name) v.links) ≡ false → (o : Option LinkView) → find (has_name role name) v.links ≡ o → (shape o).theirs ≡ None
+pub free-theirs : (v : View) (role : Role) (name : List ℕ) → is_some (find (is_theirs role name) v.links) ≡ false → (o : Option LinkView) → find (has_name role name) v.links ≡ o → (shape o).theirs ≡ None
 free-theirs v role name free None h = refl
 free-theirs v role name free (Some l) h =
     and-some-none (has_name role name l) l.theirs (found-passes (has_name role name) v.links l h) (every-found (λ l. is_theirs role name l ≡ false) (has_name role name) v.links l (none-passes (is_theirs role name) v.links free) h)
@@ -170,15 +169,15 @@ shape-met : (b : AttachBody) (k : ℕ) (role : Role) (name : List ℕ) (o : Opti
 shape-met b k role name None = refl
 shape-met b k role name (Some l) = refl
 
-us-keeps : (b : AttachBody) → KeepsName (attached_by_us b)
+pub us-keeps : (b : AttachBody) → KeepsName (attached_by_us b)
 us-keeps b = record { role = λ l. refl; name = λ l. refl }
 
-peer-keeps : (b : AttachBody) → KeepsName (attached_by_peer b)
+pub peer-keeps : (b : AttachBody) → KeepsName (attached_by_peer b)
 peer-keeps b = record { role = λ l. refl; name = λ l. refl }
 
-attach-joins : (v : View) (a : Wanted) → IsSound v → is_some (find (is_ours a.role a.name) v.links) ≡ false
-    → slot_of a.role a.name (next_attach v a).links ≡ after (asks (end_of (attach_sent v a))) (slot_of a.role a.name v.links)
-attach-joins v a s free =
+pub attach-joins-at : (v : View) (a : Wanted) → IsSound v → is_some (find (is_ours a.role a.name) v.links) ≡ false
+    → find (has_name a.role a.name) (next_attach v a).links ≡ Some (attached_by_us (attach_sent v a) (or_this (find (has_name a.role a.name) v.links) (new_link v.made a.role a.name)))
+attach-joins-at v a s free =
     let b = attach_sent v a in
     let m : Meets (is_offered_as a.role a.name) a.role a.name v.links =
     record {
@@ -186,8 +185,11 @@ attach-joins v a s free =
       all = λ l h. offered-by (has_name a.role a.name l) l.ours l.theirs (found-passes (has_name a.role a.name) v.links l h)
           (every-found (λ l. is_ours a.role a.name l ≡ false) (has_name a.role a.name) v.links l (none-passes (is_ours a.role a.name) v.links free) h) (end-there v s (has_name a.role a.name) l h);
     } in
-    ap shape (joined-there v (is_offered_as a.role a.name) a.role a.name (attached_by_us b) (us-keeps b) m (find (has_name a.role a.name) v.links) refl)
-    ∙ shape-asked b v.made a.role a.name (find (has_name a.role a.name) v.links)
+    joined-there v (is_offered_as a.role a.name) a.role a.name (attached_by_us b) (us-keeps b) m (find (has_name a.role a.name) v.links) refl
+
+attach-joins : (v : View) (a : Wanted) → IsSound v → is_some (find (is_ours a.role a.name) v.links) ≡ false
+    → slot_of a.role a.name (next_attach v a).links ≡ after (asks (end_of (attach_sent v a))) (slot_of a.role a.name v.links)
+attach-joins v a s free = ap shape (attach-joins-at v a s free) ∙ shape-asked (attach_sent v a) v.made a.role a.name (find (has_name a.role a.name) v.links)
 
 attach-does : (role : Role) (name : List ℕ) (v : View) (a : Wanted) (reply : Reply) → attach_answer v a ≡ Ok reply → IsSound v
     → Doing role name v (next_attach v a) (asks_of role name (frame_among reply.sent)) (frame_among reply.sent)
@@ -212,9 +214,9 @@ attach-does role name v a reply h s =
 
 -- # The peer's attach
 
-met-joins : (v : View) (b : AttachBody) → IsSound v → is_some (find (is_theirs (opposite b.role) b.name) v.links) ≡ false
-    → slot_of (opposite b.role) b.name (next_attach_heard v b).links ≡ after (meets (end_of b)) (slot_of (opposite b.role) b.name v.links)
-met-joins v b s free =
+pub met-joins-at : (v : View) (b : AttachBody) → IsSound v → is_some (find (is_theirs (opposite b.role) b.name) v.links) ≡ false
+    → find (has_name (opposite b.role) b.name) (next_attach_heard v b).links ≡ Some (attached_by_peer b (or_this (find (has_name (opposite b.role) b.name) v.links) (new_link v.made (opposite b.role) b.name)))
+met-joins-at v b s free =
     let role = opposite b.role in
     let m : Meets (is_asked_as role b.name) role b.name v.links =
     record {
@@ -222,8 +224,11 @@ met-joins v b s free =
       all = λ l h. asked-by (has_name role b.name l) l.ours l.theirs (found-passes (has_name role b.name) v.links l h)
           (every-found (λ l. is_theirs role b.name l ≡ false) (has_name role b.name) v.links l (none-passes (is_theirs role b.name) v.links free) h) (end-there v s (has_name role b.name) l h);
     } in
-    ap shape (joined-there v (is_asked_as role b.name) role b.name (attached_by_peer b) (peer-keeps b) m (find (has_name role b.name) v.links) refl)
-    ∙ shape-met b v.made role b.name (find (has_name role b.name) v.links)
+    joined-there v (is_asked_as role b.name) role b.name (attached_by_peer b) (peer-keeps b) m (find (has_name role b.name) v.links) refl
+
+met-joins : (v : View) (b : AttachBody) → IsSound v → is_some (find (is_theirs (opposite b.role) b.name) v.links) ≡ false
+    → slot_of (opposite b.role) b.name (next_attach_heard v b).links ≡ after (meets (end_of b)) (slot_of (opposite b.role) b.name v.links)
+met-joins v b s free = ap shape (met-joins-at v b s free) ∙ shape-met b v.made (opposite b.role) b.name (find (has_name (opposite b.role) b.name) v.links)
 
 attach-heard-does : (role : Role) (name : List ℕ) (v : View) (b : AttachBody) (reply : Reply) → attach_heard_answer v b ≡ Ok reply → IsSound v
     → Doing role name v (next_attach_heard v b) (body_act role name v (Some (heard.Attach b))) (frame_among reply.sent)
@@ -277,12 +282,12 @@ abbrev detach_by : Bool → View → DetachBody → LinkView → Reply
 detach_by attached v b l =
     cond attached (reply_ending (detach_body (handle_of l.ours) b.closed None) [] (ended_by (Leaves l.number) (Leaves l.number) v) (given.Gone l.number)) (record { sent = []; ended = ended_by (Leaves l.number) (Leaves l.number) v; given = given.Gone l.number })
 
-detach-sends : (attached : Bool) (v : View) (b : DetachBody) (l : LinkView)
+pub detach-sends : (attached : Bool) (v : View) (b : DetachBody) (l : LinkView)
     → frame_among (detach_by attached v b l).sent ≡ cond attached (Some (frame_of (Some (heard.Detach (record { handle = handle_of l.ours; closed = b.closed; error = None }))) [])) None
 detach-sends true v b l = refl
 detach-sends false v b l = refl
 
-theirs-there : (h : ℕ) (l : LinkView) → has_peer_handle h l ≡ true → is_some l.theirs ≡ true
+pub theirs-there : (h : ℕ) (l : LinkView) → has_peer_handle h l ≡ true → is_some l.theirs ≡ true
 theirs-there h l is = by l.theirs is
   where
     by : (o : Option EndView) → holds (λ e. e.handle == h) o ≡ true → is_some o ≡ true

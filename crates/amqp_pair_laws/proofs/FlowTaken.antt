@@ -1,12 +1,10 @@
--- A flow that names no link is taken.
-use Rattle.std.proofs.Common.{◌≡◌, ◌≤◌, ◌<◌, ℕ, ◌+◌, ◌^◌, ◌&&◌, suc, Bool, true, false, Some, None, List, ◌∷◌, arith, refl, sym, ap, ◌∙◌, length, IsOk, nat_lt}
+-- A flow does not tell more transfers than were sent.
+use Rattle.std.proofs.Common.{◌≡◌, ◌≤◌, ◌<◌, ℕ, ◌+◌, ◌^◌, ◌&&◌, suc, Bool, true, false, Some, List, ◌∷◌, arith, refl, sym, ap, ◌∙◌, length, nat_lt}
 use Rattle.amqp_flow.specs.Serial.{wire, distance}
 use Rattle.amqp_performatives.specs.declared.bodies.FlowBody.{FlowBody}
-use Rattle.amqp_performatives.specs.declared.performative.Performative.TheVariants as heard
 use Rattle.amqp_frames.specs.declared.frame.Frame.{Frame}
 use Rattle.amqp_rules.specs.declared.config.Config.{Config}
-use Rattle.amqp_rules.specs.View.{View, is_over, takes_frames}
-use Rattle.amqp_rules.specs.Answer.{heard_answer, is_end}
+use Rattle.amqp_rules.specs.View.{View, is_over}
 use Rattle.amqp_rules.specs.Flow.{is_ahead_of_session, session_part}
 use Rattle.amqp_flow.specs.Windows.{session_is_ahead}
 use Rattle.amqp_laws.specs.declared.entry.Entry.{Entry}
@@ -23,11 +21,7 @@ use Rattle.amqp_pair_laws.proofs.Sends.{TellsNumbers}
 use Rattle.amqp_pair_laws.proofs.Opens.{windows-known, good}
 use Rattle.amqp_pair_laws.proofs.Credit.{lag-told}
 use Rattle.amqp_pair_laws.proofs.Windows.{sent-grows}
-use Rattle.amqp_pair_laws.proofs.Next.{IsReady, Next, taken-by}
-
-pub flow-taken : (v : View) (f : Frame) (w : FlowBody) → IsReady v.session → f.body ≡ Some (heard.Flow w) → w.handle ≡ None → is_ahead_of_session v w ≡ false → IsOk (heard_answer v f)
-flow-taken v f w r is plain near =
-    taken-by v f r (let k : is_end (Some (heard.Flow w)) ≡ false = refl in rw is k) (λ (takes : takes_frames v.session ≡ true). rw (is, takes, plain, near) refl)
+use Rattle.amqp_pair_laws.proofs.Next.{Next}
 
 -- a's frame tells no count of ours that we have not reached
 near-by : (first s0 s : ℕ) → s0 ≤ s → s < 2 ^ 32 → nat_lt s (distance (wire (first + s0)) (wire (first + s))) ≡ false

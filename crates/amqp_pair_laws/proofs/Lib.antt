@@ -17,6 +17,16 @@ pub mod Doing
 pub mod SlotActs
 pub mod Credit
 pub mod Tags
+-- What each step does to the counts and the credit of a link, and that both its ends agree on them.
+pub mod Turns
+pub mod TurnOwn
+pub mod TurnHeard
+pub mod Tallies
+pub mod Counts
+pub mod CountsKnown
+pub mod CountsKept
+pub mod CountsPass
+pub mod Expected
 -- The next frame is taken, kind by kind.
 pub mod Next
 pub mod BeginTaken
@@ -26,3 +36,5 @@ pub mod FlowTaken
 pub mod SessionTaken
 pub mod AttachTaken
 pub mod DetachTaken
+pub mod LinkFlowTaken
+pub mod TransferMet

@@ -1,12 +1,12 @@
 -- The link of a role and a name among links of which no two have both: what becomes of it where a list of links is changed.
-use Rattle.std.proofs.Common.{◌≡◌, ℕ, ◌&&◌, ◌++◌, Bool, true, false, cond, Option, Some, None, List, [], ◌∷◌, refl, sym, ap, ◌∙◌, subst, find, map, is_some, nat_eq}
+use Rattle.std.proofs.Common.{◌≡◌, ℕ, ◌&&◌, ◌++◌, Bool, true, false, Option, Some, None, List, [], ◌∷◌, refl, sym, ap, ◌∙◌, subst, find, map, is_some, nat_eq}
 use Rattle.std.proofs.lemmas.Bool.{eq-eqb, eqb-true}
 use Rattle.std.specs.Cmp.Lexicographic.{pointwise}
 use Rattle.amqp_performatives.specs.declared.bodies.Role.{Role}
 use Rattle.amqp_performatives.specs.declared.bodies.Role.TheVariants.{Sender, Receiver}
-use Rattle.amqp_rules.specs.View.{LinkView, View, change_first, has_name, new_link, opposite, remove_first, same_role}
+use Rattle.amqp_rules.specs.View.{LinkView, View, change_first, has_name, new_link, remove_first, same_role}
 use Rattle.amqp_rules.specs.Attach.{join_link}
-use Rattle.amqp_rules.specs.Sound.{Apart, Every, Keys, keys, shares_name}
+use Rattle.amqp_rules.specs.Sound.{Apart, Every, keys, shares_name}
 use Rattle.amqp_rules.proofs.Listed.{by-bool}
 use Rattle.amqp_laws.proofs.Twice.{and-both}
 

@@ -59,7 +59,7 @@ use Rattle.amqp_rules.proofs.Accepted.{answered_Ok, no_refusal, not-false, on-li
 use Rattle.amqp_rules.proofs.Listed.{by-bool}
 use Rattle.amqp_laws.specs.declared.entry.Step.{Step}
 use Rattle.amqp_laws.specs.declared.entry.Step.TheVariants.{Opened, Own, Heard}
-use Rattle.amqp_laws.specs.Said.{body_heard, is_begin, is_detach, own_in, tells_windows, transfer_in}
+use Rattle.amqp_laws.specs.Said.{body_heard, is_begin, is_detach, is_start, own_in, tells_windows, transfer_in}
 use Rattle.amqp_laws.specs.Lawful.{Answers, next}
 use Rattle.amqp_laws.proofs.AttachLaw.{mapped-not-over, not-over}
 use Rattle.amqp_laws.proofs.Twice.{and-both}
@@ -94,7 +94,7 @@ pub record Beside (v after : View) (hears : Option Performative) (op : Option Op
 
 pub data Sending (v : View) (after : View) (hears : Option Performative) (op : Option Op) (reply : Reply) : Type 0 where
   silent : frame_among reply.sent ≡ None → Sending v after hears op reply
-  transfers : (t : TransferBody) (payload : List ℕ) → hears ≡ None → is_mapped v.session ≡ true → (v.windows.remote_incoming == 0) ≡ false
+  transfers : (t : TransferBody) (payload : List ℕ) → hears ≡ None → is_mapped v.session ≡ true → (v.windows.remote_incoming == 0) ≡ false → (is_start op ≡ false → t.delivery_id ≡ None)
       → reply.sent ≡ sent_of (Some (heard.Transfer t)) payload ∷ [] → Sending v after hears op reply
   flows : (b : FlowBody) → transfer_in hears ≡ None → is_mapped v.session ≡ true → is_over after.session ≡ false → after.session.begin_heard ≡ true → TellsNumbers v after.windows b
       → reply.sent ≡ sent_of (Some (heard.Flow b)) [] ∷ [] → Sending v after hears op reply
@@ -124,11 +124,11 @@ begins-open s h = not-over (not s.begin_sent) (is_over s) h
 mapped-heard : (s : SessionView) → is_mapped s ≡ true → s.begin_heard ≡ true
 mapped-heard s h = let k = and-both s.begin_sent (takes_frames s) h in (and-both s.begin_heard (not (is_over s)) k.1).0
 
-learn-silent : (ts : List Telling) (reply : Reply) → learn_first ts ≡ Ok reply → frame_among reply.sent ≡ None
+pub learn-silent : (ts : List Telling) (reply : Reply) → learn_first ts ≡ Ok reply → frame_among reply.sent ≡ None
 learn-silent [] reply h = absurd (cc)
 learn-silent (t ∷ ts) reply h = let e : learn_reply t ≡ reply = cc in quiet-by (learn_reply t) reply e refl
 
-take-silent : (link : ℕ) (ds : List Delivery) (reply : Reply) → take_first link ds ≡ Ok reply → frame_among reply.sent ≡ None
+pub take-silent : (link : ℕ) (ds : List Delivery) (reply : Reply) → take_first link ds ≡ Ok reply → frame_among reply.sent ≡ None
 take-silent link [] reply h = absurd (cc)
 take-silent link (d ∷ ds) reply h = let e : take_reply link d ≡ reply = cc in quiet-by (take_reply link d) reply e refl
 
@@ -160,16 +160,16 @@ own-sending v (Start link tag format settled payload more) reply h =
     let id = next_delivery v in
     let o = on-link-ok v link (λ l. sends v.max_frame (start_refusals v l tag settled payload) (start_body (handle_of l.ours) id tag format settled more) payload (given.Delivery id)) reply h in
     let s = sends-ok v.max_frame (start_refusals v o.on tag settled payload) (start_body (handle_of o.on.ours) id tag format settled more) payload (given.Delivery id) reply o.said in
-    transfers _ payload refl o.mapped s.none_holds.1.1.1.1.1.1.0 (sent-by _ reply s.replies)
+    transfers _ payload refl o.mapped s.none_holds.1.1.1.1.1.1.0 (λ h. absurd (cc (h))) (sent-by _ reply s.replies)
 own-sending v (Carry link payload more) reply h =
     let o = on-link-ok v link (λ l. sends v.max_frame (carry_refusals v l payload) (later_body (handle_of l.ours) (flag more) None) payload given.Nothing) reply h in
     let s = sends-ok v.max_frame (carry_refusals v o.on payload) (later_body (handle_of o.on.ours) (flag more) None) payload given.Nothing reply o.said in
-    transfers _ payload refl o.mapped s.none_holds.1.1.1.0 (sent-by _ reply s.replies)
+    transfers _ payload refl o.mapped s.none_holds.1.1.1.0 (λ h. refl) (sent-by _ reply s.replies)
 own-sending v (Abort link) reply h =
     let ended = ended_by (sent_by_own v (own.Abort link)) No_event v in
     let o = on-link-ok v link (λ l. sends_ending v.max_frame (abort_refusals v l) (later_body (handle_of l.ours) None (Some true)) ended given.Nothing) reply h in
     let s = sends-ending-ok v.max_frame (abort_refusals v o.on) (later_body (handle_of o.on.ours) None (Some true)) ended given.Nothing reply o.said in
-    transfers _ [] refl o.mapped s.none_holds.1.1.1.0 (sent-by _ reply s.replies)
+    transfers _ [] refl o.mapped s.none_holds.1.1.1.0 (λ h. refl) (sent-by _ reply s.replies)
 own-sending v (Dispose role first last settled state) reply h = dispose-sending v role (record { first = first; last = last; settled = settled; state = state }) _ reply h
 own-sending v (Learn link) reply h =
     let say : LinkView → Result Reply Refusal = λ l. unless (not (same_role Sender l.role)) refusal.WrongRole (learn_first l.told) in

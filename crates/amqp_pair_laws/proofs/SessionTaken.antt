@@ -1,5 +1,5 @@
--- The next frame is taken, where it is a begin, an end, a disposition or a flow that names no link.
-use Rattle.std.proofs.Common.{◌≡◌, ℕ, false, Option, Some, None, List, [], refl, subst, IsOk}
+-- The next frame is taken, where it is a begin, an end or a disposition.
+use Rattle.std.proofs.Common.{◌≡◌, ℕ, false, Option, Some, List, [], refl, subst, IsOk}
 use Rattle.amqp_performatives.specs.declared.performative.Performative.{Performative}
 use Rattle.amqp_performatives.specs.declared.performative.Performative.TheVariants as heard
 use Rattle.amqp_frames.specs.declared.frame.Frame.{Frame}
@@ -16,28 +16,25 @@ use Rattle.amqp_pair_laws.proofs.Opens.{body-of}
 use Rattle.amqp_pair_laws.proofs.Next.{Next, next-of, ready-by}
 use Rattle.amqp_pair_laws.proofs.EndTaken.{end-taken}
 use Rattle.amqp_pair_laws.proofs.DispositionTaken.{disposition-taken}
-use Rattle.amqp_pair_laws.proofs.FlowTaken.{flow-taken, session-near}
 use Rattle.amqp_pair_laws.proofs.BeginTaken.{begin-next}
-use Rattle.amqp_pair_laws.specs.Taken.{AreTaken, IsBegin, IsEnd, IsDisposition, IsSessionFlow}
+use Rattle.amqp_pair_laws.specs.Taken.{AreTaken, IsBegin, IsEnd, IsDisposition}
 
--- begins, ends, dispositions, and flows that name no link
+-- begins, ends and dispositions
 abbrev IsOfSession : Option Performative → Type 0
 IsOfSession (Some (heard.Begin b)) = Unit {0}
 IsOfSession (Some (heard.End b)) = Unit {0}
 IsOfSession (Some (heard.Disposition b)) = Unit {0}
-IsOfSession (Some (heard.Flow b)) = b.handle ≡ None
 IsOfSession _ = ⊥
 
 session-taken : (ca cb : Config) (b : List Entry) (f : Frame) (x : Next ca cb b f) → Sending (at ca x.before) (next (at ca x.before) x.entry.step) (body_heard x.entry.step) (own_in x.entry.step) x.entry.reply
     → IsOfSession f.body → IsOk (heard_answer (at cb b) f)
 session-taken ca cb b f x (silent q) of = let sent = x.sent in absurd (cc (q, sent))
-session-taken ca cb b f x (transfers t payload deaf mapped room is) of =
+session-taken ca cb b f x (transfers t payload deaf mapped room named is) of =
     let body = body-of x.entry.reply.sent (heard.Transfer t) payload f is x.sent in
     absurd (subst (λ (o : Option Performative). IsOfSession o) body of)
 session-taken ca cb b f x (flows w t mapped open' begun numbers is) of =
     let body = body-of x.entry.reply.sent (heard.Flow w) [] f is x.sent in
-    let plain : w.handle ≡ None = subst (λ (o : Option Performative). IsOfSession o) body of in
-    flow-taken (at cb b) f w (ready-by ca cb b f x mapped) body plain (session-near ca cb b f x w open' begun numbers)
+    absurd (subst (λ (o : Option Performative). IsOfSession o) body of)
 session-taken ca cb b f x (begins' w deaf is-begin' unsent open' takes comes is) of =
     let body = body-of x.entry.reply.sent (heard.Begin w) [] f is x.sent in
     begin-next ca cb b f x w body unsent open'
@@ -52,7 +49,7 @@ session-taken ca cb b f x (others p payload t w beside is) of =
     by (heard.Flow e) tells of beside body = absurd (cc (tells))
     by p tells of beside body = absurd of
 
--- the next frame, where it is a begin, an end, a disposition or a flow that names no link, is no violation
+-- the next frame, where it is a begin, an end or a disposition, is no violation
 session-frame-is-taken : (ca cb : Config) (n : ℕ) (a b : List Entry) (f : Frame) → World ca cb n a b → said_as sends (count hears b) a ≡ Some f → IsOfSession f.body → IsOk (heard_answer (at cb b) f)
 session-frame-is-taken ca cb n a b f w waits of =
     let x = next-of ca cb n a b f w waits in
@@ -77,11 +74,4 @@ dispositions-taken ca cb n a b f w waits of = session-frame-is-taken ca cb n a b
   where
     by : (body : Option Performative) → IsDisposition body → IsOfSession body
     by (Some (heard.Disposition b)) k = k
-    by _ k = absurd k
-
-pub session-flows-taken : AreTaken IsSessionFlow
-session-flows-taken ca cb n a b f w waits of = session-frame-is-taken ca cb n a b f w waits (by f.body of)
-  where
-    by : (body : Option Performative) → IsSessionFlow body → IsOfSession body
-    by (Some (heard.Flow b)) k = k
     by _ k = absurd k

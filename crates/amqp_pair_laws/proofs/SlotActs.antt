@@ -1,5 +1,5 @@
 -- The slots of two sessions agree, by what each entry does in them.
-use Rattle.std.proofs.Common.{◌≡◌, ◌≤◌, ℕ, ◌+◌, ◌^◌, ◌==◌, ◌&&◌, Bool, true, false, not, cond, Option, Some, None, List, [], ◌∷◌, arith, refl, sym, ap, ◌∙◌, subst, find, map, is_some, nat_eq, length, add-one}
+use Rattle.std.proofs.Common.{◌≡◌, ℕ, ◌==◌, ◌&&◌, Bool, true, false, not, cond, Option, Some, None, List, [], ◌∷◌, refl, sym, ap, ◌∙◌, subst, find, map, is_some, nat_eq}
 use Rattle.std.proofs.lemmas.Bool.{eq-eqb, eqb-true}
 use Rattle.std.specs.Cmp.Lexicographic.{pointwise}
 use Rattle.amqp_performatives.specs.declared.bodies.Role.{Role}
@@ -9,7 +9,6 @@ use Rattle.amqp_performatives.specs.declared.performative.Performative.{Performa
 use Rattle.amqp_performatives.specs.declared.performative.Performative.TheVariants as heard
 use Rattle.amqp_frames.specs.declared.frame.Frame.{Frame}
 use Rattle.amqp_rules.specs.declared.config.Config.{Config}
-use Rattle.amqp_rules.specs.declared.op.Op.{Op}
 use Rattle.amqp_rules.specs.declared.op.Op.TheVariants.{Attach, Detach}
 use Rattle.amqp_rules.specs.View.{EndView, LinkView, View, handle_of, has_handle, has_name, has_number, has_peer_handle, holds, is_attached, is_over, opposite, same_role}
 use Rattle.amqp_rules.specs.Attach.{end_of}
@@ -30,11 +29,11 @@ use Rattle.amqp_laws.proofs.Sound.{at-is-sound, law}
 use Rattle.amqp_laws.proofs.Twice.{and-both}
 use Rattle.amqp_pair_laws.specs.World.{IsFair, Tight, frame_in, hears, sends}
 use Rattle.amqp_pair_laws.proofs.Lag as lag
-use Rattle.amqp_pair_laws.proofs.Slots.{Act, Agree, IsLegal, Message, Slot, added, after, asks, attach, attached, detach, goes, idle, kept, learns, leaves, meets, no_slot, tells}
+use Rattle.amqp_pair_laws.proofs.Slots.{Act, IsLegal, Slot, added, after, asks, attached, goes, idle, kept, learns, leaves, meets, tells}
 use Rattle.amqp_pair_laws.proofs.SlotKept as slots
 use Rattle.amqp_pair_laws.proofs.SlotOf.{shape, slot_of}
-use Rattle.amqp_pair_laws.proofs.Named.{every-found, every-unmapped, found-passes, named-found, named-is}
-use Rattle.amqp_pair_laws.proofs.Doing.{Doing, IsApart, IsApartIn, IsOther, asking, asks_in, asks_of, body_act, going, idles, leaving, meeting, on_named, own_act, step-does, step_act}
+use Rattle.amqp_pair_laws.proofs.Named.{every-found, every-unmapped, found-passes, named-found}
+use Rattle.amqp_pair_laws.proofs.Doing.{Doing, IsApart, IsApartIn, IsOther, asking, asks_in, asks_of, body_act, going, idles, leaving, meeting, on_named, step-does, step_act}
 use Rattle.amqp_pair_laws.proofs.Opens.{few-by, replayed-by}
 use Rattle.amqp_pair_laws.proofs.Over.{behind-lives}
 use Rattle.amqp_pair_laws.proofs.Windows.{lives-goes, or-none}
@@ -126,7 +125,7 @@ abbrev pub act : Role × List ℕ → Config → Entry → List Entry → Act En
 act i c e past = step_act i.0 i.1 (at c past) e.step (sends e)
 
 -- the slots of the two ends that are one: of one name, and of opposite roles
-abbrev Meets : Role × List ℕ → Role × List ℕ → Type 0
+abbrev pub Meets : Role × List ℕ → Role × List ℕ → Type 0
 Meets i j = (j.0 ≡ opposite i.0) × (j.1 ≡ i.1)
 
 abbrev pub Lives : List Entry → Type 0
@@ -147,7 +146,7 @@ one-more i c e past h =
     let s = at-is-sound c past r few in
     record { sound = s; goes_on = law c past e r few h.1.answers; does = step-does i.0 i.1 (at c past) e.step e.reply h.1.answers s }
 
-goes-on : (i : Role × List ℕ) (c : Config) (e : Entry) (past : List Entry) → AllFair c (e ∷ past) → Lives (e ∷ past) → st i c (e ∷ past) ≡ after (act i c e past) (st i c past)
+pub goes-on : (i : Role × List ℕ) (c : Config) (e : Entry) (past : List Entry) → AllFair c (e ∷ past) → Lives (e ∷ past) → st i c (e ∷ past) ≡ after (act i c e past) (st i c past)
 goes-on i c e past h lives =
     let m = one-more i c e past h in
     ap (λ (v : View). slot_of i.0 i.1 v.links) m.goes_on
@@ -274,7 +273,7 @@ does-detach role name v after' act f sent d (going l d' is s h at' there theirs 
 
 -- # A frame passes
 
-opposite-same : (r s : Role) → same_role (opposite r) (opposite s) ≡ same_role r s
+pub opposite-same : (r s : Role) → same_role (opposite r) (opposite s) ≡ same_role r s
 opposite-same Sender Sender = refl
 opposite-same Sender Receiver = refl
 opposite-same Receiver Sender = refl
@@ -306,13 +305,13 @@ same-by h None p a b = absurd (cc (a))
 same-by h (Some e) None a b = absurd (cc (b))
 same-by h (Some e) (Some f) a b = let x : e.handle ≡ h = eqb-true e.handle h a in let y : f.handle ≡ h = eqb-true f.handle h b in eq-eqb f.handle e.handle (y ∙ sym x)
 
-by-handle : (v : View) (h : ℕ) (test : LinkView → Bool) (l : LinkView) → IsSound v → find test v.links ≡ Some l → has_handle h l ≡ true → find (has_handle h) v.links ≡ Some l
+pub by-handle : (v : View) (h : ℕ) (test : LinkView → Bool) (l : LinkView) → IsSound v → find test v.links ≡ Some l → has_handle h l ≡ true → find (has_handle h) v.links ≡ Some l
 by-handle v h test l s found is = apart-found shares_handle (has_handle h) test v.links l s.links.handles (λ k m a b. same-by h k.ours m.ours a b) found is
 
 pub by-peer-handle : (v : View) (h : ℕ) (test : LinkView → Bool) (l : LinkView) → IsSound v → find test v.links ≡ Some l → has_peer_handle h l ≡ true → find (has_peer_handle h) v.links ≡ Some l
 by-peer-handle v h test l s found is = apart-found shares_peer_handle (has_peer_handle h) test v.links l s.links.peer_handles (λ k m a b. same-by h k.theirs m.theirs a b) found is
 
-its-handle : (o : Option EndView) (h : ℕ) → is_some o ≡ true → h ≡ handle_of o → holds (λ e. e.handle == h) o ≡ true
+pub its-handle : (o : Option EndView) (h : ℕ) → is_some o ≡ true → h ≡ handle_of o → holds (λ e. e.handle == h) o ≡ true
 its-handle None h is e = absurd (cc (is))
 its-handle (Some x) h is e = eq-eqb x.handle h (sym e)
 
@@ -329,7 +328,7 @@ kept-is l h = by l.left (and-both (is_some l.ours && is_some l.theirs) (not l.le
     by true h = absurd (cc (h))
     by false h = refl
 
-attached-ours : (l : LinkView) → is_attached l ≡ true → is_some l.ours ≡ true
+pub attached-ours : (l : LinkView) → is_attached l ≡ true → is_some l.ours ≡ true
 attached-ours l h = (and-both (is_some l.ours) (is_some l.theirs) (and-both (is_some l.ours && is_some l.theirs) (not l.left) h).0).0
 
 -- the handle of an attached link finds the link of the slot at the other end
@@ -345,7 +344,7 @@ is-met role' name vb l h s a is k = by (find (has_name role' name) vb.links) ref
         record { link = m; named = f; found = by-peer-handle vb h (has_name role' name) m s f (its-handle m.theirs h some same) }
 
 -- another link's detach does not meet the slot
-other-unmet : (role : Role) (name : List ℕ) (va vb : View) (d : DetachBody) → IsSound va → IsSound vb → IsOther role name va d → kept (slot_of role name va.links) ≡ (slot_of (opposite role) name vb.links).theirs
+pub other-unmet : (role : Role) (name : List ℕ) (va vb : View) (d : DetachBody) → IsSound va → IsSound vb → IsOther role name va d → kept (slot_of role name va.links) ≡ (slot_of (opposite role) name vb.links).theirs
     → (m : LinkView) → find (has_peer_handle d.handle) vb.links ≡ Some m → has_name (opposite role) name m ≡ true → ⊥
 other-unmet role name va vb d sa sb x k m found n =
     let there = named-found (opposite role) name (has_peer_handle d.handle) vb.links m sb.links.names found n in
@@ -413,7 +412,7 @@ does-pass role name va vb after' act f sent (going l d is s h at' there theirs t
     (λ (u : is_attached l ≡ false). let s' = rw u at s in absurd (cc (s', e)))
 
 -- what is heard where the session is not over is not dropped
-heard-act : (role : Role) (name : List ℕ) (v : View) (step : Step) (sent : Option Frame) (f : Frame) → is_over v.session ≡ false → frame_in step ≡ Some f → step_act role name v step sent ≡ body_act role name v f.body
+pub heard-act : (role : Role) (name : List ℕ) (v : View) (step : Step) (sent : Option Frame) (f : Frame) → is_over v.session ≡ false → frame_in step ≡ Some f → step_act role name v step sent ≡ body_act role name v f.body
 heard-act role name v (Opened told) sent f o is = absurd (cc (is))
 heard-act role name v (Own op) sent f o is = absurd (cc (is))
 heard-act role name v (Heard g) sent f o is =
@@ -422,7 +421,7 @@ heard-act role name v (Heard g) sent f o is =
     let kept' : is_dropped v g.body ≡ false = rw unsent refl in
     rw kept' (ap (λ (f : Frame). body_act role name v f.body) one)
 
-acts : slots.Acts sends hears IsFair Meets st act Lives
+pub acts : slots.Acts sends hears IsFair Meets st act Lives
 acts =
     record {
       flips = λ i j m. (let o : j.0 ≡ opposite i.0 = m.0 in twice i.0 ∙ ap opposite (sym o), sym m.1);

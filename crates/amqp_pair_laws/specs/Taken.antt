@@ -1,5 +1,5 @@
 -- Frames that the other end takes: the next one on its way is no violation there.
-use Rattle.std.specs.Prelude.{ℕ, ◌≡◌, Option, None, Some, List, IsOk}
+use Rattle.std.specs.Prelude.{ℕ, ◌≡◌, Option, Some, List, IsOk}
 use Rattle.amqp_frames.specs.declared.frame.Frame.{Frame}
 use Rattle.amqp_performatives.specs.declared.performative.Performative.{Performative}
 use Rattle.amqp_performatives.specs.declared.performative.Performative.TheVariants as heard
@@ -32,10 +32,9 @@ abbrev pub IsDisposition : Option Performative → Type 0
 IsDisposition (Some (heard.Disposition b)) = Unit {0}
 IsDisposition _ = ⊥
 
--- a flow that names no link
-abbrev pub IsSessionFlow : Option Performative → Type 0
-IsSessionFlow (Some (heard.Flow b)) = b.handle ≡ None
-IsSessionFlow _ = ⊥
+abbrev pub IsFlow : Option Performative → Type 0
+IsFlow (Some (heard.Flow b)) = Unit {0}
+IsFlow _ = ⊥
 
 abbrev pub IsAttach : Option Performative → Type 0
 IsAttach (Some (heard.Attach b)) = Unit {0}

@@ -5,7 +5,7 @@ use Rattle.amqp_peer.specs.declared.command_line.Request.TheVariants.{Script, Co
 
 -- each setting that a command is run with is within its limits
 abbrev pub IsAllowed : Request → Type 0
-IsAllowed (Script config) = IsWithinLimits config
+IsAllowed (Script config keep) = IsWithinLimits config
 IsAllowed (Conn config) = IsWithinLimits config
 IsAllowed Frames = Unit {0}
 IsAllowed (Pair options) = IsInRange options

@@ -14,8 +14,8 @@ use std::convert::AsStr;
 /// What a command line asks for.
 #[derive(Clone, Copy, Debug, PartialEq, Eq)]
 pub enum Request {
-    /// A run of `script` on a journal with these settings.
-    Script(Config),
+    /// A run of `script` on a journal with these settings, of which at most so many entries are kept; none: all.
+    Script(Config, Option<u32>),
     /// A run of `conn` with these settings of its session.
     Conn(Config),
     /// A run of `frames`.
@@ -47,7 +47,7 @@ pub fn read_request<'a, S: AsStr>(alloc: Global, words: &'a [S]) -> Result<Reque
     } else {
         let config = script_config(&matches);
         if config.is_within_limits() {
-            return Ok(Request::Script(config));
+            return Ok(Request::Script(config, kept_entries(&matches)));
         }
     }
     Err(command.error(ErrorKind::ValueValidation, "an option is out of its range")?)
@@ -57,7 +57,7 @@ fn program<'a>(alloc: Global) -> Result<Command<'a>, AllocError> {
     let script = Command::new(alloc, "script").about(
         "Reads lines from standard input and answers each with a line",
     );
-    let script = with_config(alloc, script)?;
+    let script = with_config(alloc, script)?.arg(options::keep(alloc)?)?;
     let frames = Command::new(alloc, "frames").about(
         "Reads octets in hexadecimal from standard input and names the frames in them",
     );
@@ -131,5 +131,13 @@ fn script_config(matches: &ArgMatches<'_>) -> Config {
     match matches.subcommand_matches("script") {
         Some(options) => config_of(options),
         None => USUAL,
+    }
+}
+
+/// How many entries of its journal a `script` keeps.
+fn kept_entries(matches: &ArgMatches<'_>) -> Option<u32> {
+    match matches.subcommand_matches("script") {
+        Some(options) => options.get_one::<u32>("keep"),
+        None => None,
     }
 }

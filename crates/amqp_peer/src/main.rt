@@ -56,10 +56,10 @@ where
 {
     let words: Vec<String> = env::args(rt)?.collect(rt.alloc())?;
     match read_request(rt.alloc(), words.as_slice()) {
-        Ok(Request::Script(config)) => {
+        Ok(Request::Script(config, keep)) => {
             let mut reader = BufReader::new(rt.alloc(), rt.reader())?;
             let mut writer = BufWriter::new(rt.alloc(), io::writer(rt))?;
-            let outcome = run_script(rt.alloc(), &config, &mut reader, &mut writer)?;
+            let outcome = run_script(rt.alloc(), &config, keep, &mut reader, &mut writer)?;
             Ok(status_of(outcome))
         }
         Ok(Request::Conn(config)) => {

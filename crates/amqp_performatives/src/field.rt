@@ -27,6 +27,7 @@ pub enum Field<'a> {
     Failure(&'a AmqpError),
 }
 
+/// A boolean, or null.
 #[inline]
 pub fn boolean(b: Option<bool>) -> Field<'static>
     ensures { part_at result ≡ optional boolean b }
@@ -37,6 +38,7 @@ pub fn boolean(b: Option<bool>) -> Field<'static>
     }
 }
 
+/// A ubyte, or null.
 #[inline]
 pub fn ubyte(n: Option<u8>) -> Field<'static>
     ensures { part_at result ≡ optional ubyte n }
@@ -47,6 +49,7 @@ pub fn ubyte(n: Option<u8>) -> Field<'static>
     }
 }
 
+/// A ushort, or null.
 #[inline]
 pub fn ushort(n: Option<u16>) -> Field<'static>
     ensures { part_at result ≡ optional ushort n }
@@ -57,6 +60,7 @@ pub fn ushort(n: Option<u16>) -> Field<'static>
     }
 }
 
+/// A uint, or null.
 #[inline]
 pub fn uint(n: Option<u32>) -> Field<'static>
     ensures { part_at result ≡ optional uint n }
@@ -67,6 +71,7 @@ pub fn uint(n: Option<u32>) -> Field<'static>
     }
 }
 
+/// A ulong, or null.
 #[inline]
 pub fn ulong(n: Option<u64>) -> Field<'static>
     ensures { part_at result ≡ optional ulong n }
@@ -77,6 +82,7 @@ pub fn ulong(n: Option<u64>) -> Field<'static>
     }
 }
 
+/// A delivery-tag, or null.
 #[inline]
 pub fn tag(tag: &Option<Tag>) -> Field<'_>
     ensures { part_at result ≡ optional binary tag.now }
@@ -87,6 +93,7 @@ pub fn tag(tag: &Option<Tag>) -> Field<'_>
     }
 }
 
+/// A string, or null.
 #[inline]
 pub fn string(text: &Option<Text>) -> Field<'_>
     ensures { part_at result ≡ optional string text.now }
@@ -97,6 +104,7 @@ pub fn string(text: &Option<Text>) -> Field<'_>
     }
 }
 
+/// A map, or null.
 #[inline]
 pub fn mapping(pairs: &Option<Items<(Value, Value)>>) -> Field<'_>
     ensures { part_at result ≡ optional mapping pairs.now }
@@ -107,6 +115,7 @@ pub fn mapping(pairs: &Option<Items<(Value, Value)>>) -> Field<'_>
     }
 }
 
+/// A value of any type, or null.
 #[inline]
 pub fn any(value: &Option<Boxed<Value>>) -> Field<'_>
     ensures { part_at result ≡ optional any value.now }
@@ -117,6 +126,7 @@ pub fn any(value: &Option<Boxed<Value>>) -> Field<'_>
     }
 }
 
+/// A delivery state, or null.
 #[inline]
 pub fn state(reached: &Option<DeliveryState>) -> Field<'_>
     ensures { part_at result ≡ optional state reached.now }
@@ -127,6 +137,7 @@ pub fn state(reached: &Option<DeliveryState>) -> Field<'_>
     }
 }
 
+/// An error, or null.
 #[inline]
 pub fn failure(what: &Option<Boxed<AmqpError>>) -> Field<'_>
     ensures { part_at result ≡ optional error what.now }
@@ -137,6 +148,7 @@ pub fn failure(what: &Option<Boxed<AmqpError>>) -> Field<'_>
     }
 }
 
+/// A role, which is a boolean (part 2, 2.8.1).
 #[inline]
 pub fn role(end: Role) -> Field<'static>
     ensures { part_at result ≡ role end }

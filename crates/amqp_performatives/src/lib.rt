@@ -13,6 +13,14 @@
 //!
 //! `TransferBody::new(handle)` and its like make a body of its mandatory fields; the others are absent until they are set.
 //!
+//! | module | what it has |
+//! |---|---|
+//! | `performative`, `bodies` | the nine performatives, and a body for each |
+//! | `state`, `error` | delivery states and errors |
+//! | `composite`, `named` | the table of descriptors; what a performative is called |
+//! | `field`, `listed` | fields as a writer goes over them |
+//! | `copying`, `equality` | copies of optional parts; what `==` is to contracts |
+//!
 //! - [`Performative`]: what a frame says. The bodies of open, begin and attach, values of any type and errors, which few frames have, stand
 //!   behind a pointer (`Boxed`), so that a frame is narrow where it is moved.
 //! - [`Role`], [`DeliveryState`], [`AmqpError`]: what fields hold

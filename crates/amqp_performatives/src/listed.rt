@@ -14,6 +14,7 @@ use crate::field::{
     Field, any, boolean, failure, mapping, role, state, string, tag, ubyte, uint, ulong, ushort,
 };
 
+/// Those of an open (part 2, 2.7.1).
 pub fn open_fields(body: &OpenBody) -> [Field<'_>; 10]
     ensures { fields_at result ≡ open_fields body.now }
 {
@@ -31,6 +32,7 @@ pub fn open_fields(body: &OpenBody) -> [Field<'_>; 10]
     ]
 }
 
+/// Those of a begin (part 2, 2.7.2).
 pub fn begin_fields(body: &BeginBody) -> [Field<'_>; 8]
     ensures { fields_at result ≡ begin_fields body.now }
 {
@@ -46,6 +48,7 @@ pub fn begin_fields(body: &BeginBody) -> [Field<'_>; 8]
     ]
 }
 
+/// Those of an attach (part 2, 2.7.3).
 pub fn attach_fields(body: &AttachBody) -> [Field<'_>; 14]
     ensures { fields_at result ≡ attach_fields body.now }
 {
@@ -67,6 +70,7 @@ pub fn attach_fields(body: &AttachBody) -> [Field<'_>; 14]
     ]
 }
 
+/// Those of a flow (part 2, 2.7.4).
 pub fn flow_fields(body: &FlowBody) -> [Field<'_>; 11]
     ensures { fields_at result ≡ flow_fields body.now }
 {
@@ -85,6 +89,7 @@ pub fn flow_fields(body: &FlowBody) -> [Field<'_>; 11]
     ]
 }
 
+/// Those of a transfer (part 2, 2.7.5).
 pub fn transfer_fields(body: &TransferBody) -> [Field<'_>; 11]
     ensures { fields_at result ≡ transfer_fields body.now }
 {
@@ -103,6 +108,7 @@ pub fn transfer_fields(body: &TransferBody) -> [Field<'_>; 11]
     ]
 }
 
+/// Those of a disposition (part 2, 2.7.6).
 pub fn disposition_fields(body: &DispositionBody) -> [Field<'_>; 6]
     ensures { fields_at result ≡ disposition_fields body.now }
 {
@@ -116,6 +122,7 @@ pub fn disposition_fields(body: &DispositionBody) -> [Field<'_>; 6]
     ]
 }
 
+/// Those of a detach (part 2, 2.7.7).
 pub fn detach_fields(body: &DetachBody) -> [Field<'_>; 3]
     ensures { fields_at result ≡ detach_fields body.now }
 {
@@ -126,18 +133,21 @@ pub fn detach_fields(body: &DetachBody) -> [Field<'_>; 3]
     ]
 }
 
+/// That of an end (part 2, 2.7.8).
 pub fn end_fields(body: &EndBody) -> [Field<'_>; 1]
     ensures { fields_at result ≡ end_fields body.now }
 {
     [failure(&body.error)]
 }
 
+/// That of a close (part 2, 2.7.9).
 pub fn close_fields(body: &CloseBody) -> [Field<'_>; 1]
     ensures { fields_at result ≡ close_fields body.now }
 {
     [failure(&body.error)]
 }
 
+/// Those of an error (part 2, 2.8.14).
 pub fn error_fields(failed: &AmqpError) -> [Field<'_>; 3]
     ensures { fields_at result ≡ symbol failed.now.condition ▸ optional string failed.now.description ▸ optional any failed.now.info ▸ no_field }
 {

@@ -38,6 +38,17 @@ pub fn with_config<'a>(alloc: Global, command: Command<'a>) -> Result<Command<'a
         .arg(limit(alloc)?)
 }
 
+/// The option of `script` that says how many of the journal's entries are kept.
+pub fn keep<'a>(alloc: Global) -> Result<Arg<'a>, AllocError> {
+    Ok(
+        Arg::new(alloc, "keep")
+            .long("keep")
+            .value_name("N")
+            .value_parser(value_parser!(u32).range(1..=i64::from(MAX_JOURNAL_LIMIT)))
+            .help("How many entries of the journal stay at most; all where it is left off"),
+    )
+}
+
 fn first_id<'a>(alloc: Global) -> Result<Arg<'a>, AllocError> {
     Ok(
         Arg::new(alloc, "first-id")

@@ -1,5 +1,5 @@
 //! The command `script`: each line is an operation, a heard frame or a question, and is answered by one line.
-ghost use Rattle.std.specs.Prelude.{◌<◌, OnOk, OnSome, length};
+ghost use Rattle.std.specs.Prelude.{◌<◌, ◌≤◌, OnOk, OnSome, length};
 ghost use Rattle.std.specs.Io.KnownBytes.{IsAtEnd};
 ghost use Rattle.amqp_rules.specs.Limits.{IsWithinLimits};
 
@@ -18,9 +18,13 @@ use std::io::{BufRead, Write};
 
 /// Runs the lines that the reader gives on a new journal, and writes an answer for each. What was answered is flushed
 /// before each read and at the end, also where a fault ends the run.
+///
+/// At most so many of the journal's entries are kept; none: all. Where so many stand, the next step forgets them all first, so a step's cost
+/// on average stays the same. An answer is the same whatever was forgotten.
 pub fn run_script<R: BufRead, W: Write>(
     alloc: Global,
     config: &Config,
+    keep: Option<u32>,
     reader: &mut R,
     writer: &mut W,
 ) -> Result<Outcome, RunFault>
@@ -30,7 +34,8 @@ pub fn run_script<R: BufRead, W: Write>(
 {
     let mut script = Script {
         alloc,
-        logged: Logged::new(alloc, config)?,
+        logged: Logged::new(alloc, config),
+        keep,
         outcome: Outcome::EachLineGood,
     };
     let run = take_lines(alloc, &mut script, reader, writer);
@@ -45,6 +50,8 @@ pub fn run_script<R: BufRead, W: Write>(
 struct Script {
     alloc: Global,
     logged: Logged,
+    /// How many entries are kept at most.
+    keep: Option<u32>,
     outcome: Outcome,
 }
 
@@ -70,6 +77,7 @@ impl Script {
     }
 
     fn open<W: Write>(&mut self, max: u32, writer: &mut W) -> Result<(), RunFault> {
+        self.make_room();
         match self.logged.opened(max) {
             Ok(()) => self.print_entry(writer),
             Err(fault) => print_refusal(writer, fault),
@@ -77,6 +85,7 @@ impl Script {
     }
 
     fn apply<W: Write>(&mut self, op: Op, writer: &mut W) -> Result<(), RunFault> {
+        self.make_room();
         match self.logged.perform(op) {
             Ok(()) => self.print_entry(writer),
             Err(refusal) => print_refusal(writer, refusal),
@@ -85,6 +94,7 @@ impl Script {
 
     fn hear<W: Write>(&mut self, frame: Frame, writer: &mut W) -> Result<(), RunFault> {
         let frame = Boxed::new(self.alloc, frame)?;
+        self.make_room();
         match self.logged.hear(frame) {
             Ok(_) => self.print_entry(writer),
             Err(violation) => match violation.kind {
@@ -94,13 +104,31 @@ impl Script {
         }
     }
 
+    /// Forgets the entries where as many stand as are kept.
+    fn make_room(&mut self)
+        ensures { self.new.logged.forgotten ≤ length self.new.logged.journal }
+    {
+        let kept = self.logged.journal().len();
+        if is_full(kept, self.keep) {
+            self.logged.forget();
+        }
+    }
+
     /// Answers a step with the journal's last entry.
     fn print_entry<W: Write>(&self, writer: &mut W) -> Result<(), RunFault>
-        requires { 0 < length self.now.logged.journal }
+        requires { self.now.logged.forgotten < length self.now.logged.journal }
     {
         let journal = self.logged.journal();
         let entry = &journal[journal.len() - 1];
         print(writer, Answer::Stepped(&entry.reply))
+    }
+}
+
+/// So many entries are as many as are kept.
+fn is_full(kept: usize, keep: Option<u32>) -> bool {
+    match keep {
+        Some(most) => kept >= most as usize,
+        None => false,
     }
 }
 

@@ -18,6 +18,7 @@ pub struct Words<'a> {
 impl<'a> Words<'a> {
     ghost use Rattle.amqp_script.specs.Left.{left};
 
+    /// All words of the line.
     pub fn of(line: &'a [u8]) -> Words<'a>
         ensures { left result ≡ words line.entry.now }
     {

@@ -10,6 +10,7 @@ use Rattle.bytes.proofs.shared.Bytes.TheSendSync as bytes_crosses
 use Rattle.bytes.proofs.unique.BytesMut.TheSendSync as buffer_crosses
 use Rattle.bytes.specs.contracts.unique.BytesMut as buffer
 use Rattle.bytes.specs.contracts.shared.Bytes as bytes
+use Rattle.amqp_history.proofs.history.History.TheSendSync as history_crosses
 use Rattle.amqp_shared.proofs.waiting.Conditions.TheSendSync as conditions
 use Rattle.amqp_shared.proofs.waiting.Waiters.TheSendSync as waiters
 use Rattle.std.proofs.sync.ledger.Book.TheSendSync as book
@@ -185,7 +186,7 @@ pub endpoint_send : IsSend (endpoint.the_field).row
 endpoint_send = search (sendable, crosses, session_crosses.the_send, stores_send, buffer_send, heap.the_send) depth 60 fits 100000
 
 pub logged_send : IsSend (logged.the_field).row
-logged_send = search (sendable, crosses, session_config_crosses.the_send, endpoint_send, entry_send, bytes_send) depth 40 fits 20000
+logged_send = search (sendable, crosses, session_config_crosses.the_send, endpoint_send, entry_send, bytes_send, history_crosses.the_send) depth 40 fits 20000
 
 pub machine_send : IsSend (machine.the_field).row
 machine_send = search (sendable, crosses, config_crosses.the_send, bytes_send, phase_crosses.the_send, logged_send) depth 40 fits 20000

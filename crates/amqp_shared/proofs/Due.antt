@@ -1,6 +1,7 @@
 -- What an operation that was done gives, and its receipt.
 use Rattle.std.proofs.Common.{◌≡◌, ℕ, ◌+◌, ◌++◌, List, [], ◌∷◌, length, Bool, true, false, cond, Option, Some, None, Ok, Err, refl, sym, ap, ◌∙◌, subst, nat_le, length-append}
-use Rattle.std.specs.Prelude.{slice_get, find, not}
+use Rattle.std.specs.Prelude.{slice_get, find, not, ◌==◌}
+use Rattle.std.proofs.lemmas.Bool.{eqb-true}
 use Rattle.amqp_events.specs.Joined.{Delivery}
 use Rattle.amqp_rules.specs.declared.op.Op.{Op}
 use Rattle.amqp_rules.specs.declared.op.Op.TheVariants as op
@@ -24,27 +25,36 @@ use Rattle.amqp_conn.specs.Connection.{Core}
 use Rattle.amqp_conn.specs.Calling.{Does, due_in}
 use Rattle.amqp_shared.specs.Session.{Fits, IsReceipt}
 
--- # Taking gives a delivery
+-- # Taking gives a delivery of that link
 
-first-fits : (link n : ℕ) (ready : List Delivery) (reply : Reply) → take_first n ready ≡ Ok reply → Fits (op.Take link) reply.given
-first-fits link n [] reply h = absurd cc
-first-fits link n (d ∷ ready) reply h =
+-- what is found by its number has it
+found-number : (link : ℕ) (ls : List LinkView) (l : LinkView) → find (has_number link) ls ≡ Some l → l.number ≡ link
+found-number link [] l h = absurd cc
+found-number link (x ∷ xs) l h = tested (x.number == link) refl (found-number link xs l) h
+  where
+    tested : (b : Bool) → (x.number == link) ≡ b → (find (has_number link) xs ≡ Some l → l.number ≡ link) → cond b (Some x) (find (has_number link) xs) ≡ Some l → l.number ≡ link
+    tested true is later found = let same : x ≡ l = cc in subst (λ (y : LinkView). y.number ≡ link) same (eqb-true x.number link is)
+    tested false is later found = later found
+
+first-fits : (link n : ℕ) (ready : List Delivery) (reply : Reply) → n ≡ link → take_first n ready ≡ Ok reply → Fits (op.Take link) reply.given
+first-fits link n [] reply same h = absurd cc
+first-fits link n (d ∷ ready) reply same h =
     let e : take_reply n d ≡ reply = cc in
-    subst (λ (r : Reply). Fits (op.Take link) r.given) e tt
+    subst (λ (r : Reply). Fits (op.Take link) r.given) e same
 
-unless-fits : (b : Bool) (link n : ℕ) (ready : List Delivery) (reply : Reply) → unless b refusal.WrongRole (take_first n ready) ≡ Ok reply → Fits (op.Take link) reply.given
-unless-fits true link n ready reply h = absurd cc
-unless-fits false link n ready reply h = first-fits link n ready reply h
+unless-fits : (b : Bool) (link n : ℕ) (ready : List Delivery) (reply : Reply) → n ≡ link → unless b refusal.WrongRole (take_first n ready) ≡ Ok reply → Fits (op.Take link) reply.given
+unless-fits true link n ready reply same h = absurd cc
+unless-fits false link n ready reply same h = first-fits link n ready reply same h
 
-found-fits : (o : Option LinkView) (link : ℕ) (reply : Reply)
+found-fits : (o : Option LinkView) (link : ℕ) (reply : Reply) → ((l : LinkView) → o ≡ Some l → l.number ≡ link)
     → if_there o refusal.NoLink (λ (l : LinkView). unless (not (same_role Receiver l.role)) refusal.WrongRole (take_first l.number l.ready)) ≡ Ok reply
     → Fits (op.Take link) reply.given
-found-fits None link reply h = absurd cc
-found-fits (Some l) link reply h = unless-fits (not (same_role Receiver l.role)) link l.number l.ready reply h
+found-fits None link reply same h = absurd cc
+found-fits (Some l) link reply same h = unless-fits (not (same_role Receiver l.role)) link l.number l.ready reply (same l refl) h
 
 full-fits : (b : Bool) (v : View) (link : ℕ) (reply : Reply) → cond b (Err refusal.JournalFull) (take_answer v link) ≡ Ok reply → Fits (op.Take link) reply.given
 full-fits true v link reply h = absurd cc
-full-fits false v link reply h = found-fits (find (has_number link) v.links) link reply h
+full-fits false v link reply h = found-fits (find (has_number link) v.links) link reply (found-number link v.links) h
 
 due-fits : (l : Log) (link : ℕ) (reply : Reply) → own_due l (op.Take link) ≡ Ok reply → Fits (op.Take link) reply.given
 unfolding own_due

@@ -8,6 +8,10 @@ found f [] i h = absurd (omega (arith, h))
 found f (x ∷ xs) zero h = (x, (λ p. refl), λ d. refl)
 found f (x ∷ xs) (suc i) h = found f xs i (omega (arith, h))
 
+-- and by whatever default the list that was mapped is read
+pub mapped : {X Y : Type 0} (f : X → Y) (xs : List X) (i : ℕ) → i < length xs → (p : Y) (d : X) → get_or (map f xs) i p ≡ f (get_or xs i d)
+mapped f xs i h p d = let x = found f xs i h in x.1 p ∙ ap f (sym (x.2 d))
+
 pub if_ok-map : {X E : Type 0} (P Q : X → Type 0) (r : Result X E) → ((x : X) → P x → Q x) → IfOk r P → IfOk r Q
 if_ok-map P Q (Ok x) k h = k x h
 if_ok-map P Q (Err e) k h = tt

@@ -4,3 +4,5 @@ pub mod Rings
 pub mod Found
 pub mod Due
 pub mod Crossing
+pub mod Walks
+pub mod Rounds

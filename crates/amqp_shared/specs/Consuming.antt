@@ -1,15 +1,20 @@
--- What a consumer does, under one lock, with a delivery that it has taken.
-use Rattle.std.specs.Prelude.{ℕ, ◌≡◌, not, false, Some, Result, Ok, Err, IsTrue, IsFalse}
+-- What a consumer does: it takes a delivery, has its work consume it, disposes it and grants its credit, and so on, until it is refused.
+use Rattle.std.specs.Prelude.{ℕ, zero, suc, ◌≡◌, ◌⊎◌, not, false, Some, Result, Ok, Err, IsTrue, IsFalse}
 use Rattle.amqp_performatives.specs.declared.bodies.Role.TheVariants.{Receiver}
 use Rattle.amqp_performatives.specs.declared.state.DeliveryState.{DeliveryState}
 use Rattle.amqp_rules.specs.declared.op.Op.{Op}
 use Rattle.amqp_rules.specs.declared.op.Op.TheVariants as op
 use Rattle.amqp_rules.specs.declared.reply.Given.{Given}
+use Rattle.amqp_rules.specs.declared.reply.Given.TheVariants as given
 use Rattle.amqp_rules.specs.declared.reply.Taken.{Taken}
 use Rattle.amqp_rules.specs.declared.refusal.Refusal.{Refusal}
 use Rattle.amqp_rules.specs.declared.refusal.Refusal.TheVariants as refusal
+use Rattle.amqp_journal.specs.declared.receipt.Receipt.{Receipt}
 use Rattle.amqp_conn.specs.Connection.{Connection}
-use Rattle.amqp_shared.specs.Session.{Makes, IsRefused}
+use Rattle.amqp_shared.specs.Passes.{Tally, after}
+use Rattle.amqp_shared.specs.Session.{Makes, IsRefused, EndsWait}
+
+-- # What is asked for a delivery that was taken
 
 -- the state is told of this delivery alone, which it settles unless the sender is to settle first (part 2, 2.7.3)
 abbrev pub disposing : Taken → DeliveryState → Op
@@ -19,25 +24,81 @@ disposing t s = op.Dispose Receiver t.id t.id (not t.second) (Some s)
 abbrev pub granting : Taken → ℕ → Op
 granting t credit = op.Grant t.link credit false false
 
+-- whatever an operation does to what is seen of it
+module _ {S : Type 0} (Does : S → Op → Result (Unit {0}) Refusal → S → Type 0) where
+  -- its state is told, but of a delivery that came settled
+  pub record Disposes (old : S) (t : Taken) (s : DeliveryState) (result : Result (Unit {0}) Refusal) (new : S) : Type 0 where
+    pub told : IsFalse t.settled → Does old (disposing t s) result new
+    pub settled : IsTrue t.settled → (result ≡ Ok tt) × (new ≡ old)
+
+  -- after this answer to telling the state, credit is granted: also where the peer has settled the delivery meanwhile
+  abbrev pub GrantsAfter : Result (Unit {0}) Refusal → S → Op → Result (Unit {0}) Refusal → S → Type 0
+  GrantsAfter (Ok done) old grant result new = Does old grant result new
+  GrantsAfter (Err refusal.NothingHeld) old grant result new = Does old grant result new
+  GrantsAfter (Err e) old grant result new = (result ≡ Err e) × (new ≡ old)
+
+  -- the delivery is disposed, and then its credit is granted
+  pub record Settles (old : S) (t : Taken) (s : DeliveryState) (credit : ℕ) (result : Result (Unit {0}) Refusal) (new : S) : Type 0 where
+    pub answer : Result (Unit {0}) Refusal
+    pub between : S
+    pub disposes : Disposes old t s answer between
+    pub grants : GrantsAfter answer between (granting t credit) result new
+
+-- # What it does to the session that the lock lends
+
 -- the operation was done; or it was refused for this reason, and nothing has changed
 abbrev pub Tells : Connection → Op → Result (Unit {0}) Refusal → Connection → Type 0
 Tells old o (Ok done) new = (gives : Given) × Makes old o gives new
 Tells old o (Err e) new = IsRefused old o e × (new ≡ old)
 
--- its state is told, but of a delivery that came settled
-pub record Disposes (old : Connection) (t : Taken) (s : DeliveryState) (result : Result (Unit {0}) Refusal) (new : Connection) : Type 0 where
-  pub told : IsFalse t.settled → Tells old (disposing t s) result new
-  pub settled : IsTrue t.settled → (result ≡ Ok tt) × (new ≡ old)
+-- # What the pass says of it
 
--- after this answer to telling the state, credit is granted: also where the peer has settled the delivery meanwhile
-abbrev pub GrantsAfter : Result (Unit {0}) Refusal → Connection → Op → Result (Unit {0}) Refusal → Connection → Type 0
-GrantsAfter (Ok done) old grant result new = Tells old grant result new
-GrantsAfter (Err refusal.NothingHeld) old grant result new = Tells old grant result new
-GrantsAfter (Err e) old grant result new = (result ≡ Err e) × (new ≡ old)
+-- the pass says that this was asked, and that it was done or refused for this reason
+abbrev pub Asks : Tally → Op → Result (Unit {0}) Refusal → Tally → Type 0
+Asks old o (Ok done) new = (r : Receipt × Given) × (new ≡ after o (Ok r) old)
+Asks old o (Err e) new = new ≡ after o (Err e) old
 
--- the delivery is disposed, and then its credit is granted
-pub record Settles (old : Connection) (t : Taken) (s : DeliveryState) (credit : ℕ) (result : Result (Unit {0}) Refusal) (new : Connection) : Type 0 where
-  pub answer : Result (Unit {0}) Refusal
-  pub between : Connection
-  pub disposes : Disposes old t s answer between
-  pub grants : GrantsAfter answer between (granting t credit) result new
+-- the pass says that this delivery was taken of this link; or why none was, and it was waited for
+abbrev pub Takes : ℕ → Tally → Result Taken Refusal → Tally → Type 0
+Takes link old (Ok t) new = (r : Receipt) × (new ≡ after (op.Take link) (Ok (r, given.Taken t)) old) × (t.link ≡ link)
+Takes link old (Err e) new = (new ≡ after (op.Take link) (Err e) old) × EndsWait e
+
+-- a consumer as it goes on: its pass, and its work
+pub record Goer (W : Type 0) : Type 0 where
+  pub pass : Tally
+  pub work : W
+
+module _ {W : Type 0} (consumes : W → Taken → DeliveryState → W → Type 0) (link credit : ℕ) where
+  -- One round: the pass says that a delivery was taken of the link and settled with a state, and this answer; the work has consumed just that delivery,
+  -- and said that state.
+  pub record Round (old : Goer W) (result : Result (Unit {0}) Refusal) (new : Goer W) : Type 0 where
+    pub delivery : Taken
+    pub state : DeliveryState
+    pub between : Tally
+    pub takes : Takes link old.pass (Ok delivery) between
+    pub consumed : consumes old.work delivery state new.work
+    pub settles : Settles Asks between delivery state credit result new.pass
+
+  -- so many rounds, none of them refused
+  abbrev pub Rounds : ℕ → Goer W → Goer W → Type 0
+  Rounds zero old new = new ≡ old
+  Rounds (suc n) old new = (between : Goer W) × Rounds n old between × Round between (Ok tt) new
+
+  -- after rounds no delivery could be taken any more
+  pub record EndsTaking (old : Goer W) (count : ℕ) (stopped : Refusal) (new : Goer W) : Type 0 where
+    pub between : Goer W
+    pub rounds : Rounds count old between
+    pub takes : Takes link between.pass (Err stopped) new.pass
+    pub rests : new.work ≡ between.work
+
+  -- after rounds one more was refused
+  pub record EndsSettling (old : Goer W) (count : ℕ) (stopped : Refusal) (new : Goer W) : Type 0 where
+    pub before : ℕ
+    pub counted : count ≡ suc before
+    pub between : Goer W
+    pub rounds : Rounds before old between
+    pub last : Round between (Err stopped) new
+
+  -- so many deliveries were consumed, until this stopped it
+  abbrev pub Runs : Goer W → ℕ → Refusal → Goer W → Type 0
+  Runs old count stopped new = EndsTaking old count stopped new ⊎ EndsSettling old count stopped new

@@ -1,5 +1,9 @@
 -- Passes: shares of the right to make steps, each with the number of those made by it.
-use Rattle.std.specs.Prelude.{ℕ, ◌≡◌, ◌≢◌, ◌≤◌, ◌+◌, ◌*◌, cond, Result, Ok, Err, Option, List, sum_by}
+use Rattle.std.specs.Prelude.{ℕ, ◌≡◌, ◌≢◌, ◌+◌, cond, Result, Ok, Err, Option, List, ◌∷◌, sum_by}
+use Rattle.amqp_rules.specs.declared.op.Op.{Op}
+use Rattle.amqp_rules.specs.declared.reply.Given.{Given}
+use Rattle.amqp_rules.specs.declared.refusal.Refusal.{Refusal}
+use Rattle.amqp_journal.specs.declared.receipt.Receipt.{Receipt}
 use Rattle.amqp_conn.specs.declared.fault.ConnFault.{ConnFault}
 use Rattle.amqp_conn.specs.declared.fed.Fed.{Fed}
 use Rattle.amqp_conn.specs.Connection.{Connection}
@@ -7,13 +11,24 @@ use Rattle.amqp_shared.specs.Ring.{Ring}
 use Rattle.amqp_shared.specs.declared.refused.CloseReason.{CloseReason}
 use Rattle.amqp_shared.specs.declared.refused.CloseReason.TheVariants.{PassesMissing, NoMemory}
 
--- what a pass says
+-- what a call answers
+abbrev pub Answer : Type 0
+Answer = Result (Receipt × Given) Refusal
+
+-- What a pass says: its parts, the steps that were made by it, and what its calls have asked and were answered, the newest first. A step that octets
+-- make is counted, and nothing was asked by it.
 pub record Tally : Type 0 where
   pub parts : ℕ
   pub made : ℕ
+  pub asked : List (Op × Answer)
 
 abbrev pub raised : Tally → Tally
 raised t = record t { made = t.made + 1 }
+
+-- a call was answered so: one step more where it was done
+abbrev pub after : Op → Answer → Tally → Tally
+after o (Ok r) t = record t { made = t.made + 1; asked = (o, Ok r) ∷ t.asked }
+after o (Err e) t = record t { asked = (o, Err e) ∷ t.asked }
 
 abbrev pub total_parts : List Tally → ℕ
 total_parts passes = sum_by (λ (p : Tally). p.parts) passes
@@ -30,18 +45,6 @@ steps_fed (Err e) = 0
 abbrev pub CountsStep : Result Fed ConnFault → Tally → Tally → Type 0
 CountsStep result old new = new ≡ record old { made = old.made + steps_fed result }
 
--- so many steps were made at most
-pub record StepsUpTo (most : ℕ) (old new : Tally) : Type 0 where
-  pub parts : new.parts ≡ old.parts
-  pub least : old.made ≤ new.made
-  pub up_to : new.made ≤ old.made + most
-
--- for each item one to three steps were made
-pub record Raised (old new : Tally) (count : ℕ) : Type 0 where
-  pub parts : new.parts ≡ old.parts
-  pub least : old.made + count ≤ new.made
-  pub most : new.made ≤ old.made + 3 * count
-
 -- Of passes with these parts, which made so many steps of a journal of that length: some are missing only where their steps are not the journal's, and
 -- none where all parts are there; both numbers are told. Want of memory is told only where none are found missing.
 abbrev pub IsCloseReason : ℕ → ℕ → ℕ → CloseReason → Type 0
@@ -56,6 +59,8 @@ pub record Planted : Type 0 where
   pub name : ℕ
   pub parts : ℕ
   pub ring : Option Ring
+  -- how many units the ring has room for
+  pub room : ℕ
 
 -- the name that these members are of is the seed's
 pub record IsNamed (seed : Planted) (name parts : ℕ) (ring : Option Ring) : Type 0 where

@@ -49,9 +49,9 @@ IsRefused c o e = IsRefusal refusal.NoMemory (due_in c.core.phase c.core.log o) 
 abbrev pub IsDone : Op → Given → Connection → Type 0
 IsDone o gives new = (old : Connection) × Makes old o gives new
 
--- taking gives a delivery
+-- taking gives a delivery of that link
 abbrev pub Fits : Op → Given → Type 0
-Fits (op.Take link) (given.Taken t) = Unit {0}
+Fits (op.Take link) (given.Taken t) = t.link ≡ link
 Fits (op.Take link) given.Nothing = ⊥
 Fits (op.Take link) (given.Link k) = ⊥
 Fits (op.Take link) (given.Offered k) = ⊥

@@ -1,12 +1,14 @@
 -- What a step may make possible for those who wait, and who is told of it. A caller waits for credit or a window, for a delivery, or for what the peer
 -- tells of a delivery; a writer waits for units.
-use Rattle.std.specs.Prelude.{ℕ, ◌≡◌, ◌-◌, ◌||◌, Bool, true, false, cond, nat_le, nat_lt, Option, Some, None, Result, Ok, Err, List, length, slice_get}
+use Rattle.std.specs.Prelude.{ℕ, ◌≡◌, ◌<◌, ◌-◌, ◌||◌, Bool, true, false, IsFalse, cond, nat_le, nat_lt, Option, Some, None, Result, Ok, Err, List, length, drop, slice_get}
 use Rattle.amqp_performatives.specs.declared.performative.Performative.{Performative}
 use Rattle.amqp_performatives.specs.declared.performative.Performative.TheVariants as says
 use Rattle.amqp_rules.specs.declared.op.Op.{Op}
 use Rattle.amqp_rules.specs.declared.op.Op.TheVariants as op
 use Rattle.amqp_rules.specs.declared.reply.Given.{Given}
 use Rattle.amqp_rules.specs.declared.reply.Given.TheVariants as given
+use Rattle.amqp_rules.specs.declared.refusal.Refusal.{Refusal}
+use Rattle.amqp_rules.specs.declared.refusal.Refusal.TheVariants as refusal
 use Rattle.amqp_laws.specs.declared.entry.Entry.{Entry}
 use Rattle.amqp_laws.specs.declared.entry.Step.{Step}
 use Rattle.amqp_laws.specs.declared.entry.Step.TheVariants.{Opened, Own, Heard}
@@ -17,6 +19,7 @@ use Rattle.amqp_conn.specs.declared.fault.ConnFault.{ConnFault}
 use Rattle.amqp_conn.specs.declared.fault.ConnFault.TheVariants as fault
 use Rattle.amqp_conn.specs.declared.fed.Fed.{Fed}
 use Rattle.amqp_conn.specs.Connection.{Connection}
+use Rattle.amqp_shared.specs.Session.{IsRefused}
 use Rattle.amqp_shared.specs.declared.waiting.Want.{Want}
 use Rattle.amqp_shared.specs.declared.waiting.Want.TheVariants.{Room, Delivery, Outcome}
 use Rattle.amqp_shared.specs.declared.waiting.Change.{Change}
@@ -68,10 +71,14 @@ abbrev pub is_ended : Phase → Bool
 is_ended phase.Closed = true
 is_ended _ = false
 
+-- the entries that were not forgotten: that of a step just made is the last
+abbrev pub kept : Connection → List Entry
+kept c = drop c.core.log.forgotten c.core.log.journal
+
 -- Octets bring what their step does. The peer's close and a fault end all; want of memory has changed nothing.
 abbrev pub brought_by_feed : Connection → Result Fed ConnFault → Change
 brought_by_feed c (Ok fed) =
-    cond fed.stepped (brought_in (slice_get c.core.log.journal (length c.core.log.journal - 1)) fed.given) (cond (is_ended c.core.phase) Ends Nothing)
+    cond fed.stepped (brought_in (slice_get (kept c) (length (kept c) - 1)) fed.given) (cond (is_ended c.core.phase) Ends Nothing)
 brought_by_feed c (Err fault.NoMemory) = Nothing
 brought_by_feed c (Err _) = Ends
 
@@ -88,6 +95,19 @@ brought c change = cond (is_full c) Ends change
 abbrev pub awaited_by : Op → Want
 awaited_by (op.Learn link) = Outcome
 awaited_by _ = Delivery
+
+-- what a call waits for that is refused so; with any other refusal it does not wait
+abbrev pub wanted : Op → Refusal → Option Want
+wanted o refusal.NoCredit = Some Room
+wanted o refusal.NoWindow = Some Room
+wanted o refusal.Nothing = Some (awaited_by o)
+wanted o e = None
+
+-- a call is to wait for this: it is refused here for want of it
+pub record IsAwaited (c : Connection) (o : Op) (want : Want) : Type 0 where
+  pub reason : Refusal
+  pub refused : IsRefused c o reason
+  pub is_wanted : wanted o reason ≡ Some want
 
 abbrev pub waits_for : Want → Waiters → Bool
 waits_for Room w = w.room
@@ -107,6 +127,12 @@ least_awaited (Some least) seen = cond (nat_le least seen) least seen
 -- units past this number are awaited too: the least number of all who wait stands for them
 abbrev pub with_units : ℕ → Waiters → Waiters
 with_units seen w = record w { units = Some (least_awaited w.units seen) }
+
+-- what a writer that has seen so many units is told of a connection: how many were put out, and whether it has ended; more than it has seen, or its end
+pub record IsNews (seen : ℕ) (c : Connection) (told : ℕ × Bool) : Type 0 where
+  pub count : told.0 ≡ length (units c.core.log)
+  pub ended : told.1 ≡ is_ended c.core.phase
+  pub past : IsFalse told.1 → seen < told.0
 
 -- # Who is told
 

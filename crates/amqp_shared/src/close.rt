@@ -27,7 +27,7 @@ pub struct Closed {
 
 /// Why a shared connection was not taken apart, with all that was handed in.
 #[derive(Drop)]
-pub struct CloseRefusal<N: Name> {
+pub struct NotClosed<N: Name> {
     pub reason: CloseReason,
     /// What lay under the lock.
     pub locked: Locked<N>,
@@ -35,18 +35,26 @@ pub struct CloseRefusal<N: Name> {
     pub writer: WriterEnd<N>,
 }
 
-impl<N: Name> CloseRefusal<N> {
+impl<N: Name> NotClosed<N> {
     /// All that was handed in, to go on with.
     pub fn into_parts(self) -> (Shared<N>, Vec<Pass<N>>, WriterEnd<N>)
         ensures { (result.1.items ≡ self.passes.items) × (result.2 ≡ self.writer) }
     {
-        let CloseRefusal {
+        let (locked, passes, writer) = self.all();
+        (Shared::new(locked), passes, writer)
+    }
+
+    /// The same, before it is shared again.
+    fn all(self) -> (Locked<N>, Vec<Pass<N>>, WriterEnd<N>)
+        ensures { (result.0 ≡ self.locked) × (result.1.items ≡ self.passes.items) × (result.2 ≡ self.writer) }
+    {
+        let NotClosed {
             reason: _,
             locked,
             passes,
             writer,
         } = self;
-        (Shared::new(locked), passes, writer)
+        (locked, passes, writer)
     }
 }
 
@@ -59,11 +67,7 @@ impl<N: Name> Shared<N> {
     ///
     /// `PassesMissing` where the given passes have not made the journal's steps, and never where all 65536 parts are there; `NoMemory`.
     /// All is handed back as it was.
-    pub fn close(
-        self,
-        passes: Vec<Pass<N>>,
-        writer: WriterEnd<N>,
-    ) -> Result<Closed, CloseRefusal<N>>
+    pub fn close(self, passes: Vec<Pass<N>>, writer: WriterEnd<N>) -> Result<Closed, NotClosed<N>>
         ensures units { IfOk result (λ c. writer ++ c.left.items ≡ units_of c.conn) }
         ensures none_waits { IfOk result (λ c. backlog_of c.conn ≡ []) }
         ensures taken { IfOk result (λ c. c.taken ≡ length writer) }
@@ -82,7 +86,7 @@ fn close<N: Name>(
     locked: Locked<N>,
     passes: Vec<Pass<N>>,
     writer: WriterEnd<N>,
-) -> Result<Closed, CloseRefusal<N>>
+) -> Result<Closed, NotClosed<N>>
     ensures conn { IfOk result (λ c. MovesUnits locked.conn c.conn) }
     ensures units { IfOk result (λ c. writer ++ c.left.items ≡ units_of c.conn) }
     ensures none_waits { IfOk result (λ c. backlog_of c.conn ≡ []) }
@@ -92,10 +96,10 @@ fn close<N: Name>(
     ensures back { IfErr result (λ e. (e.locked ≡ locked) × (e.passes.items ≡ passes.items) × (e.writer ≡ writer)) }
 {
     let (parts, made) = totals(passes.as_slice());
-    let steps = locked.conn().logged().journal().len() as u64;
+    let steps = locked.conn().logged().steps() as u64;
     if is_missing(parts, made, steps) {
         let reason = CloseReason::PassesMissing { made, steps };
-        return Err(CloseRefusal {
+        return Err(NotClosed {
             reason,
             locked,
             passes,
@@ -105,7 +109,7 @@ fn close<N: Name>(
     let count = locked.put_out().saturating_sub(writer.taken()) as usize;
     match Vec::with_capacity(*passes.allocator(), count) {
         Ok(left) => Ok(take_apart(locked, parts, passes, writer, left)),
-        Err(_) => Err(CloseRefusal {
+        Err(_) => Err(NotClosed {
             reason: CloseReason::NoMemory,
             locked,
             passes,

@@ -38,6 +38,7 @@ fn gather<N: Name>(passes: Vec<Pass<N>>) -> Option<Share<N>>
         share,
         parts: _,
         made: _,
+        asked: _,
     } = passes.pop()?;
     let mut share = share;
     while let Some(pass) = passes.pop() {
@@ -45,6 +46,7 @@ fn gather<N: Name>(passes: Vec<Pass<N>>) -> Option<Share<N>>
             share: other,
             parts: _,
             made: _,
+            asked: _,
         } = pass;
         share.merge(other);
     }

@@ -1,8 +1,8 @@
 //! Threads that take deliveries and settle them.
-ghost use Rattle.std.specs.Prelude.{◌≡◌, ℕ, ◌<◌, ◌^◌, map, slice_index_or, vec_len, IfOk, OnOk, OnErr};
+ghost use Rattle.std.specs.Prelude.{◌≡◌, ℕ, ◌<◌, ◌^◌, map, slice_index_or, vec_len, IfOk};
 ghost use Rattle.std.specs.Sync.Mutex.{mutex_guard_value};
-ghost use Rattle.amqp_shared.specs.Consuming.{Tells, Disposes, Settles};
-ghost use Rattle.amqp_shared.specs.Passes.{Tally, Raised, StepsUpTo, raised};
+ghost use Rattle.amqp_shared.specs.Consuming.{Tells, Asks, Takes, Disposes, Settles, Runs};
+ghost use Rattle.amqp_shared.specs.Passes.{Tally};
 
 use crate::locked::Locked;
 use crate::name::Name;
@@ -17,10 +17,18 @@ use std::sync::{MutexGuard, Wait};
 use std::thread;
 use std::thread::Threads;
 
-/// What a consumer does with a delivery.
+/// What a consumer does with a delivery. A work may say by `consumes` which states it gives to which deliveries, and what it is then: `run_consumers`
+/// tells what it did with each in these words.
 pub trait Work {
+    ghost use Rattle.std.specs.Prelude.{⊤};
+    ghost use Rattle.amqp_performatives.specs.declared.state.DeliveryState.{DeliveryState};
+    ghost use Rattle.amqp_rules.specs.declared.reply.Taken.{Taken};
+
+    ghost consumes: { Self → Taken → DeliveryState → Self → Type 0 } = { λ _ _ _ _. ⊤ };
+
     /// Consumes a delivery, and says its state (part 3, 3.4). It is called without the lock.
-    fn consume(&mut self, item: &Taken) -> DeliveryState;
+    fn consume(&mut self, item: &Taken) -> DeliveryState
+        ensures { Self.consumes self.old item.now result self.new };
 }
 
 /// What a consumer hands back.
@@ -50,8 +58,7 @@ fn take_next<N: Name, R: Wait>(
     pass: &mut Pass<N>,
     link: u32,
 ) -> Result<Taken, Refusal>
-    ensures ok { OnOk result (pass.new ≡ raised pass.old) }
-    ensures err { OnErr result (pass.new ≡ pass.old) }
+    ensures takes { Takes link pass.old result pass.new }
     ensures range { pass.new.made < 2 ^ 64 }
 {
     let (guard, answer) = shared.call_wait(rt, shared.lock(rt), pass, &Op::Take { link });
@@ -72,8 +79,7 @@ fn apply<N: Name>(
     op: Op,
 ) -> Result<(), Refusal>
     ensures tells { Tells (mutex_guard_value guard.old).conn op result (mutex_guard_value guard.new).conn }
-    ensures ok { OnOk result (pass.new ≡ raised pass.old) }
-    ensures err { OnErr result (pass.new ≡ pass.old) }
+    ensures asks { Asks pass.old op result pass.new }
 {
     let answer = shared.call(guard, pass, &op);
     drop(op);
@@ -94,8 +100,8 @@ fn dispose<N: Name>(
     item: &Taken,
     state: DeliveryState,
 ) -> Result<(), Refusal>
-    ensures disposes { Disposes (mutex_guard_value guard.old).conn item.now state result (mutex_guard_value guard.new).conn }
-    ensures pass { StepsUpTo 1 pass.old pass.new }
+    ensures disposes { Disposes Tells (mutex_guard_value guard.old).conn item.now state result (mutex_guard_value guard.new).conn }
+    ensures pass { Disposes Asks pass.old item.now state result pass.new }
 {
     if item.settled {
         drop(state);
@@ -120,8 +126,8 @@ fn dispose_and_grant<N: Name>(
     state: DeliveryState,
     credit: u32,
 ) -> Result<(), Refusal>
-    ensures settles { Settles (mutex_guard_value guard.old).conn item.now state credit result (mutex_guard_value guard.new).conn }
-    ensures pass { StepsUpTo 2 pass.old pass.new }
+    ensures settles { Settles Tells (mutex_guard_value guard.old).conn item.now state credit result (mutex_guard_value guard.new).conn }
+    ensures pass { Settles Asks pass.old item.now state credit result pass.new }
 {
     match dispose(shared, guard, pass, item, state) {
         Ok(()) | Err(Refusal::NothingHeld) => {
@@ -146,7 +152,7 @@ fn settle<N: Name, R: Wait>(
     state: DeliveryState,
     credit: u32,
 ) -> Result<(), Refusal>
-    ensures { StepsUpTo 2 pass.old pass.new }
+    ensures { Settles Asks pass.old item.now state credit result pass.new }
 {
     let mut guard = shared.lock(rt);
     dispose_and_grant(shared, &mut guard, pass, item, state, credit)
@@ -158,7 +164,7 @@ fn consume_all<N: Name, W: Work, R: Wait>(
     shared: &Shared<N>,
     job: Job<N, W>,
 ) -> Consumed<N, W>
-    ensures { Raised job.pass result.pass result.count }
+    ensures { Runs W.consumes job.link job.credit (record { pass = job.pass; work = job.work }) result.count result.stopped (record { pass = result.pass; work = result.work }) }
 {
     let Job {
         pass,
@@ -198,8 +204,8 @@ fn consume_all<N: Name, W: Work, R: Wait>(
 
 /// One thread for each work: it takes deliveries of the link as they come, consumes each, disposes it unless it came settled, and grants the
 /// credit again (so many deliveries in all may come), until an operation is refused. It returns once each has stopped: not while the connection runs
-/// and refuses nothing. Each hands back its pass, raised by one to three for each delivery that it consumed. None of either is allowed, and gives an
-/// empty list.
+/// and refuses nothing. Each hands back its pass, which says what it asked and was answered: a step for each delivery that it took, one where it
+/// disposed it, and one where it granted. None of either is allowed, and gives an empty list.
 ///
 /// # Errors
 ///
@@ -214,7 +220,7 @@ pub fn run_consumers<N: Name + Send + Sync, W: Work + Send + Drop, R: Threads + 
 ) -> Result<Vec<Consumed<N, W>>, AllocError>
     requires { vec_len passes ≡ vec_len works }
     ensures len { IfOk result (λ v. vec_len v ≡ vec_len passes) }
-    ensures each { IfOk result (λ v. (i : ℕ) (p : Tally) (d : _) → i < vec_len passes → Raised (slice_index_or passes.items i p) (slice_index_or v.items i d).pass (slice_index_or v.items i d).count) }
+    ensures each { IfOk result (λ v. (i : ℕ) (p : Tally) (w : _) (d : _) → i < vec_len passes → Runs W.consumes link credit (record { pass = slice_index_or passes.items i p; work = slice_index_or works.items i w }) (slice_index_or v.items i d).count (slice_index_or v.items i d).stopped (record { pass = (slice_index_or v.items i d).pass; work = (slice_index_or v.items i d).work })) }
 {
     match jobs_of(passes, works, link, credit) {
         Ok(jobs) => run_jobs(rt, shared, jobs),
@@ -231,6 +237,9 @@ fn jobs_of<N: Name, W: Drop>(
 ) -> Result<Vec<Job<N, W>>, AllocError>
     requires { vec_len passes ≡ vec_len works }
     ensures passes { IfOk result (λ jobs. map (λ job. job.pass) jobs.items ≡ passes.items) }
+    ensures works { IfOk result (λ jobs. map (λ job. job.work) jobs.items ≡ works.items) }
+    ensures links { IfOk result (λ jobs. map (λ job. job.link) jobs.items ≡ map (λ (p : Tally). link) passes.items) }
+    ensures credits { IfOk result (λ jobs. map (λ job. job.credit) jobs.items ≡ map (λ (p : Tally). credit) passes.items) }
 {
     let mut jobs = Vec::with_capacity(*passes.allocator(), passes.len())?;
     for (pass, work) in passes.into_iter().zip(works) {
@@ -250,13 +259,13 @@ fn run_jobs<N: Name + Send + Sync, W: Work + Send + Drop, R: Threads + Wait + Sy
     jobs: Vec<Job<N, W>>,
 ) -> Result<Vec<Consumed<N, W>>, AllocError>
     ensures len { IfOk result (λ v. vec_len v ≡ vec_len jobs) }
-    ensures each { IfOk result (λ v. (i : ℕ) (j : _) (d : _) → i < vec_len jobs → Raised (slice_index_or jobs.items i j).pass (slice_index_or v.items i d).pass (slice_index_or v.items i d).count) }
+    ensures each { IfOk result (λ v. (i : ℕ) (j : _) (d : _) → i < vec_len jobs → Runs W.consumes (slice_index_or jobs.items i j).link (slice_index_or jobs.items i j).credit (record { pass = (slice_index_or jobs.items i j).pass; work = (slice_index_or jobs.items i j).work }) (slice_index_or v.items i d).count (slice_index_or v.items i d).stopped (record { pass = (slice_index_or v.items i d).pass; work = (slice_index_or v.items i d).work })) }
 {
     thread::map_vec(
         rt,
         jobs,
         &|job: Job<N, W>| -> Consumed<N, W>
-            ensures { Raised job.pass result.pass result.count }
+            ensures { Runs W.consumes job.link job.credit (record { pass = job.pass; work = job.work }) result.count result.stopped (record { pass = result.pass; work = result.work }) }
         { consume_all(rt, shared, job) },
     )
 }

@@ -29,7 +29,7 @@ pub(crate) fn recall(conn: &Conn)
     ensures short { length conn.now.core.log.journal < 2 ^ 63 }
 {
     let _ = conn.logged().put_out();
-    let _ = conn.logged().journal().len();
+    let _ = conn.logged().steps();
 }
 
 pub(crate) fn do_operation(conn: &mut Conn, op: &Op) -> Result<Given, Refusal>

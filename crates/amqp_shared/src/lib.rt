@@ -5,7 +5,7 @@
 //! |---|---|
 //! | `shared` | `Shared`: the lock, and the calls on the session that it lends |
 //! | `locked` | what lies under the lock: the connection, the book of its passes, and the end of the ring that is pushed to |
-//! | `pass` | `Pass`: a share of the right to make steps, with the number of those made by it |
+//! | `pass`, `history` | `Pass`: a share of the right to make steps, with the number of those made by it, and what clauses know of its calls |
 //! | `writer` | `WriterEnd`: from which units are written to a socket, without the lock |
 //! | `consumers` | threads that take deliveries and settle them |
 //! | `seed`, `name` | a connection before it is shared, and what tells one shared connection's passes and ring from another's |
@@ -49,6 +49,7 @@ mod close;
 mod closing;
 mod consumers;
 mod growing;
+mod history;
 mod locked;
 mod name;
 mod pass;
@@ -59,7 +60,17 @@ mod shared;
 mod waiting;
 mod writer;
 
-pub use close::{CloseRefusal, Closed};
+pub use amqp_conn::{CloseRefusal, Config, Conn, ConnFault, Fed, Phase, StartFault};
+pub use amqp_frames::{AmqpError, DeliveryState, Role};
+pub use amqp_journal::receipt::Receipt;
+pub use amqp_journal::unit::Unit;
+pub use amqp_rules::op::Op;
+pub use amqp_rules::refusal::Refusal;
+pub use amqp_rules::reply::{Given, Learned, Taken};
+pub use amqp_rules::violation::{Violation, ViolationKind};
+pub use amqp_types::{Boxed, Tag, Text};
+pub use bytes::Bytes;
+pub use close::{Closed, NotClosed};
 pub use consumers::{Consumed, Work, run_consumers};
 pub use locked::Locked;
 pub use name::{Name, Numbered};

@@ -3,7 +3,7 @@ ghost use Rattle.std.specs.Prelude.{◌≡◌, ◌≢◌, ◌<◌, ◌≤◌, �
 ghost use Rattle.amqp_journal.specs.Units.{units};
 ghost use Rattle.amqp_conn.specs.Connection.{connection, in_phase};
 ghost use Rattle.amqp_conn.specs.Feeding.{Feeds, MovesOn};
-ghost use Rattle.amqp_conn.specs.Calling.{Closes};
+ghost use Rattle.amqp_conn.specs.Calling.{Closes, forgotten};
 ghost use Rattle.amqp_shared.specs.Passes.{raised, CountsStep};
 ghost use Rattle.amqp_shared.specs.Session.{Makes, IsReceipt, IsRefused, Fits};
 ghost use Rattle.amqp_shared.specs.Units.{MovesUnits, unmoved};
@@ -82,6 +82,13 @@ impl<N: Name> Locked<N> {
         self.conn.lost();
     }
 
+    /// Forgets the journal's entries so far.
+    pub(crate) fn forget(&mut self)
+        ensures { self.new ≡ record self.old { conn = forgotten self.old.conn } }
+    {
+        self.conn.forget();
+    }
+
     /// An operation, counted in the pass.
     pub(crate) fn apply(&mut self, pass: &mut Pass<N>, op: &Op) -> Result<(Receipt, Given), Refusal>
         ensures step { IfOk result (λ r. Makes self.old.conn op.now r.1 self.new.conn) }
@@ -94,7 +101,7 @@ impl<N: Name> Locked<N> {
         ensures err { OnErr result ((self.new ≡ self.old) × (pass.new ≡ pass.old)) }
     {
         recall(&self.conn);
-        let place = self.conn.logged().journal().len() as u64;
+        let place = self.conn.logged().steps() as u64;
         match do_operation(&mut self.conn, op) {
             Ok(given) => {
                 raise(&mut self.book, pass, 1);
@@ -217,11 +224,11 @@ impl<N: Name> Locked<N> {
         is_closed(&self.conn)
     }
 
-    /// The journal has as many entries as it may.
+    /// As many steps were made as the journal may have.
     pub(crate) fn is_at_limit(&self) -> bool
         ensures { result ≡ is_full self.now.conn }
     {
-        self.conn.logged().journal().len() >= self.limit as usize
+        self.conn.logged().steps() >= self.limit
     }
 
     /// What is told to a writer that has seen so many units: how many were put out, and whether the connection has ended. None where there are no

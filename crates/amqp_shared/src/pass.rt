@@ -1,27 +1,41 @@
 //! The right to make steps, shared out among threads.
-ghost use Rattle.std.specs.Prelude.{◌≡◌, ◌<◌, ◌≤◌, ◌+◌, ◌^◌, IfSome, IfNone};
+ghost use Rattle.std.specs.Prelude.{◌≡◌, ◌<◌, ◌≤◌, ◌+◌, ◌^◌, [], ◌∷◌, IfSome, IfNone};
 ghost use Rattle.amqp_shared.specs.Passes.{Tally};
 
+use crate::history::History;
 use crate::name::Name;
+use amqp_journal::receipt::Receipt;
+use amqp_rules::op::Op;
+use amqp_rules::refusal::Refusal;
+use amqp_rules::reply::Given;
 use std::marker::Model;
 use std::sync::ledger::Share;
 
+/// What a call answers.
+pub(crate) type Answer = Result<(Receipt, Given), Refusal>;
+
 /// The right to make steps, with the number of those made by it. It has some of the 65536 parts that a connection's right is cut into: when
-/// all come back, their steps are the journal's. Making a step costs its count alone.
+/// all come back, their steps are the journal's. Making a step costs its count alone: what its calls asked and were answered, only
+/// clauses know.
 #[derive(Drop)]
 pub struct Pass<N: Name> {
     pub(crate) share: Share<N>,
     pub(crate) parts: u32,
     pub(crate) made: u64,
+    pub(crate) asked: History<Op, Answer>,
 }
 
 impl<N: Name> Model for Pass<N> {
     ghost use Rattle.std.specs.Prelude.{◌≡◌, ◌<◌, ◌^◌};
     ghost use Rattle.amqp_shared.specs.Passes.{Tally};
+    ghost use Rattle.amqp_types.specs.contracts.value.Value as value;
+    ghost use Rattle.std.specs.Coded.{codes};
 
     ghost Value = { Tally };
 
-    ghost view = { λ p. record { parts = p.parts; made = p.made } };
+    ghost coded = { Prim.hlevel (codes, value.the_row.coded) };
+
+    ghost view = { λ p. record { parts = p.parts; made = p.made; asked = p.asked.items } };
 
     ghost invariant = { λ p. (p.share.parts ≡ p.parts) × (p.share.amount ≡ p.made) × (0 < p.parts) };
 }
@@ -37,7 +51,7 @@ impl<N: Name> Pass<N> {
     /// A pass of its own, with one part of this one, that has made nothing. `None` exactly where this one has one part: a pass that was split
     /// off has one, so splits are made of the first.
     pub fn split(&mut self) -> Option<Pass<N>>
-        ensures some { IfSome result (λ p. (p ≡ record { parts = 1; made = 0 }) × (self.new.parts + 1 ≡ self.old.parts) × (self.new.made ≡ self.old.made)) }
+        ensures some { IfSome result (λ p. (p ≡ record { parts = 1; made = 0; asked = [] }) × (self.new.parts + 1 ≡ self.old.parts) × (self.new.made ≡ self.old.made) × (self.new.asked ≡ self.old.asked)) }
         ensures none { IfNone result ((self.new ≡ self.old) × (self.old.parts ≡ 1)) }
     {
         if self.parts == 1 {
@@ -48,6 +62,14 @@ impl<N: Name> Pass<N> {
             share: self.share.split_off(1, 0),
             parts: 1,
             made: 0,
+            asked: History::new(),
         })
+    }
+
+    /// The newest call: what it asked, and what it was answered.
+    pub(crate) fn note(&mut self, op: &Op, answer: &Answer)
+        ensures { self.new ≡ record self.old { asked = (op.now, answer.now) ∷ self.old.asked } }
+    {
+        self.asked = self.asked.and(op, answer);
     }
 }

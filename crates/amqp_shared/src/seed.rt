@@ -25,7 +25,7 @@ pub struct Seed {
 
 impl Model for Seed {
     ghost use Rattle.std.specs.Prelude.{◌≡◌, []};
-    ghost use Rattle.rtrb.specs.Ring.{sent, received};
+    ghost use Rattle.rtrb.specs.Ring.{sent, received, producer_capacity};
     ghost use Rattle.amqp_shared.specs.Passes.{Planted};
     ghost use Rattle.amqp_shared.specs.Ring.{pushes_to, pops_from};
     ghost use Rattle.amqp_types.specs.contracts.value.Value as value;
@@ -35,7 +35,7 @@ impl Model for Seed {
 
     ghost coded = { Prim.hlevel (codes, value.the_row.coded) };
 
-    ghost view = { λ s. record { conn = s.conn; name = s.blank.name; parts = s.blank.parts; ring = pushes_to s.producer } };
+    ghost view = { λ s. record { conn = s.conn; name = s.blank.name; parts = s.blank.parts; ring = pushes_to s.producer; room = producer_capacity s.producer } };
 
     ghost invariant = { λ s. (s.conn.core.log.journal ≡ []) × (s.conn.core.log.popped ≡ 0) × (sent s.producer ≡ []) × (received s.consumer ≡ []) × (pops_from s.consumer ≡ pushes_to s.producer) × (s.blank.parts ≡ 65536) × (s.limit ≡ s.conn.core.log.config.journal_limit) };
 }
@@ -49,7 +49,7 @@ impl Seed {
     /// `BadConfig` where a setting is out of its limits, or our open is longer than the 512 octets that every peer takes; `NoMemory`.
     pub fn new(alloc: Global, config: Config, ring: usize) -> Result<Seed, StartFault>
         requires { (1 ≤ ring) × (ring ≤ 65536) }
-        ensures { MatchResult result (λ s. IsFit config × (s.conn ≡ connection (new_core config) []) × (s.parts ≡ 65536)) (λ e. IsStartFault e config) }
+        ensures { MatchResult result (λ s. IsFit config × (s.conn ≡ connection (new_core config) []) × (s.parts ≡ 65536) × (s.room ≡ ring)) (λ e. IsStartFault e config) }
     {
         let limit = config.journal_limit;
         match Conn::new(alloc, config) {

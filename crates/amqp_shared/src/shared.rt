@@ -1,20 +1,21 @@
 //! A connection that threads share, and the calls on the session that is lent under its lock.
-ghost use Rattle.std.specs.Prelude.{◌≡◌, ◌≢◌, ◌<◌, ◌≤◌, [], length, drop, false, IfOk, IfErr, OnOk, OnErr, IsFalse};
+ghost use Rattle.std.specs.Prelude.{◌≡◌, ◌≢◌, ◌<◌, ◌≤◌, [], length, drop, true, false, None, IfOk, IfErr, OnOk, OnErr, IsFalse};
 ghost use Rattle.std.specs.Sync.Mutex.{mutex_guard_value};
-ghost use Rattle.amqp_conn.specs.Connection.{connection, in_phase};
+ghost use Rattle.amqp_conn.specs.Connection.{Connection, connection, in_phase};
 ghost use Rattle.amqp_conn.specs.Feeding.{Feeds, MovesOn};
-ghost use Rattle.amqp_conn.specs.Calling.{Closes, due_in};
-ghost use Rattle.amqp_shared.specs.Passes.{IsNamed, raised, CountsStep};
+ghost use Rattle.amqp_conn.specs.Calling.{Closes, due_in, forgotten};
+ghost use Rattle.amqp_shared.specs.Passes.{IsNamed, raised, after, CountsStep};
 ghost use Rattle.amqp_shared.specs.Session.{Makes, IsDone, IsReceipt, IsRefused, Fits, EndsWait, IsDueAtOnce, Calls};
 ghost use Rattle.amqp_shared.specs.Units.{MovesUnits, unmoved};
-ghost use Rattle.amqp_shared.specs.Waking.{IsTold, brought_by_op, brought_by_feed, told_of, told_of_units, with_want, is_ended};
+ghost use Rattle.amqp_shared.specs.Waking.{IsTold, IsAwaited, IsNews, brought_by_op, brought_by_feed, told_of, told_of_units, with_want, is_ended};
 ghost use Rattle.amqp_journal.specs.Units.{units};
 ghost use Rattle.amqp_shared.specs.declared.waiting.Change.TheVariants.{Ends};
 
 use crate::growing::push_units;
+use crate::history::History;
 use crate::locked::Locked;
 use crate::name::Name;
-use crate::pass::Pass;
+use crate::pass::{Answer, Pass};
 use crate::seed::Seed;
 use crate::waiting::{Change, Conditions, Waiters, Want, awaited_by, brought, brought_by};
 use crate::writer::WriterEnd;
@@ -40,7 +41,19 @@ pub struct Shared<N: Name> {
 /// nothing was taken. Who calls it is generic over the name, and is given `std::marker::Brand` for it (`amqp_example` shows how).
 pub fn open_shared<N: Name>(seed: Seed) -> (Shared<N>, Pass<N>, WriterEnd<N>)
     requires { IsNamed seed N.name N.parts N.ring }
-    ensures pass { result.1 ≡ record { parts = 65536; made = 0 } }
+    ensures pass { result.1 ≡ record { parts = 65536; made = 0; asked = [] } }
+    ensures writer { result.2 ≡ [] }
+{
+    let (locked, pass, writer) = open_locked(seed);
+    (Shared::new(locked), pass, writer)
+}
+
+/// The same, before it is shared: the seed's connection lies under the lock, and nobody waits.
+fn open_locked<N: Name>(seed: Seed) -> (Locked<N>, Pass<N>, WriterEnd<N>)
+    requires { IsNamed seed N.name N.parts N.ring }
+    ensures conn { MovesUnits seed.conn result.0.conn }
+    ensures waiters { result.0.waiters ≡ record { units = None; room = false; delivery = false; outcome = false } }
+    ensures pass { result.1 ≡ record { parts = 65536; made = 0; asked = [] } }
     ensures writer { result.2 ≡ [] }
 {
     let Seed {
@@ -54,17 +67,18 @@ pub fn open_shared<N: Name>(seed: Seed) -> (Shared<N>, Pass<N>, WriterEnd<N>)
     let (mut conn, mut producer) = (conn, producer);
     push_units(&mut conn, &mut producer);
     (
-        Shared::new(Locked {
+        Locked {
             conn,
             book,
             producer,
             limit,
             waiters: Waiters::NONE,
-        }),
+        },
         Pass {
             share,
             parts: 65536,
             made: 0,
+            asked: History::new(),
         },
         WriterEnd {
             consumer,
@@ -103,10 +117,27 @@ impl<N: Name> Shared<N> {
         ensures fits { IfOk result (λ r. Fits op.now r.1) }
         ensures receipt { IfOk result (λ r. IsReceipt (mutex_guard_value guard.new).conn.core.log op.now r.1 r.0) }
         ensures place { IfOk result (λ r. pass.old.made ≤ r.0.place) }
+        ensures pass { pass.new ≡ after op.now result pass.old }
+        ensures told { OnOk result (IsTold (brought_by_op op.now) (mutex_guard_value guard.old) (mutex_guard_value guard.new)) }
+        ensures refusal { IfErr result (λ e. IsRefused (mutex_guard_value guard.old).conn op.now e) }
+        ensures err { OnErr result (mutex_guard_value guard.new ≡ mutex_guard_value guard.old) }
+    {
+        let answer = self.attempt(guard, pass, op);
+        pass.note(op, &answer);
+        answer
+    }
+
+    /// `call`, before the pass notes it.
+    fn attempt(&self, guard: &mut MutexGuard<'_, Locked<N>>, pass: &mut Pass<N>, op: &Op) -> Answer
+        ensures step { IfOk result (λ r. Makes (mutex_guard_value guard.old).conn op.now r.1 (mutex_guard_value guard.new).conn) }
+        ensures fits { IfOk result (λ r. Fits op.now r.1) }
+        ensures receipt { IfOk result (λ r. IsReceipt (mutex_guard_value guard.new).conn.core.log op.now r.1 r.0) }
+        ensures place { IfOk result (λ r. pass.old.made ≤ r.0.place) }
         ensures pass { OnOk result (pass.new ≡ raised pass.old) }
         ensures told { OnOk result (IsTold (brought_by_op op.now) (mutex_guard_value guard.old) (mutex_guard_value guard.new)) }
         ensures refusal { IfErr result (λ e. IsRefused (mutex_guard_value guard.old).conn op.now e) }
-        ensures err { OnErr result ((mutex_guard_value guard.new ≡ mutex_guard_value guard.old) × (pass.new ≡ pass.old)) }
+        ensures err { OnErr result (mutex_guard_value guard.new ≡ mutex_guard_value guard.old) }
+        ensures rests { OnErr result (pass.new ≡ pass.old) }
     {
         match guard.apply(pass, op) {
             Ok(done) => {
@@ -199,6 +230,14 @@ impl<N: Name> Shared<N> {
         self.tell(guard, Change::Ends);
     }
 
+    /// Forgets the lent session's entries so far, as `Conn::forget`. The passes' steps are those of the whole
+    /// journal, as before. It wakes nobody.
+    pub fn forget(&self, guard: &mut MutexGuard<'_, Locked<N>>)
+        ensures { mutex_guard_value guard.new ≡ record (mutex_guard_value guard.old) { conn = forgotten (mutex_guard_value guard.old).conn } }
+    {
+        guard.forget();
+    }
+
     /// Moves units to the ring, as many as fit. It takes no memory.
     pub fn move_units(&self, guard: &mut MutexGuard<'_, Locked<N>>)
         ensures moves { MovesUnits (mutex_guard_value guard.old).conn (mutex_guard_value guard.new).conn }
@@ -224,31 +263,67 @@ impl<N: Name> Shared<N> {
         ensures fits { IfOk result.1 (λ r. Fits op.now r.1) }
         ensures receipt { IfOk result.1 (λ r. IsReceipt (mutex_guard_value result.0).conn.core.log op.now r.1 r.0) }
         ensures place { IfOk result.1 (λ r. pass.old.made ≤ r.0.place) }
-        ensures pass { OnOk result.1 (pass.new ≡ raised pass.old) }
+        ensures pass { pass.new ≡ after op.now result.1 pass.old }
         ensures done { IfOk result.1 (λ r. IsDone op.now r.1 (mutex_guard_value result.0).conn) }
         ensures refusal { IfErr result.1 (λ e. IsRefused (mutex_guard_value result.0).conn op.now e × EndsWait e) }
-        ensures err { OnErr result.1 (pass.new ≡ pass.old) }
         ensures at_once { IsDueAtOnce (due_in (mutex_guard_value guard.entry).conn.core.phase (mutex_guard_value guard.entry).conn.core.log op.now) → Calls (mutex_guard_value guard.entry).conn op.now result.1 (mutex_guard_value result.0).conn }
     {
         let mut guard = guard;
         for _ in rt.forever() {
-            match self.call(&mut guard, pass, op) {
-                Err(Refusal::NoCredit | Refusal::NoWindow) => guard = self.wait_for(
-                    rt,
-                    guard,
-                    Want::Room,
-                ),
-                Err(Refusal::Nothing) => guard = self.wait_for(rt, guard, awaited_by(op)),
-                answer => return (guard, answer),
+            match self.turn(&mut guard, pass, op) {
+                Ok(answer) => return (guard, answer),
+                Err(want) => guard = self.conditions.of(want).wait(rt, guard),
             }
         }
         unreachable!()
     }
 
+    /// One turn of a call that waits: what it answers; or what it waits for now, and nothing else has changed.
+    fn turn(
+        &self,
+        guard: &mut MutexGuard<'_, Locked<N>>,
+        pass: &mut Pass<N>,
+        op: &Op,
+    ) -> Result<Answer, Want>
+        ensures step { IfOk result (λ a. IfOk a (λ r. Makes (mutex_guard_value guard.old).conn op.now r.1 (mutex_guard_value guard.new).conn)) }
+        ensures fits { IfOk result (λ a. IfOk a (λ r. Fits op.now r.1)) }
+        ensures receipt { IfOk result (λ a. IfOk a (λ r. IsReceipt (mutex_guard_value guard.new).conn.core.log op.now r.1 r.0)) }
+        ensures place { IfOk result (λ a. IfOk a (λ r. pass.old.made ≤ r.0.place)) }
+        ensures pass { IfOk result (λ a. pass.new ≡ after op.now a pass.old) }
+        ensures refusal { IfOk result (λ a. IfErr a (λ e. IsRefused (mutex_guard_value guard.old).conn op.now e × EndsWait e)) }
+        ensures err { IfOk result (λ a. OnErr a (mutex_guard_value guard.new ≡ mutex_guard_value guard.old)) }
+        ensures late { OnErr result (IsDueAtOnce (due_in (mutex_guard_value guard.old).conn.core.phase (mutex_guard_value guard.old).conn.core.log op.now) → ⊥) }
+        ensures awaits { IfErr result (λ want. IsAwaited (mutex_guard_value guard.old).conn op.now want) }
+        ensures waits { IfErr result (λ want. mutex_guard_value guard.new ≡ record (mutex_guard_value guard.old) { waiters = with_want want true (mutex_guard_value guard.old).waiters }) }
+        ensures rests { OnErr result (pass.new ≡ pass.old) }
+    {
+        match self.attempt(guard, pass, op) {
+            Ok(done) => {
+                let answer = Ok(done);
+                pass.note(op, &answer);
+                Ok(answer)
+            }
+            Err(Refusal::NoCredit | Refusal::NoWindow) => {
+                guard.wait_for(Want::Room);
+                Err(Want::Room)
+            }
+            Err(Refusal::Nothing) => {
+                let want = awaited_by(op);
+                guard.wait_for(want);
+                Err(want)
+            }
+            Err(refusal) => {
+                let answer = Err(refusal);
+                pass.note(op, &answer);
+                Ok(answer)
+            }
+        }
+    }
+
     /// Moves units to the ring, and waits until more than `seen` units were put out or the connection has ended. It answers how many were put
     /// out, and whether the phase is `Closed`. A writer passes what it has taken.
     pub fn wait_units<R: Wait>(&self, rt: &R, seen: u64) -> (u64, bool)
-        ensures { (IsFalse result.1) → seen < result.0 }
+        ensures { (c : Connection) × IsNews seen c result }
     {
         let (guard, news) = self.news_past(rt, seen);
         drop(guard);
@@ -261,9 +336,7 @@ impl<N: Name> Shared<N> {
         rt: &R,
         seen: u64,
     ) -> (MutexGuard<'b, Locked<N>>, (u64, bool))
-        ensures count { result.1.0 ≡ length (units (mutex_guard_value result.0).conn.core.log) }
-        ensures ended { result.1.1 ≡ is_ended (mutex_guard_value result.0).conn.core.phase }
-        ensures past { IsFalse result.1.1 → seen < result.1.0 }
+        ensures { IsNews seen (mutex_guard_value result.0).conn result.1 }
     {
         let mut guard = self.locked.lock(rt);
         for _ in rt.forever() {
@@ -322,17 +395,5 @@ impl<N: Name> Shared<N> {
         if guard.end_wait_for(want) {
             self.conditions.of(want).notify_all();
         }
-    }
-
-    /// Gives the lock back until a change may have brought what is wanted.
-    fn wait_for<'b, R: Wait>(
-        &self,
-        rt: &R,
-        guard: MutexGuard<'b, Locked<N>>,
-        want: Want,
-    ) -> MutexGuard<'b, Locked<N>> {
-        let mut guard = guard;
-        guard.wait_for(want);
-        self.conditions.of(want).wait(rt, guard)
     }
 }

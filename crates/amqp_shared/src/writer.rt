@@ -1,5 +1,6 @@
 //! The end from which units are written to a socket.
-ghost use Rattle.std.specs.Prelude.{◌≡◌, ◌<◌, ◌≤◌, ◌+◌, ◌++◌, ◌∷◌, [], length, IfSome, IfNone};
+ghost use Rattle.std.specs.Prelude.{◌≡◌, ◌<◌, ◌≤◌, ◌+◌, ◌-◌, ◌^◌, ◌++◌, ◌∷◌, [], length, IfSome, IfNone};
+ghost use Rattle.rtrb.specs.Ring.{received, known_items, SameConsumer};
 
 use crate::name::{Name, Numbered};
 use amqp_journal::unit::Unit;
@@ -36,12 +37,12 @@ impl<N: Name> WriterEnd<N> {
         ensures some { IfSome result (λ unit. (self.new ≡ self.old ++ unit ∷ []) × (unit.number ≡ length self.old)) }
         ensures none { IfNone result (self.new ≡ self.old) }
     {
-        match self.consumer.pop() {
-            Ok(unit) => {
+        match next_of(&mut self.consumer) {
+            Some(unit) => {
                 self.taken += 1;
                 Some(unit)
             }
-            Err(_) => None,
+            None => None,
         }
     }
 
@@ -50,5 +51,17 @@ impl<N: Name> WriterEnd<N> {
         ensures { result ≡ length self.now }
     {
         self.taken
+    }
+}
+
+/// The next unit of the ring; `None` only where it gives none.
+fn next_of(consumer: &mut Consumer<Unit, Global, Numbered>) -> Option<Unit>
+    ensures ring { SameConsumer consumer.old consumer.new }
+    ensures some { IfSome result (λ unit. (received consumer.new ≡ received consumer.old ++ unit ∷ []) × (unit.number ≡ length (received consumer.old)) × (unit.number < 2 ^ 64 - 1)) }
+    ensures none { IfNone result ((received consumer.new ≡ received consumer.old) × (known_items consumer.new ≡ [])) }
+{
+    match consumer.pop() {
+        Ok(unit) => Some(unit),
+        Err(_) => None,
     }
 }

@@ -197,6 +197,7 @@ fn a_pass_is_kept_back(rt: HostRuntime) -> Result<(), Fail> {
     kept_back::<Brand, HostRuntime>(&rt, rt.alloc(), seed(rt.alloc(), 4)?)
 }
 
+/// What was handed back goes on, with the octets of a close whose first half came before.
 fn kept_back<N: Name, R: Wait + Abort>(rt: &R, alloc: Global, seed: Seed) -> Result<(), Fail>
     requires { IsNamed seed N.name N.parts N.ring }
 {
@@ -206,6 +207,7 @@ fn kept_back<N: Name, R: Wait + Abort>(rt: &R, alloc: Global, seed: Seed) -> Res
     hear(rt, &shared, &mut pass, &GREETING);
     assert!(rt; does(rt, &shared, &mut other, &Op::Begin).is_some());
     assert!(rt; does(rt, &shared, &mut other, &Op::Beat).is_some());
+    hear(rt, &shared, &mut pass, &CLOSE[..5]);
     let mut passes = Vec::new(alloc);
     passes.push(pass)?;
     let Err(refusal) = shared.close(passes, writer) else {
@@ -217,9 +219,11 @@ fn kept_back<N: Name, R: Wait + Abort>(rt: &R, alloc: Global, seed: Seed) -> Res
     );
     let (shared, mut passes, writer) = refusal.into_parts();
     assert!(rt; does(rt, &shared, &mut other, &Op::Beat).is_some());
+    hear(rt, &shared, &mut other, &CLOSE[5..]);
     passes.push(other)?;
     let closed = left_and_taken(shared, passes, writer).ok_or("not closed")?;
-    assert_eq!(rt; (closed.taken, closed.left.len()), (0, 5));
+    assert!(rt; closed.conn.phase() == Phase::Closed);
+    assert_eq!(rt; (closed.taken, closed.left.len()), (0, 6));
     Ok(())
 }
 
@@ -269,6 +273,55 @@ fn closes<N: Name, R: Wait + Abort>(rt: &R, seed: Seed) -> Result<(), Fail>
     assert_eq!(rt; shared.wait_units(rt, 2), (3, false));
     hear(rt, &shared, &mut pass, &CLOSE);
     assert_eq!(rt; shared.wait_units(rt, 3), (3, true));
+    Ok(())
+}
+
+#[test]
+fn a_full_journal_is_closed_as_agreed(rt: HostRuntime) -> Result<(), Fail> {
+    closes_full::<Brand, HostRuntime>(&rt, rt.alloc(), seed_of(rt.alloc(), 4, 1)?)
+}
+
+/// The journal has room for the peer's open alone. Our close goes out nevertheless, and the peer's ends the connection.
+fn closes_full<N: Name, R: Wait + Abort>(rt: &R, alloc: Global, seed: Seed) -> Result<(), Fail>
+    requires { IsNamed seed N.name N.parts N.ring }
+{
+    let (shared, mut pass, writer) = open_shared::<N>(seed);
+    hear(rt, &shared, &mut pass, &GREETING);
+    assert!(rt; does(rt, &shared, &mut pass, &Op::Begin).is_none());
+    let mut guard = shared.lock(rt);
+    assert!(rt; shared.shut(&mut guard, None).is_ok());
+    drop(guard);
+    hear(rt, &shared, &mut pass, &CLOSE);
+    let mut passes = Vec::new(alloc);
+    passes.push(pass)?;
+    let closed = left_and_taken(shared, passes, writer).ok_or("not closed")?;
+    assert!(rt; closed.conn.phase() == Phase::Closed);
+    assert_eq!(rt; (closed.taken, closed.left.len()), (0, 3));
+    Ok(())
+}
+
+#[test]
+fn more_units_than_the_ring_has_places(rt: HostRuntime) -> Result<(), Fail> {
+    many_units::<Brand, HostRuntime>(&rt, seed_of(rt.alloc(), 65536, 70000)?)
+}
+
+/// Also more than a pass has parts: all are written in turn.
+fn many_units<N: Name, R: Wait + Abort>(rt: &R, seed: Seed) -> Result<(), Fail>
+    requires { IsNamed seed N.name N.parts N.ring }
+{
+    let (shared, mut pass, mut writer) = open_shared::<N>(seed);
+    hear(rt, &shared, &mut pass, &GREETING);
+    for _ in 0..66_000u32 {
+        assert!(rt; does(rt, &shared, &mut pass, &Op::Beat).is_some());
+    }
+    for number in 0..65_536u64 {
+        assert_eq!(rt; next_number(&mut writer), Some(number));
+    }
+    assert_eq!(rt; next_number(&mut writer), None);
+    assert_eq!(rt; shared.wait_units(rt, 65_536), (66_002, false));
+    for number in 65_536..66_002u64 {
+        assert_eq!(rt; next_number(&mut writer), Some(number));
+    }
     Ok(())
 }
 

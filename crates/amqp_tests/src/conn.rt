@@ -385,7 +385,8 @@ fn pumped(
         calls: reads,
     });
     let mut sink = FromStd::new(Full { calls: writes });
-    pump(&mut source, &mut sink, &mut conn, turns)
+    let mut pump = Pump::new();
+    pump.run(&mut source, &mut sink, &mut conn, turns)
 }
 
 #[test]
@@ -393,7 +394,11 @@ fn pumps_end(rt: HostRuntime) -> Result<(), Fail> {
     let alloc = rt.alloc();
     assert_eq!(rt; pumped(alloc, HEADER, 1, 9, 9), Ok(PumpEnd::TurnsOver));
     assert_eq!(rt; pumped(alloc, HEADER, 9, 9, 9), Ok(PumpEnd::EndOfInput));
-    assert_eq!(rt; pumped(alloc, WHOLE, 9, 9, 9), Ok(PumpEnd::Closed));
+    // Six reads of nine octets at most; that the connection is closed is told in the next turn.
+    for turns in 0..7 {
+        assert_eq!(rt; pumped(alloc, WHOLE, turns, 9, 9), Ok(PumpEnd::TurnsOver));
+    }
+    assert_eq!(rt; pumped(alloc, WHOLE, 7, 9, 9), Ok(PumpEnd::Closed));
     Ok(())
 }
 
@@ -435,5 +440,104 @@ fn a_pump_hands_on_the_fault_behind_the_last_close(rt: HostRuntime) -> Result<()
         pumped(alloc, other, 99, 99, 1),
         Err(PumpFault::Conn(ConnFault::BadHeader))
     );
+    Ok(())
+}
+
+/// Octets of the peer's, in pieces of nine; one call fails, and those after it go on.
+#[derive(Drop)]
+struct Falters<'a> {
+    octets: &'a [u8],
+    calls: u32,
+    failing: u32,
+}
+
+impl Read for Falters<'_> {
+    fn read(&mut self, buf: &mut [u8]) -> io::Result<usize> {
+        self.calls = self.calls.saturating_add(1);
+        if self.calls == self.failing {
+            return Err(io::Error::other("the line is cut"));
+        }
+        let (mut piece, rest) = self.octets.split_at(self.octets.len().min(9));
+        self.octets = rest;
+        piece.read(buf)
+    }
+}
+
+/// How a pump ends where this read fails, whether its error was kept, and how the pump ends where it is called again.
+fn called_again(
+    alloc: Global,
+    failing: u32,
+) -> (Result<PumpEnd, PumpFault>, bool, Result<PumpEnd, PumpFault>) {
+    let (Ok(octets), Ok(mut conn)) = (octets(alloc, WHOLE), connection(alloc)) else {
+        let refused = Err(PumpFault::Conn(ConnFault::NoMemory));
+        return (refused, false, refused);
+    };
+    let octets: &[u8] = octets.as_slice();
+    let mut source = FromStd::new(Falters {
+        octets,
+        calls: 0,
+        failing,
+    });
+    let mut sink = FromStd::new(Full { calls: 9 });
+    let mut pump = Pump::new();
+    let first = pump.run(&mut source, &mut sink, &mut conn, 99);
+    let kept = match source.take_error() {
+        Some(error) => error.kind() == io::ErrorKind::Other,
+        None => false,
+    };
+    let then = pump.run(&mut source, &mut sink, &mut conn, 99);
+    (first, kept, then)
+}
+
+#[test]
+fn a_pump_goes_on_behind_a_read_that_failed(rt: HostRuntime) -> Result<(), Fail> {
+    for failing in 1..7 {
+        let (first, kept, then) = called_again(rt.alloc(), failing);
+        assert_eq!(rt; first, Err(PumpFault::Read));
+        assert!(rt; kept);
+        assert_eq!(rt; then, Ok(PumpEnd::Closed));
+    }
+    Ok(())
+}
+
+/// Takes five octets at most, and is interrupted before each time; after so many octets it takes none.
+#[derive(Drop)]
+struct Slow {
+    interrupted: bool,
+    room: usize,
+}
+
+impl Write for Slow {
+    fn write(&mut self, buf: &[u8]) -> io::Result<usize> {
+        self.interrupted = !self.interrupted;
+        if self.interrupted {
+            return Err(io::Error::from(io::ErrorKind::Interrupted));
+        }
+        let taken = buf.len().min(5).min(self.room);
+        self.room -= taken;
+        Ok(taken)
+    }
+
+    fn flush(&mut self) -> io::Result<()> {
+        Ok(())
+    }
+}
+
+/// Whether a device with so much room takes sixteen octets.
+fn takes(room: usize) -> bool {
+    let mut sink = FromStd::new(Slow {
+        interrupted: false,
+        room,
+    });
+    match Sink::write_all(&mut sink, &[7; 16]) {
+        Ok(()) => true,
+        Err(_) => false,
+    }
+}
+
+#[test]
+fn a_sink_writes_on_behind_short_writes(rt: HostRuntime) -> Result<(), Fail> {
+    assert!(rt; takes(16));
+    assert!(rt; !takes(15));
     Ok(())
 }

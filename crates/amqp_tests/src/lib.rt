@@ -1,36 +1,16 @@
-//! Tests of the libraries, in one crate above them: a check of a crate's tests proves that crate once more, so tests that stand apart spare one proof of each
-//! library. They show what no clause says: octets of known values, frames and connections, faults of devices, and that each call succeeds where memory is there.
+//! Tests of an endpoint, its journal and a connection, in one crate above them, as those of the libraries below stand in `amqp_codec_tests`. They
+//! show what no clause says: octets of known connections, faults of devices, and that each call succeeds where memory is there.
 //!
 //! | module | of |
 //! |---|---|
-//! | `types` | spellings of values, both ways |
-//! | `flow` | serial numbers, windows and credit |
-//! | `performatives` | copies of each kind of body, state and error |
-//! | `decoder` | performatives in front of octets |
-//! | `frames` | frames written and read, however they are cut |
-//! | `deliveries` | unsettled deliveries, and deliveries that are cut over transfers |
-//! | `messages` | sections of messages |
+//! | `endpoint` | replies that an endpoint gives twice |
 //! | `conn` | a whole connection |
-//! | `script`, `driven` | an endpoint and a connection that lines drive |
+//! | `journal` | what a connection shows that forgets its journal's entries |
 #![tactic(auto)]
 
 #[cfg(test)]
 mod conn;
 #[cfg(test)]
-mod decoder;
+mod endpoint;
 #[cfg(test)]
-mod deliveries;
-#[cfg(test)]
-mod driven;
-#[cfg(test)]
-mod flow;
-#[cfg(test)]
-mod frames;
-#[cfg(test)]
-mod messages;
-#[cfg(test)]
-mod performatives;
-#[cfg(test)]
-mod script;
-#[cfg(test)]
-mod types;
+mod journal;

@@ -6,6 +6,7 @@ ghost use Rattle.amqp_types.specs.Canon.{canon, AppendsCanon};
 
 use std::alloc::AllocError;
 
+/// Null, behind the octets that are there.
 #[inline]
 pub fn write_null(out: &mut Vec<u8>) -> Result<(), AllocError>
     ensures ok { OnOk result (AppendsCanon (number Kind.Null 0) out.old.items out.new.items) }
@@ -14,6 +15,7 @@ pub fn write_null(out: &mut Vec<u8>) -> Result<(), AllocError>
     out.extend_from_slice(&[0x40])
 }
 
+/// A boolean, under its shortest code.
 #[inline]
 pub fn write_boolean(out: &mut Vec<u8>, b: bool) -> Result<(), AllocError>
     ensures ok { OnOk result (AppendsCanon (number Kind.Bool (if b then 1 else 0)) out.old.items out.new.items) }
@@ -26,6 +28,7 @@ pub fn write_boolean(out: &mut Vec<u8>, b: bool) -> Result<(), AllocError>
     }
 }
 
+/// A ubyte.
 #[inline]
 pub fn write_ubyte(out: &mut Vec<u8>, n: u8) -> Result<(), AllocError>
     ensures ok { OnOk result (AppendsCanon (number Kind.Ubyte n) out.old.items out.new.items) }
@@ -34,6 +37,7 @@ pub fn write_ubyte(out: &mut Vec<u8>, n: u8) -> Result<(), AllocError>
     out.extend_from_slice(&[0x50, n])
 }
 
+/// A ushort.
 #[inline]
 pub fn write_ushort(out: &mut Vec<u8>, n: u16) -> Result<(), AllocError>
     ensures ok { OnOk result (AppendsCanon (number Kind.Ushort n) out.old.items out.new.items) }
@@ -43,6 +47,7 @@ pub fn write_ushort(out: &mut Vec<u8>, n: u16) -> Result<(), AllocError>
     out.extend_from_slice(&[0x60, a, b])
 }
 
+/// A uint, under its shortest code.
 #[inline]
 pub fn write_uint(out: &mut Vec<u8>, n: u32) -> Result<(), AllocError>
     ensures ok { OnOk result (AppendsCanon (number Kind.Uint n) out.old.items out.new.items) }
@@ -58,6 +63,7 @@ pub fn write_uint(out: &mut Vec<u8>, n: u32) -> Result<(), AllocError>
     }
 }
 
+/// A ulong, under its shortest code.
 #[inline]
 pub fn write_ulong(out: &mut Vec<u8>, n: u64) -> Result<(), AllocError>
     ensures ok { OnOk result (AppendsCanon (number Kind.Ulong n) out.old.items out.new.items) }

@@ -125,6 +125,7 @@ pub fn class_of(code: u8) -> Class
 }
 
 impl Width {
+    /// How many octets a body of this width has.
     pub fn octets(self) -> usize
         ensures value { result ≡ octets_in self }
         ensures bound { result ≤ 8 }

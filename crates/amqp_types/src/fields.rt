@@ -18,6 +18,7 @@ pub fn read_null(bytes: &[u8]) -> Option<usize>
     if *code == 0x40 { Some(1) } else { None }
 }
 
+/// The boolean in front, and how many octets spell it.
 #[inline(always)]
 pub fn read_boolean(bytes: &[u8]) -> Option<(bool, usize)>
     ensures { IsFront (λ b. number Kind.Bool (if b then 1 else 0)) bytes.now result }
@@ -51,6 +52,7 @@ fn read_any_boolean(bytes: &[u8]) -> Option<(bool, usize)>
     }
 }
 
+/// The ubyte in front, and how many octets spell it.
 #[inline]
 pub fn read_ubyte(bytes: &[u8]) -> Option<(u8, usize)>
     ensures { IsFront (λ n. number Kind.Ubyte n) bytes.now result }
@@ -65,6 +67,7 @@ pub fn read_ubyte(bytes: &[u8]) -> Option<(u8, usize)>
     }
 }
 
+/// The ushort in front, and how many octets spell it.
 #[inline]
 pub fn read_ushort(bytes: &[u8]) -> Option<(u16, usize)>
     ensures { IsFront (λ n. number Kind.Ushort n) bytes.now result }
@@ -79,6 +82,7 @@ pub fn read_ushort(bytes: &[u8]) -> Option<(u16, usize)>
     }
 }
 
+/// The uint in front, and how many octets spell it.
 #[inline(always)]
 pub fn read_uint(bytes: &[u8]) -> Option<(u32, usize)>
     ensures { IsFront (λ n. number Kind.Uint n) bytes.now result }
@@ -98,6 +102,7 @@ pub fn read_uint(bytes: &[u8]) -> Option<(u32, usize)>
     }
 }
 
+/// The ulong in front, and how many octets spell it.
 #[inline]
 pub fn read_ulong(bytes: &[u8]) -> Option<(u64, usize)>
     ensures { IsFront (λ n. number Kind.Ulong n) bytes.now result }
@@ -137,6 +142,7 @@ fn candidate(run: Run, small: u8, large: u8, bytes: &[u8]) -> Option<(&[u8], usi
     }
 }
 
+/// The binary in front, as it lies, and how many octets spell it.
 #[inline(always)]
 pub fn read_binary(bytes: &[u8]) -> Option<(&[u8], usize)>
     ensures { IsFront (λ text. octets Run.Binary text.now) bytes.now result }

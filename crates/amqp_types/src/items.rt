@@ -34,6 +34,7 @@ impl<T> Items<T> {
         }
     }
 
+    /// The elements in their order.
     pub fn as_slice(&self) -> &[T]
         ensures { result.now ≡ self.now }
     {
@@ -49,12 +50,14 @@ impl<T> Items<T> {
         self.items.iter()
     }
 
+    /// How many elements there are.
     pub fn len(&self) -> usize
         ensures { result ≡ length self.now }
     {
         self.items.len()
     }
 
+    /// There is no element.
     pub fn is_empty(&self) -> bool
         ensures { IsTrue result ↔ (self.now ≡ []) }
     {
@@ -68,6 +71,7 @@ impl<T> Items<T> {
 }
 
 impl<T: Drop> Items<T> {
+    /// Adds an element behind the others. For want of memory they are as before.
     pub fn push(&mut self, item: T) -> Result<(), AllocError>
         ensures ok { OnOk result (self.new ≡ self.old ++ item ∷ []) }
         ensures err { OnErr result (self.new ≡ self.old) }

@@ -24,6 +24,15 @@
 //!
 //! Values are nested at most 32 deep ([`MAX_DEPTH`]). What is written is canonical: each part under its shortest code.
 //!
+//! | module | what it has |
+//! |---|---|
+//! | `value`, `text`, `tag` | values |
+//! | `items`, `boxed` | what values own their parts by, which contracts see as the parts |
+//! | `class`, `forms`, `leaves`, `parts` | the table of codes; how one level of a value is spelled; values without parts, and with parts |
+//! | `read`, `skip`, `write` | whole values: read, passed over, written |
+//! | `fields`, `append`, `heads`, `within` | fields of one type, read and written; what stands in front of parts; values inside others |
+//! | `equality`, `fault` | what `==` is to contracts; why a value is not read or written |
+//!
 //! - [`Value`], [`Text`], [`Items`], [`Boxed`], [`Tag`]: values, which contracts see as plain data
 //! - [`read_value`], [`read_within`], [`skip_value`], [`skip_within`]: whole values in front of octets
 //! - [`read_uint`] and its like, [`read_list_head`], [`read_descriptor`]: fields of one type, read in place

@@ -10,6 +10,7 @@ ghost use Rattle.amqp_rules.specs.View.{is_sender};
 ghost use Rattle.amqp_endpoint.specs.Attaching.{IsMeeting, Meets, attached_fate, number_at, wanted_of};
 ghost use Rattle.amqp_endpoint.specs.Plan.{Plans};
 
+use crate::copying::copy_terminus;
 use crate::endpoint::Endpoint;
 use crate::plan::Plan;
 use crate::refusal::Refusal;
@@ -98,15 +99,6 @@ fn attach_refusal(wanted: &Wanted<'_>, handle: u32, max: u32) -> Option<Refusal>
         max_message_size: size_told(wanted.max_message),
     };
     measured_refusal(measure_attach(&parts, max))
-}
-
-fn copy_terminus(terminus: &Option<Boxed<Value>>) -> Result<Option<Boxed<Value>>, AllocError>
-    ensures { IfOk result (λ copy. copy ≡ terminus.now) }
-{
-    match terminus {
-        None => Ok(None),
-        Some(value) => Ok(Some(value.clone()?)),
-    }
 }
 
 /// The attach that is sent.

@@ -1,10 +1,11 @@
 //! Detach: we leave a link for good (part 2, 2.6.6 and 2.7.7).
-ghost use Rattle.std.specs.Prelude.{◌≡◌, true, Some, None, Err, [], MatchResult, IfOk};
+ghost use Rattle.std.specs.Prelude.{◌≡◌, true, Some, None, Err, [], MatchResult};
 ghost use Rattle.amqp_rules.specs.Detach.{detach_answer, detach_body, next_detach};
 ghost use Rattle.amqp_rules.specs.Sending.{frame_refused};
 ghost use Rattle.amqp_endpoint.specs.Leaving.{IsLeft};
 ghost use Rattle.amqp_endpoint.specs.Plan.{Plans};
 
+use crate::copying::copy_error;
 use crate::endpoint::Endpoint;
 use crate::plan::Plan;
 use crate::refusal::Refusal;
@@ -15,7 +16,6 @@ use amqp_frames::{AmqpError, DetachBody, Performative, measure_detach};
 use amqp_links::fate::Fate;
 use amqp_types::Boxed;
 use bytes::Bytes;
-use std::alloc::AllocError;
 
 /// A link that is left: where it was found, and our handle of it.
 #[derive(Clone, Copy)]
@@ -29,15 +29,6 @@ fn detach_refusal(handle: u32, error: &Option<Boxed<AmqpError>>, max: u32) -> Op
     ensures { result ≡ frame_refused max (detach_body handle (Some true) error.now) [] }
 {
     measured_refusal(measure_detach(handle, Some(true), error, max))
-}
-
-fn copy_error(error: &Option<Boxed<AmqpError>>) -> Result<Option<Boxed<AmqpError>>, AllocError>
-    ensures { IfOk result (λ copy. copy ≡ error.now) }
-{
-    match error {
-        None => Ok(None),
-        Some(error) => Ok(Some(error.clone()?)),
-    }
 }
 
 impl Endpoint {

@@ -14,6 +14,7 @@ ghost use Rattle.amqp_rules.specs.Refusing.{first_refusal};
 ghost use Rattle.amqp_rules.specs.Sending.{frame_refused};
 ghost use Rattle.amqp_endpoint.specs.Plan.{Plans};
 
+use crate::copying::copy_state;
 use crate::endpoint::Endpoint;
 use crate::endpoint::telling::flag;
 use crate::plan::Plan;
@@ -26,16 +27,6 @@ use amqp_frames::{DeliveryState, DispositionBody, Performative, Role, measure_di
 use amqp_links::fate::Fate;
 use bytes::Bytes;
 use std::alloc::AllocError;
-
-/// A copy of a state, where there is one.
-pub(crate) fn copy_state(state: &Option<DeliveryState>) -> Result<Option<DeliveryState>, AllocError>
-    ensures { IfOk result (λ copy. copy ≡ state.now) }
-{
-    match state {
-        None => Ok(None),
-        Some(state) => Ok(Some(state.clone()?)),
-    }
-}
 
 /// The frame that says this.
 fn dispose_body(role: Role, said: Disposition) -> Option<Performative>

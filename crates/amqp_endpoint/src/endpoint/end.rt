@@ -1,9 +1,10 @@
 //! End: we end the session, and all its links are gone (part 2, 2.5.2 and 2.7.8).
-ghost use Rattle.std.specs.Prelude.{◌≡◌, IfOk};
+ghost use Rattle.std.specs.Prelude.{◌≡◌};
 ghost use Rattle.std.specs.Result.{result_err};
 ghost use Rattle.amqp_rules.specs.End.{end_answer, next_end};
 ghost use Rattle.amqp_endpoint.specs.Plan.{Plans};
 
+use crate::copying::copy_error;
 use crate::endpoint::Endpoint;
 use crate::plan::{Plan, plan_sending};
 use crate::refusal::Refusal;
@@ -13,16 +14,6 @@ use amqp_deliveries::Change;
 use amqp_frames::{AmqpError, EndBody, Performative, measure_end};
 use amqp_links::fate::Fate;
 use amqp_types::Boxed;
-use std::alloc::AllocError;
-
-fn copy_error(error: &Option<Boxed<AmqpError>>) -> Result<Option<Boxed<AmqpError>>, AllocError>
-    ensures { IfOk result (λ copy. copy ≡ error.now) }
-{
-    match error {
-        None => Ok(None),
-        Some(error) => Ok(Some(error.clone()?)),
-    }
-}
 
 impl Endpoint {
     /// The refusal that is due.

@@ -1,12 +1,12 @@
 //! Learn: the first thing that was told of a delivery on a link on which we send is given.
 ghost use Rattle.std.specs.Prelude.{◌≡◌, ◌<◌, ◌^◌, IfOk, MatchResult, OnErr};
 ghost use Rattle.amqp_rules.specs.Learn.{learn_answer, learned_of, next_learn};
-ghost use Rattle.amqp_endpoint.specs.Doing.{Does, DoesOnce, learn_plan};
+ghost use Rattle.amqp_endpoint.specs.Doing.{Does, DoesOnce, Foretells, learn_plan};
 ghost use Rattle.amqp_endpoint.specs.Plan.{Checks, IsPlan, IsRefused};
 
+use crate::copying::copy_state;
 use crate::done::{Done, quiet_done, quiet_reply};
 use crate::endpoint::Endpoint;
-use crate::endpoint::dispose::copy_state;
 use crate::refusal::Refusal;
 use crate::reply::{Given, Learned, Reply};
 use amqp_deliveries::Telling;
@@ -86,6 +86,16 @@ impl Endpoint {
             Given::Learned(learned),
             Given::Learned(once_more),
         ))
+    }
+
+    /// What it would give.
+    pub(crate) fn foretell_learn(&self, link: u32) -> Result<Reply, Refusal>
+        ensures { Foretells Refusal.NoMemory (learn_answer self.now link) result }
+    {
+        match self.make_learned(link) {
+            Ok((_, learned)) => Ok(quiet_reply(self.alloc, Given::Learned(learned))),
+            Err(refusal) => Err(refusal),
+        }
     }
 
     /// The same, where what it tells is wanted once.

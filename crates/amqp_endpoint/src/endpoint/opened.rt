@@ -1,5 +1,5 @@
 //! How an endpoint begins: before its first step, and once the peer's open has come (part 2, 2.7.1).
-ghost use Rattle.std.specs.Prelude.{◌≡◌, ◌<◌, ◌^◌, IfOk};
+ghost use Rattle.std.specs.Prelude.{◌≡◌, ◌<◌, ◌^◌};
 ghost use Rattle.amqp_rules.specs.Limits.{IsWithinLimits};
 ghost use Rattle.amqp_rules.specs.Opened.{next_opened};
 ghost use Rattle.amqp_rules.specs.View.{initial};
@@ -10,18 +10,18 @@ use crate::endpoint::Endpoint;
 use crate::plan::Session;
 use crate::stores::Stores;
 use amqp_flow::windows::Windows;
-use std::alloc::{AllocError, Global};
+use std::alloc::Global;
 
 /// The longest frame, in octets, that each peer takes.
 const LEAST_MAX_FRAME: u32 = 512;
 
 impl Endpoint {
     /// The endpoint before its first step: nothing was sent or heard. It takes no memory.
-    pub fn new(alloc: Global, config: &Config) -> Result<Endpoint, AllocError>
+    pub fn new(alloc: Global, config: &Config) -> Endpoint
         requires { IsWithinLimits config.now }
-        ensures { IfOk result (λ e. e ≡ initial config.now) }
+        ensures { result ≡ initial config.now }
     {
-        Ok(Endpoint {
+        Endpoint {
             alloc,
             steps: 0,
             session: Session {
@@ -37,7 +37,7 @@ impl Endpoint {
             },
             stores: Stores::new(alloc),
             cutter: Cutter::new(alloc),
-        })
+        }
     }
 
     /// The peer takes frames of so many octets; each peer takes 512.

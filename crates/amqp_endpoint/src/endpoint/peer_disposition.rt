@@ -7,8 +7,9 @@ ghost use Rattle.amqp_rules.specs.Refusing.{no_memory};
 ghost use Rattle.amqp_rules.specs.View.{opposite};
 ghost use Rattle.amqp_endpoint.specs.Plan.{Plans};
 
+use crate::copying::copy_state;
 use crate::endpoint::Endpoint;
-use crate::endpoint::dispose::{copy_state, is_backwards};
+use crate::endpoint::dispose::is_backwards;
 use crate::plan::{Plan, plan_quiet};
 use crate::reply::Given;
 use crate::violation::{Violation, ViolationKind};

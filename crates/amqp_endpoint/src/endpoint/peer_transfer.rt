@@ -12,7 +12,7 @@ ghost use Rattle.amqp_links.specs.Credits.{credit_in, role_of};
 ghost use Rattle.amqp_links.specs.Links.{IsFirst};
 ghost use Rattle.amqp_links.specs.Marks.{with_marks};
 ghost use Rattle.amqp_deliveries.specs.Change.{ended_in};
-ghost use Rattle.amqp_endpoint.specs.Doing.{Does};
+ghost use Rattle.amqp_endpoint.specs.Doing.{Does, Foretells};
 ghost use Rattle.amqp_endpoint.specs.Plan.{Checks, IsPlan, IsRefused, IsSound, plan_reply, planned};
 ghost use Rattle.amqp_rules.specs.declared.violation.Violation.{Violation};
 ghost use Rattle.amqp_endpoint.specs.Arriving.{arrival_plan, arriving_plan, change_arriving, passed_plan};
@@ -22,9 +22,9 @@ ghost use Rattle.amqp_rules.specs.PeerTransfer.{breaks_mode, breaks_rcv_mode, br
 ghost use Rattle.amqp_rules.specs.Refusing.{first_refusal, no_memory};
 ghost use Rattle.amqp_rules.specs.View.{has_peer_handle, same_role, takes_frames};
 
-use crate::done::{Done, quiet_done};
+use crate::copying::copy_state;
+use crate::done::{Done, quiet_done, quiet_reply};
 use crate::endpoint::Endpoint;
-use crate::endpoint::dispose::copy_state;
 use crate::endpoint::start::is_too_long;
 use crate::plan::Session;
 use crate::reply::{Given, Reply};
@@ -602,6 +602,34 @@ impl Endpoint {
         } else {
             self.come_on(b, payload, arriving)
         }
+    }
+
+    /// What a transfer would give.
+    pub(crate) fn foretell_transfer(
+        &self,
+        b: &TransferBody,
+        payload: &Bytes,
+    ) -> Result<Reply, Violation>
+        ensures { Foretells no_memory (transfer_answer self.now b.now payload.now) result }
+    {
+        match self.arrival(b, payload) {
+            Ok(Arrival::Passed(_)) => Ok(quiet_reply(self.alloc, Given::Nothing)),
+            Ok(Arrival::Comes(arriving)) => match self.arrived_reply(b, &arriving) {
+                Ok(reply) => Ok(reply),
+                Err(_) => Err(Violation::unlinked(ViolationKind::NoMemory)),
+            },
+            Err(violation) => Err(violation),
+        }
+    }
+
+    /// What a transfer would give that comes.
+    fn arrived_reply(&self, b: &TransferBody, arriving: &Arriving) -> Result<Reply, AllocError>
+        ensures { (payload : List ℕ) → IfOk result (λ r. r ≡ plan_reply (arriving_plan self.now b.now payload arriving.now) self.now) }
+    {
+        let change = change_of(b, arriving)?;
+        let ended = self.stores.tables.ended(&change);
+        drop(change);
+        Ok(arrived_done(self.alloc, b, arriving, ended?).once().0)
     }
 
     /// A transfer that is heard.

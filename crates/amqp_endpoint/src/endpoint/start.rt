@@ -2,7 +2,7 @@
 ghost use Rattle.std.specs.Prelude.{◌≡◌, ◌<◌, ◌+◌, ◌^◌, ◌∷◌, [], Err, Some, ℕ, IfOk, MatchResult, OnErr, true, length, find};
 ghost use Rattle.amqp_flow.specs.Credit.{delivery_begun};
 ghost use Rattle.amqp_flow.specs.Windows.{windows_sent};
-ghost use Rattle.amqp_endpoint.specs.Doing.{Does};
+ghost use Rattle.amqp_endpoint.specs.Doing.{Does, Foretells};
 ghost use Rattle.amqp_endpoint.specs.Plan.{IsPlan, IsRefused};
 ghost use Rattle.amqp_endpoint.specs.Starting.{item_begun, second_on, start_plan};
 ghost use Rattle.amqp_endpoint.specs.Taking.{IsTaken};
@@ -283,6 +283,31 @@ impl Endpoint {
             Err(refusal) => return Err(refusal),
         };
         Ok(Starting { on, second, sent })
+    }
+
+    /// What a delivery gives that would begin.
+    pub(crate) fn foretell_start(
+        &mut self,
+        link: u32,
+        tag: &Tag,
+        format: u32,
+        settled: bool,
+        payload: &Bytes,
+        more: bool,
+    ) -> Result<Reply, Refusal>
+        requires { self.old.steps < 2 ^ 30 }
+        ensures same { self.new ≡ self.old }
+        ensures reply { Foretells Refusal.NoMemory (start_answer self.old link tag.now format settled payload.now more) result }
+    {
+        match self.make_start(link, tag, format, settled, payload, more) {
+            Ok(s) => {
+                let id = self.session.next_delivery();
+                let (reply, octets) = sending_done(self.alloc, s.sent, id).once();
+                drop(octets);
+                Ok(reply)
+            }
+            Err(refusal) => Err(refusal),
+        }
     }
 
     /// A delivery begins, and its first transfer is sent.

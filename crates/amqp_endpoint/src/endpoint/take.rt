@@ -1,7 +1,7 @@
 //! Take: the first delivery that waits on a link on which we receive is given.
 ghost use Rattle.std.specs.Prelude.{◌≡◌, ◌<◌, ◌^◌, IfOk, MatchResult, OnErr};
 ghost use Rattle.amqp_rules.specs.Take.{take_answer, taken_of, next_take};
-ghost use Rattle.amqp_endpoint.specs.Doing.{Does, DoesOnce, take_plan};
+ghost use Rattle.amqp_endpoint.specs.Doing.{Does, DoesOnce, Foretells, take_plan};
 ghost use Rattle.amqp_endpoint.specs.Plan.{Checks, IsPlan, IsRefused};
 
 use crate::done::{Done, quiet_done, quiet_reply};
@@ -82,6 +82,16 @@ impl Endpoint {
         self.stores.take(key, link);
         self.steps += 1;
         Ok(quiet_done(self.alloc, Given::Taken(taken), Given::Taken(once_more)))
+    }
+
+    /// What it would give.
+    pub(crate) fn foretell_take(&self, link: u32) -> Result<Reply, Refusal>
+        ensures { Foretells Refusal.NoMemory (take_answer self.now link) result }
+    {
+        match self.make_taken(link) {
+            Ok((_, taken)) => Ok(quiet_reply(self.alloc, Given::Taken(taken))),
+            Err(refusal) => Err(refusal),
+        }
     }
 
     /// The same, where what it tells is wanted once.

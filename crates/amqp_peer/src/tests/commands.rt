@@ -3,6 +3,7 @@
 use crate::command_line::{Request, read_request};
 use amqp_endpoint::config::Config;
 use amqp_pair::Options;
+use amqp_script::options::USUAL;
 use std::test::Fail;
 
 #[test]
@@ -79,8 +80,16 @@ fn settings(rt: HostRuntime) -> Result<(), Fail> {
             window,
             journal_limit,
         };
-        assert_eq!(rt; request, Request::Script(config));
+        assert_eq!(rt; request, Request::Script(config, None));
     }
+    Ok(())
+}
+
+#[test]
+fn kept_entries(rt: HostRuntime) -> Result<(), Fail> {
+    let words: &[&str] = &["amqp_peer", "script", "--keep", "3"];
+    let wanted = Request::Script(USUAL, Some(3));
+    assert_eq!(rt; read_request(rt.alloc(), words)?, wanted);
     Ok(())
 }
 

@@ -1,6 +1,6 @@
-use Rattle.std.proofs.Common.{◌≡◌, ℕ, subst, sym}
-use Rattle.amqp_conn.specs.Turning.{GoesOn}
-use Rattle.amqp_conn.proofs.Loops.{goes-on, has-ended, fed-to-end}
+use Rattle.std.proofs.Common.{◌≡◌, ℕ, drop, subst, sym}
+use Rattle.amqp_conn.specs.Turning.{GoesOn, Took}
+use Rattle.amqp_conn.proofs.Loops.{goes-on, took-fed, took-fault}
 use Rattle.amqp_conn.proofs.Telling.{tells-fed, tells-none, fault-adds-none}
 use Rattle.amqp_conn.proofs.pumping.feed_once.Goals as goal
 
@@ -8,6 +8,14 @@ pub returns-in-Ok-clause-on : goal.returns-in-Ok-clause-on
 returns-in-Ok-clause-on g c =
     subst (λ (n : ℕ). GoesOn c.args.conn.now c.args.rest.now n c.feed.new.self) (sym c.hand_on.ensures.used)
     (goes-on c.args.conn.now c.feed.new.self c.args.rest.now c.in-Ok.fed c.in-Ok.ensures.fed (c.in-Ok.ensures.progress c.requires))
+
+pub returns-in-Ok-clause-took : goal.returns-in-Ok-clause-took
+returns-in-Ok-clause-took g c =
+    subst (λ (n : ℕ). Took c.args.conn.now c.args.rest.now c.feed.new.self (drop n c.args.rest.now)) (sym c.hand_on.ensures.used)
+    (took-fed c.args.conn.now c.feed.new.self c.args.rest.now c.in-Ok.fed c.recall.ensures.within c.in-Ok.ensures.fed)
+
+pub returns-in-Ok-clause-well : goal.returns-in-Ok-clause-well
+returns-in-Ok-clause-well g c = (c.in-Ok.fed, c.in-Ok.ensures.fed)
 
 pub returns-in-Ok-clause-tells : goal.returns-in-Ok-clause-tells
 returns-in-Ok-clause-tells g c =
@@ -18,8 +26,5 @@ returns-in-Err-clause-tells g c =
     tells-none c.args.conn.now.core.log.journal c.feed.new.self.core.log.journal (g.H.Hears.heard c.args.each.now)
     (fault-adds-none c.in-Err.fault c.args.conn.now c.feed.new.self c.args.rest.now c.in-Err.ensures.fed)
 
-pub returns-in-Err-clause-ended : goal.returns-in-Err-clause-ended
-returns-in-Err-clause-ended g c = has-ended c.in-Err.fault c.args.conn.now c.feed.new.self c.args.rest.now c.in-Err.ensures.fed
-
-pub returns-in-Err-clause-last : goal.returns-in-Err-clause-last
-returns-in-Err-clause-last g c = fed-to-end c.in-Err.fault c.args.conn.now c.feed.new.self c.args.rest.now c.recall.ensures.quiet c.in-Err.ensures.fed
+pub returns-in-Err-clause-left : goal.returns-in-Err-clause-left
+returns-in-Err-clause-left g c = took-fault c.in-Err.fault c.args.conn.now c.feed.new.self c.args.rest.now c.recall.ensures.within c.in-Err.ensures.fed

@@ -1,42 +1,41 @@
-use Rattle.std.proofs.Common.{ℕ, List, Option, subst}
-use Rattle.amqp_conn.specs.declared.pumping.Untaken.{Untaken}
-use Rattle.amqp_conn.specs.Pumping.{Pumps, UntakenFed}
-use Rattle.amqp_conn.proofs.Pumps.{pumps-then, last-pumps}
-use Rattle.amqp_conn.proofs.Telling.{tells-none, tells-before, tells-behind}
+use Rattle.std.proofs.Common.{◌≡◌, ◌<◌, length, ◌∙◌, arith}
+use Rattle.amqp_conn.specs.Pumping.{IsPiece}
+use Rattle.amqp_conn.proofs.Pumps.{some-count, turn-read-fails, turn-ends, turn-fed, turn-fails}
 use Rattle.amqp_conn.proofs.pumping.turn.Goals as goal
 
-pub returns-in-Ok-take_in-clause-pumps : goal.returns-in-Ok-take_in-clause-pumps
-returns-in-Ok-take_in-clause-pumps g c =
-    let source = g.S.Source.remaining c.args.source.now in
-    let sink = g.K.Sink.written c.write_waiting.new.sink in
-    pumps-then source source (g.S.Source.remaining c.take_in.new.source) (g.K.Sink.written c.args.sink.now) sink sink c.args.conn.now c.write_waiting.new.conn c.take_in.new.conn
-    c.recall.ensures.within (c.in-Ok.ensures.pumps source) (c.in-Ok-take_in.ensures.pumps sink)
+pub returns-in_default-refill-clause-fails : goal.returns-in_default-refill-clause-fails
+returns-in_default-refill-clause-fails g c =
+    turn-read-fails (g.S.Source.remaining c.args.source.now) (g.S.Source.remaining c.refill.new.source) (g.K.Sink.written c.args.sink.now) (g.K.Sink.written c.write_waiting.new.sink)
+    c.args.conn.now c.write_waiting.new.conn c.args.kept.now c.refill.new.self c.in-Ok.ensures.writes c.recall.ensures.some c.requires.none c.in_default-refill.ensures.still.0
+    c.in_default-refill.ensures.still.1 c.in-Ok.ensures.went c.if-is_closed.ensures.open
 
-pub returns-in-Err-Conn-clause-last : goal.returns-in-Err-Conn-clause-last
-returns-in-Err-Conn-clause-last g c =
-    let source = g.S.Source.remaining c.args.source.now in
-    let later = g.S.Source.remaining c.take_in.new.source in
-    let first = g.K.Sink.written c.args.sink.now in
-    let sink = g.K.Sink.written c.write_waiting.new.sink in
-    let last = g.K.Sink.written c.last_units.new.sink in
-    let P : Type 0 = (k : Option (List ℕ)) → Pumps source later k k c.write_waiting.new.conn c.take_in.new.conn in
-    let Q : Type 0 = (s : Option (List ℕ)) → Pumps s s sink last c.take_in.new.conn c.last_units.new.conn in
-    last-pumps {P = P} {Q = Q} c.in-Err-Conn.fault c.last_units.result
-    (λ (p : P) (q : Q).
-    pumps-then source source later first sink last c.args.conn.now c.write_waiting.new.conn c.last_units.new.conn c.recall.ensures.within (c.in-Ok.ensures.pumps source)
-    (pumps-then source later later sink sink last c.write_waiting.new.conn c.take_in.new.conn c.last_units.new.conn c.recall-in-Err-Conn.ensures.within (p sink) (q later)))
-    c.last_units.ensures.same
-    (subst (λ (w : Untaken). UntakenFed w P) c.in-Err-Conn.field-0-is c.in-Err-Conn.ensures.last)
-    c.last_units.ensures.went
+pub returns-then-count-eq0-clause-turned : goal.returns-then-count-eq0-clause-turned
+returns-then-count-eq0-clause-turned g c =
+    let zero : c.in-Ok-refill.count ≡ 0 = c.if-count-eq0.true in
+    turn-ends (g.S.Source.remaining c.args.source.now) (g.S.Source.remaining c.refill.new.source) (g.K.Sink.written c.args.sink.now) (g.K.Sink.written c.write_waiting.new.sink)
+    c.args.conn.now c.write_waiting.new.conn c.args.kept.now c.refill.new.self c.in-Ok.ensures.writes c.recall.ensures.some c.requires.none (c.in-Ok-refill.ensures.count ∙ zero)
+    c.in-Ok-refill.ensures.read c.in-Ok.ensures.went c.if-is_closed.ensures.open (c.in-Ok-refill.ensures.end zero)
 
-pub returns-in-Ok-take_in-clause-tells : goal.returns-in-Ok-take_in-clause-tells
-returns-in-Ok-take_in-clause-tells g c =
-    tells-before c.args.conn.now.core.log.journal c.write_waiting.new.conn.core.log.journal c.take_in.new.conn.core.log.journal (g.H.Hears.heard c.args.each.now) (g.H.Hears.heard c.take_in.new.each)
-    c.write_waiting.ensures.journal c.take_in.ensures.tells
+pub returns-in-Ok-feed_kept-clause-turned : goal.returns-in-Ok-feed_kept-clause-turned
+returns-in-Ok-feed_kept-clause-turned g c =
+    let n : length c.refill.new.self ≡ c.in-Ok-refill.count = c.in-Ok-refill.ensures.count in
+    let some : 0 < c.in-Ok-refill.count = some-count c.in-Ok-refill.count c.if-count-eq0.false in
+    let most = c.refill.ensures.most in
+    let piece : IsPiece c.refill.new.self = (omega (arith, n, some), most) in
+    turn-fed (g.S.Source.remaining c.args.source.now) (g.S.Source.remaining c.refill.new.source) (g.K.Sink.written c.args.sink.now) (g.K.Sink.written c.write_waiting.new.sink)
+    (g.K.Sink.written c.feed_kept.new.sink) c.args.conn.now c.write_waiting.new.conn c.feed_kept.new.conn c.args.kept.now c.refill.new.self c.feed_kept.new.kept c.in-Ok.ensures.writes
+    c.recall.ensures.some c.requires.none piece c.in-Ok-refill.ensures.read c.if-is_closed.ensures.open
+    (c.in-Ok-feed_kept.ensures.fed (g.S.Source.remaining c.refill.new.source))
 
-pub returns-in-Err-Conn-clause-tells : goal.returns-in-Err-Conn-clause-tells
-returns-in-Err-Conn-clause-tells g c =
-    tells-before c.args.conn.now.core.log.journal c.write_waiting.new.conn.core.log.journal c.last_units.new.conn.core.log.journal (g.H.Hears.heard c.args.each.now) (g.H.Hears.heard c.take_in.new.each)
-    c.write_waiting.ensures.journal
-    (tells-behind c.write_waiting.new.conn.core.log.journal c.take_in.new.conn.core.log.journal c.last_units.new.conn.core.log.journal (g.H.Hears.heard c.args.each.now)
-    (g.H.Hears.heard c.take_in.new.each) c.last_units.ensures.journal c.take_in.ensures.tells)
+pub returns-in-Ok-feed_kept-clause-failures : goal.returns-in-Ok-feed_kept-clause-failures
+returns-in-Ok-feed_kept-clause-failures g c = (c.in-Ok-refill.ensures.ok, (c.in-Ok-feed_kept.ensures.failures 0).1 ∙ c.in-Ok.ensures.ok)
+
+pub returns-in-Err-clause-fails : goal.returns-in-Err-clause-fails
+returns-in-Err-clause-fails g c =
+    let n : length c.refill.new.self ≡ c.in-Ok-refill.count = c.in-Ok-refill.ensures.count in
+    let some : 0 < c.in-Ok-refill.count = some-count c.in-Ok-refill.count c.if-count-eq0.false in
+    let most = c.refill.ensures.most in
+    let piece : IsPiece c.refill.new.self = (omega (arith, n, some), most) in
+    turn-fails c.in-Err.why (g.S.Source.remaining c.args.source.now) (g.S.Source.remaining c.refill.new.source) (g.K.Sink.written c.args.sink.now) (g.K.Sink.written c.write_waiting.new.sink)
+    (g.K.Sink.written c.feed_kept.new.sink) c.args.conn.now c.write_waiting.new.conn c.feed_kept.new.conn c.args.kept.now c.refill.new.self c.feed_kept.new.kept c.in-Ok.ensures.writes
+    c.recall.ensures.some c.requires.none piece c.in-Ok-refill.ensures.read (c.in-Err.ensures.fails (g.S.Source.remaining c.refill.new.source))

@@ -1,6 +1,7 @@
-use Rattle.std.proofs.Common.{ℕ, List, subst}
+use Rattle.std.proofs.Common.{ℕ, List, refl, subst}
 use Rattle.std.specs.Io.KnownBytes.{Appends}
-use Rattle.amqp_conn.proofs.Pumps.{pumps-unit, pops-less}
+use Rattle.amqp_conn.specs.Pumping.{AppendsFront}
+use Rattle.amqp_conn.proofs.Pumps.{carries-unit, breaks-unit, pops-less}
 use Rattle.amqp_conn.proofs.pumping.write_unit.Goals as goal
 
 pub returns-in-Ok-clause-writes : goal.returns-in-Ok-clause-writes
@@ -8,7 +9,14 @@ returns-in-Ok-clause-writes g c =
     let old = g.K.Sink.written c.args.sink.now in
     let new = g.K.Sink.written c.write_all.new.self in
     let all = subst (λ (x : List ℕ). Appends old new x) c.as_slice.ensures c.in-Ok.ensures.octets in
-    λ source. pumps-unit source old new c.args.conn.now c.pop_unit.new.self c.in-Some.unit.bytes c.recall.ensures.quiet c.recall.ensures.some c.in-Some.ensures.some.1 c.in-Some.ensures.some.2 all
+    λ source x. carries-unit source old new c.args.conn.now c.pop_unit.new.self x c.in-Some.unit.bytes c.recall.ensures.some c.in-Some.ensures.some.1 c.in-Some.ensures.some.2 all
 
 pub returns-in-Ok-clause-less : goal.returns-in-Ok-clause-less
 returns-in-Ok-clause-less g c = pops-less c.args.conn.now c.pop_unit.new.self c.in-Some.unit.bytes c.in-Some.ensures.some.1 c.in-Some.ensures.some.2
+
+pub returns-clause-fails : goal.returns-clause-fails
+returns-clause-fails g c =
+    let old = g.K.Sink.written c.args.sink.now in
+    let new = g.K.Sink.written c.write_all.new.self in
+    let part = subst (λ (x : List ℕ). AppendsFront old new x) c.as_slice.ensures c.in-Err.ensures.front in
+    λ source x. breaks-unit source old new c.args.conn.now c.pop_unit.new.self x c.in-Some.unit.bytes c.recall.ensures.some c.in-Some.ensures.some.1 c.in-Some.ensures.some.2 part

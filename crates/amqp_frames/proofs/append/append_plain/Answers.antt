@@ -3,9 +3,8 @@ use Rattle.amqp_types.specs.Canon.{canon}
 use Rattle.amqp_frames.specs.Field.{composite_datum, body_answer, header}
 use Rattle.std.proofs.Common.{◌++◌, ◌∷◌, [], ◌-◌, take, drop}
 use Rattle.amqp_performatives.specs.Composite.{type_of}
-use Rattle.amqp_frames.proofs.Feeding.{extended}
 use Rattle.amqp_frames.proofs.Measuring.{refused_form, is_there}
-use Rattle.amqp_frames.proofs.Plain.{refused, no_room, is_plain, plain_sized, plain_there}
+use Rattle.amqp_frames.proofs.Plain.{extended, refused, no_room, is_plain, plain_sized, plain_there}
 use Rattle.amqp_frames.proofs.append.append_plain.Goals as goal
 
 pub returns-in-Err : goal.returns-in-Err

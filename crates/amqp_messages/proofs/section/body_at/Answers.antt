@@ -1,8 +1,7 @@
-use Rattle.std.proofs.Common.{◌≡◌, ◌-◌, ℕ, List, [], take, drop, refl, sym, ap, subst, ◌∙◌, arith}
+use Rattle.std.proofs.Common.{◌-◌, ℕ, List, [], take, drop, sym, ap, ◌∙◌}
 use Rattle.std.proofs.lemmas.List.{append-nil}
 use Rattle.amqp_types.specs.declared.class.Run.TheVariants as Run
 use Rattle.amqp_types.specs.Datum.{octets}
-use Rattle.amqp_types.specs.Grammar.{Spells, SpellsWithin}
 use Rattle.amqp_messages.proofs.Bodies.{payload_at, view_binary}
 use Rattle.amqp_messages.proofs.section.body_at.Goals as goal
 

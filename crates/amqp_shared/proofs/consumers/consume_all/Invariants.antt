@@ -1,5 +1,6 @@
-use Rattle.amqp_shared.specs.Passes.{Raised}
+use Rattle.amqp_shared.specs.Consuming.{Rounds}
 use Rattle.amqp_shared.proofs.consumers.consume_all.Given as goal
 
 abbrev pub invariant-loop : goal.invariant-loop
-invariant-loop g l = Raised l.initial.pass l.pass l.count
+invariant-loop g l =
+    Rounds g.W.Work.consumes l.fn.job.link l.fn.job.credit l.count (record { pass = l.initial.pass; work = l.initial.work }) (record { pass = l.pass; work = l.work })

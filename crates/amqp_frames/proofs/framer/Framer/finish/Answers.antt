@@ -1,64 +1,72 @@
 use Rattle.std.proofs.Common.{◌<◌, ◌++◌, ◌*◌, List, ℕ, length, take, arith, refl, sym, ap, subst, ◌∙◌}
-use Rattle.std.specs.Vec.{vec_capacity}
-use Rattle.amqp_frames.specs.Framer.{HasRoom}
-use Rattle.amqp_frames.proofs.Feeding.{done_view, framed, refused, in_both, not_done, joined, room_of, sound_done, sound_again, same_view, front_taken, view_max, view_kept}
+use Rattle.amqp_frames.proofs.Feeding.{done_view, framed, refused, in_both, not_done, joined_some, room_of, sound_done, sound_again, same_view, front_taken, view_max, view_kept, view_state, view_room}
 use Rattle.amqp_frames.specs.Contents.{IsFrontFault}
 use Rattle.amqp_frames.proofs.Cuts.{from_place, cut_short}
 use Rattle.amqp_frames.proofs.framer.Framer.finish.Goals as goal
 
 pub invariant_of-self : goal.invariant_of-self
-invariant_of-self c = sound_again c.self.inside.max_size _ _ c.self.inside.is_done c.self.inside.before c.reserve_exact.new.self.items c.self.inside.buffer.items c.reserve_exact.ensures.items c.reserve_exact.ensures.capacity c.self.invariant
+invariant_of-self c = sound_again c.self.inside.max_size _ _ c.self.inside.is_done c.self.inside.before c.reserve.new.self.octets c.self.inside.buffer.octets c.reserve.ensures.octets c.reserve.ensures.more c.self.invariant
 
-pub returns-in_default : goal.returns-in_default
-returns-in_default c =
-    let kept = c.args.self.now.kept in
+pub returns-in_default-clause-fed : goal.returns-in_default-clause-fed
+returns-in_default-clause-fed c =
+    let kept = c.args.self.now.state.kept in
     let held = ap view_kept c.self.view_is in
     let some : 0 < length kept = omega (arith, c.requires.begins.low, c.requires.place) in
-    let same = not_done c.self.inside.is_done c.self.inside.buffer.items kept held some in
-    let at = from_place c.deref.result.now kept (4 * c.args.header.doff) c.start.result c.start.ensures (c.deref.ensures.value ∙ c.reserve_exact.ensures.items ∙ same) in (
-      cut_short _ c.args.header _ _ c.args.missing kept c.args.piece.now c.requires.begins c.requires.size c.requires.whole c.requires.place (subst (λ (m : ℕ). HasRoom m (vec_capacity c.self.inside.buffer) kept) (ap view_max c.self.view_is) (room_of _ _ _ kept held c.self.invariant.now)) (omega (arith, c.in_default.ensures.full, ap length same))
-          (subst (λ (x : List ℕ). IsFrontFault c.front_fault.result x) at c.front_fault.ensures),
-      same_view c.self.inside.max_size c.self.inside.is_done c.self.inside.before c.reserve_exact.new.self.items c.self.inside.buffer.items c.reserve_exact.ensures.items ∙ c.self.view_is,
+    let same = not_done c.self.inside.is_done c.self.inside.buffer.octets kept held some in
+    let at = from_place c.as_slice.result.now kept (4 * c.args.header.doff) c.start.result c.start.ensures (c.as_slice.ensures ∙ c.reserve.ensures.octets ∙ same) in (
+      cut_short _ c.args.header _ c.args.missing kept c.args.piece.now c.requires.begins c.requires.size c.requires.whole c.requires.place
+          (subst (λ (x : List ℕ). IsFrontFault c.front_fault.result x (take c.args.missing c.args.piece.now)) at c.front_fault.ensures),
+      same_view c.self.inside.max_size c.self.inside.is_done c.self.inside.before c.reserve.new.self.octets c.self.inside.buffer.octets c.reserve.ensures.octets ∙ ap view_state c.self.view_is,
     )
 
 pub invariant_of-self-in-Ok-read_contents : goal.invariant_of-self-in-Ok-read_contents
 invariant_of-self-in-Ok-read_contents c =
-    let kept = c.args.self.now.kept in
+    let kept = c.args.self.now.state.kept in
     let held = ap view_kept c.self.view_is in
     let some : 0 < length kept = omega (arith, c.requires.begins.low, c.requires.place) in
-    let same = not_done c.self.inside.is_done c.self.inside.buffer.items kept held some in
-    let items = joined c.extend_from_slice.result c.unwrap.result c.extend_from_slice.new.self.items c.reserve_exact.new.self.items c.self.inside.buffer.items (take c.args.missing c.args.piece.now) c.reserve_exact.ensures.items c.extend_from_slice.ensures.items c.unwrap.ensures in
-    sound_done _ _ _ _ _ kept (front_taken c.extend_from_slice.new.self.items c.self.inside.buffer.items (take c.args.missing c.args.piece.now) c.kept-count.result.now kept items same c.kept-count.ensures.value) (room_of _ _ _ kept held c.self.invariant.now)
-    (omega (arith, c.reserve_exact.ensures.capacity, c.extend_from_slice.ensures.capacity))
+    let same = not_done c.self.inside.is_done c.self.inside.buffer.octets kept held some in
+    let items = c.append.ensures.octets ∙ ap (λ (t : List ℕ). t ++ take c.args.missing c.args.piece.now) c.reserve.ensures.octets in
+    sound_done _ _ _ _ _ kept (front_taken c.append.new.self.octets c.self.inside.buffer.octets (take c.args.missing c.args.piece.now) c.kept-count.result.now kept items same c.kept-count.ensures.value) (room_of _ _ _ kept held c.self.invariant.now)
+    (omega (arith, c.reserve.ensures.more, c.append.ensures.room))
 
 pub invariant_of-self-in-Err : goal.invariant_of-self-in-Err
 invariant_of-self-in-Err c =
-    let kept = c.args.self.now.kept in
+    let kept = c.args.self.now.state.kept in
     let held = ap view_kept c.self.view_is in
     let some : 0 < length kept = omega (arith, c.requires.begins.low, c.requires.place) in
-    let same = not_done c.self.inside.is_done c.self.inside.buffer.items kept held some in
-    let items = joined c.extend_from_slice.result c.unwrap.result c.extend_from_slice.new.self.items c.reserve_exact.new.self.items c.self.inside.buffer.items (take c.args.missing c.args.piece.now) c.reserve_exact.ensures.items c.extend_from_slice.ensures.items c.unwrap.ensures in
-    let back = c.truncate.ensures.items ∙ front_taken c.extend_from_slice.new.self.items c.self.inside.buffer.items (take c.args.missing c.args.piece.now) c.kept-count.result.now kept items same c.kept-count.ensures.value ∙ sym same in
-    sound_again c.self.inside.max_size _ _ c.self.inside.is_done c.self.inside.before c.truncate.new.self.items c.self.inside.buffer.items back (omega (arith, c.reserve_exact.ensures.capacity, c.extend_from_slice.ensures.capacity, c.truncate.ensures.capacity)) c.self.invariant
+    let same = not_done c.self.inside.is_done c.self.inside.buffer.octets kept held some in
+    let items = c.append.ensures.octets ∙ ap (λ (t : List ℕ). t ++ take c.args.missing c.args.piece.now) c.reserve.ensures.octets in
+    let back = c.truncate.ensures.octets ∙ front_taken c.append.new.self.octets c.self.inside.buffer.octets (take c.args.missing c.args.piece.now) c.kept-count.result.now kept items same c.kept-count.ensures.value ∙ sym same in
+    sound_again c.self.inside.max_size _ _ c.self.inside.is_done c.self.inside.before c.truncate.new.self.octets c.self.inside.buffer.octets back (omega (arith, c.reserve.ensures.more, c.append.ensures.room, c.truncate.ensures.room)) c.self.invariant
 
-pub returns-in-Ok-read_contents : goal.returns-in-Ok-read_contents
-returns-in-Ok-read_contents c =
-    let kept = c.args.self.now.kept in
+pub returns-in-Ok-read_contents-clause-fed : goal.returns-in-Ok-read_contents-clause-fed
+returns-in-Ok-read_contents-clause-fed c =
+    let kept = c.args.self.now.state.kept in
     let held = ap view_kept c.self.view_is in
     let some : 0 < length kept = omega (arith, c.requires.begins.low, c.requires.place) in
-    let same = not_done c.self.inside.is_done c.self.inside.buffer.items kept held some in
-    let items = joined c.extend_from_slice.result c.unwrap.result c.extend_from_slice.new.self.items c.reserve_exact.new.self.items c.self.inside.buffer.items (take c.args.missing c.args.piece.now) c.reserve_exact.ensures.items c.extend_from_slice.ensures.items c.unwrap.ensures in
-    let at = in_both kept c.args.piece.now c.deref-2.result.now (take c.args.missing c.args.piece.now) (4 * c.args.header.doff) c.start-2.result c.args.missing c.start-2.ensures (c.deref-2.ensures.value ∙ items ∙ ap (λ (t : List ℕ). t ++ take c.args.missing c.args.piece.now) same) refl in
-    let f = framed c.in-Ok-read_contents.frame c.args.header c.args.self.now.max_size c.args.missing kept c.args.piece.now _ c.requires.begins c.requires.size c.requires.whole at c.in-Ok-read_contents.ensures.0 c.in-Ok-read_contents.ensures.1 in
-    (c.requires.whole, f.0, f.1, done_view _ _ _ _ kept (ap view_max c.self.view_is) (front_taken c.extend_from_slice.new.self.items c.self.inside.buffer.items (take c.args.missing c.args.piece.now) c.kept-count.result.now kept items same c.kept-count.ensures.value))
+    let same = not_done c.self.inside.is_done c.self.inside.buffer.octets kept held some in
+    let items = c.append.ensures.octets ∙ ap (λ (t : List ℕ). t ++ take c.args.missing c.args.piece.now) c.reserve.ensures.octets in
+    let at = in_both kept c.args.piece.now c.as_slice-2.result.now (take c.args.missing c.args.piece.now) (4 * c.args.header.doff) c.start-2.result c.args.missing c.start-2.ensures (c.as_slice-2.ensures ∙ items ∙ ap (λ (t : List ℕ). t ++ take c.args.missing c.args.piece.now) same) refl in
+    let f = framed c.in-Ok-read_contents.frame c.args.header c.args.self.now.state.max_size c.args.missing kept c.args.piece.now _ c.requires.begins c.requires.size c.requires.whole at c.in-Ok-read_contents.ensures.0 c.in-Ok-read_contents.ensures.1 in
+    (c.requires.whole, f.0, f.1, done_view _ _ _ _ kept (ap view_max c.self.view_is) (front_taken c.append.new.self.octets c.self.inside.buffer.octets (take c.args.missing c.args.piece.now) c.kept-count.result.now kept items same c.kept-count.ensures.value))
 
-pub returns-in-Err : goal.returns-in-Err
-returns-in-Err c =
-    let kept = c.args.self.now.kept in
+pub returns-in-Err-clause-fed : goal.returns-in-Err-clause-fed
+returns-in-Err-clause-fed c =
+    let kept = c.args.self.now.state.kept in
     let held = ap view_kept c.self.view_is in
     let some : 0 < length kept = omega (arith, c.requires.begins.low, c.requires.place) in
-    let same = not_done c.self.inside.is_done c.self.inside.buffer.items kept held some in
-    let items = joined c.extend_from_slice.result c.unwrap.result c.extend_from_slice.new.self.items c.reserve_exact.new.self.items c.self.inside.buffer.items (take c.args.missing c.args.piece.now) c.reserve_exact.ensures.items c.extend_from_slice.ensures.items c.unwrap.ensures in
-    let back = c.truncate.ensures.items ∙ front_taken c.extend_from_slice.new.self.items c.self.inside.buffer.items (take c.args.missing c.args.piece.now) c.kept-count.result.now kept items same c.kept-count.ensures.value ∙ sym same in
-    let at = in_both kept c.args.piece.now c.deref-2.result.now (take c.args.missing c.args.piece.now) (4 * c.args.header.doff) c.start-2.result c.args.missing c.start-2.ensures (c.deref-2.ensures.value ∙ items ∙ ap (λ (t : List ℕ). t ++ take c.args.missing c.args.piece.now) same) refl in
-    (refused _ c.args.header _ c.args.missing kept c.args.piece.now _ c.requires.begins c.requires.size c.requires.whole at c.in-Err.ensures, same_view c.self.inside.max_size c.self.inside.is_done c.self.inside.before c.truncate.new.self.items c.self.inside.buffer.items back ∙ c.self.view_is)
+    let same = not_done c.self.inside.is_done c.self.inside.buffer.octets kept held some in
+    let items = c.append.ensures.octets ∙ ap (λ (t : List ℕ). t ++ take c.args.missing c.args.piece.now) c.reserve.ensures.octets in
+    let back = c.truncate.ensures.octets ∙ front_taken c.append.new.self.octets c.self.inside.buffer.octets (take c.args.missing c.args.piece.now) c.kept-count.result.now kept items same c.kept-count.ensures.value ∙ sym same in
+    let at = in_both kept c.args.piece.now c.as_slice-2.result.now (take c.args.missing c.args.piece.now) (4 * c.args.header.doff) c.start-2.result c.args.missing c.start-2.ensures (c.as_slice-2.ensures ∙ items ∙ ap (λ (t : List ℕ). t ++ take c.args.missing c.args.piece.now) same) refl in
+    (refused _ c.args.header _ c.args.missing kept c.args.piece.now _ c.requires.begins c.requires.size c.requires.whole at c.in-Err.ensures, same_view c.self.inside.max_size c.self.inside.is_done c.self.inside.before c.truncate.new.self.octets c.self.inside.buffer.octets back ∙ ap view_state c.self.view_is)
+
+pub returns-in-Ok-read_contents-clause-room : goal.returns-in-Ok-read_contents-clause-room
+returns-in-Ok-read_contents-clause-room c =
+    let some : 0 < length c.args.self.now.state.kept = omega (arith, c.requires.begins.low, c.requires.place) in
+    omega (arith, joined_some c.args.self.now.state.kept c.args.missing some, ap view_room c.self.view_is, c.requires.size, c.in-Ok.ensures.made, c.append.ensures.room)
+
+pub returns-in-Err-clause-room : goal.returns-in-Err-clause-room
+returns-in-Err-clause-room c =
+    let some : 0 < length c.args.self.now.state.kept = omega (arith, c.requires.begins.low, c.requires.place) in
+    omega (arith, joined_some c.args.self.now.state.kept (length c.args.piece.now) some, ap view_room c.self.view_is, c.requires.size, c.requires.whole, c.in-Ok.ensures.made, c.append.ensures.room, c.truncate.ensures.room)

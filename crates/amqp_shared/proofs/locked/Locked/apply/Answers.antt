@@ -18,5 +18,5 @@ pub returns-in-Ok-clause-receipt : goal.returns-in-Ok-clause-receipt
 returns-in-Ok-clause-receipt g c =
     let r = c.receipt_of.ensures in
     let same = ap (λ (x : Connection). x.core.log.journal) c.push_units.ensures.moves.rest in
-    let place = ap (λ (x : Receipt). x.place) r ∙ ap length (c.journal.ensures.value ∙ ap (λ (l : Log). l.journal) c.logged.ensures) in
+    let place = ap (λ (x : Receipt). x.place) r ∙ c.steps-place.ensures ∙ ap (λ (l : Log). length l.journal) c.logged.ensures in
     is-receipt c.self.inside.conn.core c.do_operation.new.conn.core c.args.op.now c.in-Ok.given c.push_units.new.conn.core.log c.receipt_of.result c.in-Ok.ensures.does same place (ap (λ (x : Receipt). x.link) r) (ap (λ (x : Receipt). x.id) r)

@@ -1,0 +1,28 @@
+//! Tests of the libraries below the endpoint, in one crate above them: a check of a crate's tests proves that crate once more, so tests that stand
+//! apart spare one proof of each library. They show what no clause says: octets of known values and frames, and that each call succeeds where memory is there.
+//!
+//! | module | of |
+//! |---|---|
+//! | `types` | spellings of values, both ways |
+//! | `flow` | serial numbers, windows and credit |
+//! | `performatives` | copies of each kind of body, state and error |
+//! | `decoder` | performatives in front of octets |
+//! | `frames` | frames written and read, however they are cut |
+//! | `deliveries` | unsettled deliveries, and deliveries that are cut over transfers |
+//! | `messages` | messages, their sections and fields; the ends of a link |
+#![tactic(auto)]
+
+#[cfg(test)]
+mod decoder;
+#[cfg(test)]
+mod deliveries;
+#[cfg(test)]
+mod flow;
+#[cfg(test)]
+mod frames;
+#[cfg(test)]
+mod messages;
+#[cfg(test)]
+mod performatives;
+#[cfg(test)]
+mod types;

@@ -1,0 +1,104 @@
+//! Messages, written in their canonical spelling.
+ghost use Rattle.std.specs.Prelude.{◌≡◌, ◌↔◌, ℕ, List, Some, None, Err, OnOk, OnErr};
+ghost use Rattle.amqp_types.specs.Canon.{Writes, Appends, capped};
+ghost use Rattle.amqp_messages.specs.Sections.{SectionData, seen};
+ghost use Rattle.amqp_messages.specs.Messages.{seen_all, IsMessage};
+ghost use Rattle.amqp_messages.specs.Written.{section_form, sections_form, message_form, is_message, bare_form, bare_forms};
+
+use crate::message::Message;
+use crate::order::{is_of_body, may_follow};
+use crate::section::Section;
+use amqp_types::{MAX_DEPTH, WriteFault, append_value, size_within};
+
+/// Whether the sections stand in an order that a message may have, a body among them.
+fn are_ordered(sections: &[Section]) -> bool
+    ensures { result ≡ is_message (seen_all sections.now) }
+{
+    let mut last = None;
+    let mut has_body = false;
+    for section in sections {
+        if !may_follow(last, section.kind) {
+            return false;
+        }
+        last = Some(section.kind);
+        has_body = has_body | is_of_body(section.kind);
+    }
+    has_body
+}
+
+fn section_size(section: &Section) -> Option<u64>
+    ensures { result ≡ capped (section_form (seen section.now)) }
+{
+    if !section.kind.takes(&section.body) {
+        return None;
+    }
+    let size = size_within(MAX_DEPTH - 1, &section.body)?;
+    Some(size.saturating_add(3))
+}
+
+fn sections_size(sections: &[Section]) -> Option<u64>
+    ensures { result ≡ capped (sections_form (seen_all sections.now)) }
+{
+    let mut size: u64 = 0;
+    for section in sections {
+        let more = section_size(section)?;
+        size = size.saturating_add(more);
+    }
+    Some(size)
+}
+
+fn put_section(section: &Section, out: &mut Vec<u8>) -> Result<(), WriteFault>
+    ensures { Writes (bare_form (seen section.now)) result out.old.items out.new.items }
+{
+    out.extend_from_slice(&[0x00, 0x53, section.kind.number()])?;
+    append_value(&section.body, out)
+}
+
+fn put_sections(sections: &[Section], out: &mut Vec<u8>) -> Result<(), WriteFault>
+    ensures { Writes (bare_forms (seen_all sections.now)) result out.old.items out.new.items }
+{
+    for section in sections {
+        put_section(section, out)?;
+    }
+    Ok(())
+}
+
+/// How many octets are written of the message, without memory; None exactly where it is not written: its sections are out of order or none of
+/// them is a body, or one has a body that its kind does not take or that has no canonical spelling. `u64::MAX` stands for all from there on.
+pub fn message_size(message: &Message) -> Option<u64>
+    ensures { result ≡ capped (message_form (seen_all message.now.sections)) }
+{
+    let sections = message.sections.as_slice();
+    if are_ordered(sections) {
+        sections_size(sections)
+    } else {
+        None
+    }
+}
+
+/// Writes the message at the end, each part under the shortest format code that fits. On an error the octets are as they were.
+///
+/// The octets are made beside `out` in room that is asked for once, so each is copied twice.
+pub fn write_message(message: &Message, out: &mut Vec<u8>) -> Result<(), WriteFault>
+    ensures ok { OnOk result (Appends (message_form (seen_all message.now.sections)) out.old.items out.new.items) }
+    ensures refused { (result ≡ Err WriteFault.NotWritable) ↔ (message_form (seen_all message.now.sections) ≡ None) }
+    ensures err { OnErr result (out.new.items ≡ out.old.items) }
+{
+    let Some(size) = message_size(message) else {
+        return Err(WriteFault::NotWritable);
+    };
+    let mut octets = Vec::with_capacity(*out.allocator(), size as usize)?;
+    match put_sections(message.sections.as_slice(), &mut octets) {
+        Ok(()) => {
+            out.extend_from_slice(&octets)?;
+            Ok(())
+        }
+        Err(_) => Err(WriteFault::NoMemory),
+    }
+}
+
+/// What is written is read back: it is a message of these sections, and of no others.
+pub fn message_read_back()
+    ensures there { (ss : List SectionData) (x : List ℕ) → message_form ss ≡ Some x → IsMessage ss x }
+    ensures alone { (ss ts : List SectionData) (x : List ℕ) → IsMessage ss x → IsMessage ts x → ts ≡ ss }
+{}

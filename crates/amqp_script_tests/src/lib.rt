@@ -1,0 +1,12 @@
+//! Tests of the commands that lines drive, with the rows of sessions that were worked through.
+//!
+//! | module | of |
+//! |---|---|
+//! | `script` | an endpoint that lines drive |
+//! | `driven` | a connection that lines drive |
+#![tactic(auto)]
+
+#[cfg(test)]
+mod driven;
+#[cfg(test)]
+mod script;
