@@ -28,7 +28,7 @@ use Rattle.amqp_laws.proofs.Sound.{at-is-sound}
 use Rattle.amqp_laws.proofs.Twice.{and-both}
 use Rattle.amqp_laws.proofs.AttachLaw.{not-over}
 use Rattle.amqp_pair_laws.specs.World.{IsFair, frame_among, hears, sends}
-use Rattle.amqp_pair_laws.specs.Taken.{AreTaken, IsAttach}
+use Rattle.amqp_pair_laws.proofs.FrameKinds.{AreTaken, IsAttach}
 use Rattle.amqp_pair_laws.proofs.Lag as lag
 use Rattle.amqp_pair_laws.proofs.Slots.{Slot, kept}
 use Rattle.amqp_pair_laws.proofs.SlotOf.{shape, slot_of}

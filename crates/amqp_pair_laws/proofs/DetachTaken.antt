@@ -17,7 +17,7 @@ use Rattle.amqp_laws.specs.Live.{live}
 use Rattle.amqp_laws.specs.At.{at}
 use Rattle.amqp_laws.specs.Lawful.{next}
 use Rattle.amqp_pair_laws.specs.World.{IsFair, hears, sends}
-use Rattle.amqp_pair_laws.specs.Taken.{AreTaken, IsDetach}
+use Rattle.amqp_pair_laws.proofs.FrameKinds.{AreTaken, IsDetach}
 use Rattle.amqp_pair_laws.proofs.Lag as lag
 use Rattle.amqp_pair_laws.proofs.Slots.{kept}
 use Rattle.amqp_pair_laws.proofs.SlotOf.{shape}

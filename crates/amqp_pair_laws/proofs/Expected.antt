@@ -21,7 +21,7 @@ use Rattle.amqp_rules.specs.View.{LinkView, View, change_first, handle_of, has_n
 use Rattle.amqp_rules.specs.Sending.{frame_of, sends as sends'}
 use Rattle.amqp_rules.specs.Deliveries.{belongs_to, transfer_on, transferred}
 use Rattle.amqp_rules.specs.Attach.{attach_sent, attached_by_peer, attached_by_us}
-use Rattle.amqp_rules.specs.Start.{start_body, start_refusals}
+use Rattle.amqp_rules.specs.Start.{start_body, start_refusals, tag_is_held}
 use Rattle.amqp_rules.specs.Answer.{body_answer, is_dropped, next_body, next_own, own_answer}
 use Rattle.amqp_rules.specs.PeerTransfer.{is_nameless}
 use Rattle.amqp_rules.specs.Sound.{IsSound}
@@ -55,19 +55,27 @@ use Rattle.amqp_pair_laws.proofs.CountsPass.{attached-ends, counts-known}
 -- # The end that sends
 
 -- a start: its transfer, and the link
-record Began (v : View) (f : Frame) : Type 0 where
-  link : LinkView
-  number : ℕ
-  transfer : TransferBody
-  found : find (has_number number) v.links ≡ Some link
-  attached : is_attached link ≡ true
-  role-is : link.role ≡ Sender
-  fresh : link.sending ≡ None
-  body : f.body ≡ Some (heard.Transfer transfer)
-  handle : transfer.handle ≡ handle_of link.ours
-  named : transfer.delivery_id ≡ Some (next_delivery v)
+pub record Began (v : View) (step : Step) (f : Frame) : Type 0 where
+  pub link : LinkView
+  pub number : ℕ
+  pub transfer : TransferBody
+  pub found : find (has_number number) v.links ≡ Some link
+  pub attached : is_attached link ≡ true
+  pub role-is : link.role ≡ Sender
+  pub fresh : link.sending ≡ None
+  pub body : f.body ≡ Some (heard.Transfer transfer)
+  pub handle : transfer.handle ≡ handle_of link.ours
+  pub named : transfer.delivery_id ≡ Some (next_delivery v)
+  pub tag : List ℕ
+  pub format : ℕ
+  pub settled : Bool
+  pub payload : List ℕ
+  pub more : Bool
+  pub is-start : step ≡ Own (own.Start number tag format settled payload more)
+  pub free : tag_is_held v link.number tag ≡ false
+  pub transfer-is : transfer ≡ start_transfer (handle_of link.ours) (next_delivery v) tag format settled more
 
-began-own : (v : View) (op : Op) (reply : Reply) (f : Frame) → own_answer v op ≡ Ok reply → is_start (Some op) ≡ true → frame_among reply.sent ≡ Some f → Began v f
+began-own : (v : View) (op : Op) (reply : Reply) (f : Frame) → own_answer v op ≡ Ok reply → is_start (Some op) ≡ true → frame_among reply.sent ≡ Some f → Began v (Own op) f
 began-own v (own.Start number tag format settled payload more) reply f h is sent =
     let id = next_delivery v in
     let o = on-link-ok v number (λ l. sends' v.max_frame (start_refusals v l tag settled payload) (start_body (handle_of l.ours) id tag format settled more) payload (given.Delivery id)) reply h in
@@ -87,16 +95,24 @@ began-own v (own.Start number tag format settled payload more) reply f h is sent
       body = ap (λ (f : Frame). f.body) (sym one);
       handle = refl;
       named = refl;
+      tag = tag;
+      format = format;
+      settled = settled;
+      payload = payload;
+      more = more;
+      is-start = refl;
+      free = k.none_holds.1.1.1.0;
+      transfer-is = refl;
     }
 began-own v _ reply f h is sent = absurd (cc (is))
 
-began : (v : View) (step : Step) (reply : Reply) (f : Frame) → Answers v step reply → is_start (own_in step) ≡ true → frame_among reply.sent ≡ Some f → Began v f
+pub began : (v : View) (step : Step) (reply : Reply) (f : Frame) → Answers v step reply → is_start (own_in step) ≡ true → frame_among reply.sent ≡ Some f → Began v step f
 began v (Opened told) reply f h is sent = absurd (cc (is))
 began v (Own op) reply f h is sent = began-own v op reply f h is sent
 began v (Heard g) reply f h is sent = absurd (cc (is))
 
 -- a start sends a frame
-start-loud : (v : View) (op : Op) (reply : Reply) → own_answer v op ≡ Ok reply → is_start (Some op) ≡ true → frame_among reply.sent ≡ None → ⊥
+pub start-loud : (v : View) (op : Op) (reply : Reply) → own_answer v op ≡ Ok reply → is_start (Some op) ≡ true → frame_among reply.sent ≡ None → ⊥
 start-loud v (own.Start number tag format settled payload more) reply h is none =
     let id = next_delivery v in
     let o = on-link-ok v number (λ l. sends' v.max_frame (start_refusals v l tag settled payload) (start_body (handle_of l.ours) id tag format settled more) payload (given.Delivery id)) reply h in
@@ -105,17 +121,17 @@ start-loud v (own.Start number tag format settled payload more) reply h is none 
     absurd (cc (sent', none))
 start-loud v _ reply h is none = absurd (cc (is))
 
-quiet-starts : (v : View) (step : Step) (reply : Reply) → Answers v step reply → frame_among reply.sent ≡ None → is_start (own_in step) ≡ false
+pub quiet-starts : (v : View) (step : Step) (reply : Reply) → Answers v step reply → frame_among reply.sent ≡ None → is_start (own_in step) ≡ false
 quiet-starts v (Opened told) reply h none = refl
 quiet-starts v (Own op) reply h none = by-bool (is_start (Some op)) (λ (t : is_start (Some op) ≡ true). absurd (start-loud v op reply h t none)) (λ (f : is_start (Some op) ≡ false). f)
 quiet-starts v (Heard g) reply h none = refl
 
 -- no other step sends an id
-abbrev NoId : Option Performative → Type 0
+abbrev pub NoId : Option Performative → Type 0
 NoId (Some (heard.Transfer t)) = t.delivery_id ≡ None
 NoId _ = Unit {0}
 
-later-none : (v after : View) (heard' : Option Performative) (op : Option Op) (reply : Reply) (f : Frame) → Sending v after heard' op reply → is_start op ≡ false → frame_among reply.sent ≡ Some f → NoId f.body
+pub later-none : (v after : View) (heard' : Option Performative) (op : Option Op) (reply : Reply) (f : Frame) → Sending v after heard' op reply → is_start op ≡ false → frame_among reply.sent ≡ Some f → NoId f.body
 later-none v after heard' op reply f (silent q) other sent = absurd (cc (q, sent))
 later-none v after heard' op reply f (transfers t payload deaf mapped room named one) other sent = subst (λ (o : Option Performative). NoId o) (sym (body-of reply.sent (heard.Transfer t) payload f one sent)) (named other)
 later-none v after heard' op reply f (flows w t mapped open' begun numbers one) other sent = subst (λ (o : Option Performative). NoId o) (sym (body-of reply.sent (heard.Flow w) [] f one sent)) tt
@@ -206,7 +222,7 @@ deaf-still v (Opened told) none = refl
 deaf-still v (Own op) none = own-still v op
 deaf-still v (Heard f) none = absurd (cc (none))
 
-heard-answers : (v : View) (step : Step) (reply : Reply) (f : Frame) → Answers v step reply → is_over v.session ≡ false → frame_in step ≡ Some f → body_answer v f.body f.payload ≡ Ok reply
+pub heard-answers : (v : View) (step : Step) (reply : Reply) (f : Frame) → Answers v step reply → is_over v.session ≡ false → frame_in step ≡ Some f → body_answer v f.body f.payload ≡ Ok reply
 heard-answers v (Opened told) reply f h o is = absurd (cc (is))
 heard-answers v (Own op) reply f h o is = absurd (cc (is))
 heard-answers v (Heard g) reply f h o is =
@@ -234,9 +250,9 @@ expected-ahead ca cb n e a b w deaf k lives id is =
     k (lives-goes e b lives).lived id (sym same ∙ is)
 
 -- a start passes
-start-passes : (ca cb : Config) (n : ℕ) (a b : List Entry) (f : Frame) → Tight ca cb n a b → Lives b → IsSound (at ca a) → IsSound (at cb b) → Began (at ca a) f → ExpectedAgree ca cb a b → (y : ℕ)
+start-passes : (ca cb : Config) (n : ℕ) (a b : List Entry) (step : Step) (f : Frame) → Tight ca cb n a b → Lives b → IsSound (at ca a) → IsSound (at cb b) → Began (at ca a) step f → ExpectedAgree ca cb a b → (y : ℕ)
     → (next_body (at cb b) f.body f.payload).expected ≡ Some y → y ≡ wire (next_delivery (at ca a) + 1)
-start-passes ca cb n a b f t lives sa sb x k y is =
+start-passes ca cb n a b step f t lives sa sb x k y is =
     let l = x.link in
     let there = named-found l.role l.name (has_number x.number) (at ca a).links l sa.links.names x.found (name-self l.role l.name) in
     let slot = slots-known ca cb n a b t lives l.role l.name in
@@ -270,7 +286,7 @@ expected-pass ca cb n e a e' b f w t m m' sent heard' k lives y is =
     (λ (yes : starts e ≡ true).
     let x = began (at ca a) e.step e.reply f m.fair.answers yes sent in
     let more' : started (live (e ∷ a)) ≡ started (live a) + 1 = ap started (sender-lives ca a e.step e.reply f m.fair.answers sent) ∙ rw yes refl in
-    start-passes ca cb n a b f t lb oa.sound ob.sound x k y is' ∙ one-on ca.first_id (started (live a)) ∙ ap (λ n. wire (ca.first_id + n)) (sym more'))
+    start-passes ca cb n a b e.step f t lb oa.sound ob.sound x k y is' ∙ one-on ca.first_id (started (live a)) ∙ ap (λ n. wire (ca.first_id + n)) (sym more'))
     (λ (other : starts e ≡ false).
     let none = later-none (at ca a) (next (at ca a) e.step) (body_heard e.step) (own_in e.step) e.reply f (step-sending (at ca a) e.step e.reply m.fair.answers) other sent in
     let same = no-id-still (at cb b) f.body f.payload e'.reply (heard-answers (at cb b) e'.step e'.reply f m'.fair.answers lb heard') none in

@@ -22,7 +22,7 @@ use Rattle.amqp_pair_laws.proofs.Windows.{lives-goes, sender-lives}
 use Rattle.amqp_pair_laws.proofs.Opens.{body-of, deaf-body, heard-body}
 use Rattle.amqp_pair_laws.specs.Premise.{ids_heard, ids_sent}
 
-none-sent : (sent : List Sent) → frame_among sent ≡ None → transfer_among sent ≡ None
+pub none-sent : (sent : List Sent) → frame_among sent ≡ None → transfer_among sent ≡ None
 none-sent [] h = refl
 none-sent (s ∷ sent) h =
     by-bool (is_some s.frame.body)

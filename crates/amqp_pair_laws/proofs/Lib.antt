@@ -16,7 +16,6 @@ pub mod Named
 pub mod Doing
 pub mod SlotActs
 pub mod Credit
-pub mod Tags
 -- What each step does to the counts and the credit of a link, and that both its ends agree on them.
 pub mod Turns
 pub mod TurnOwn
@@ -28,6 +27,7 @@ pub mod CountsKept
 pub mod CountsPass
 pub mod Expected
 -- The next frame is taken, kind by kind.
+pub mod FrameKinds
 pub mod Next
 pub mod BeginTaken
 pub mod EndTaken
@@ -38,3 +38,15 @@ pub mod AttachTaken
 pub mod DetachTaken
 pub mod LinkFlowTaken
 pub mod TransferMet
+pub mod TransferTaken
+-- What each end still holds of the deliveries.
+pub mod Members
+pub mod LinkSteps
+pub mod HeldSteps
+pub mod Fresh
+pub mod Closed
+pub mod SendingIds
+pub mod Attached
+pub mod HeldKnown
+pub mod TagFree
+pub mod AllTaken

@@ -19,7 +19,7 @@ use Rattle.amqp_laws.specs.Lawful.{next}
 use Rattle.amqp_laws.proofs.AttachLaw.{not-over}
 use Rattle.amqp_laws.proofs.Sound.{at-is-sound}
 use Rattle.amqp_pair_laws.specs.World.{sends}
-use Rattle.amqp_pair_laws.specs.Taken.{AreTaken, IsFlow}
+use Rattle.amqp_pair_laws.proofs.FrameKinds.{AreTaken, IsFlow}
 use Rattle.amqp_pair_laws.proofs.SlotActs.{AllFair, Lives, attached-ours, by-handle, its-handle, one-more}
 use Rattle.amqp_pair_laws.proofs.Doing.{IsOther}
 use Rattle.amqp_pair_laws.proofs.Named.{name-self, named-found}

@@ -228,7 +228,7 @@ windows-known ca cb n a b t = lag.exact sends hears IsFair Agree known-kept ca c
 
 -- # A transfer on its way
 
-room-there : (v after : View) (heard' : Option Performative) (op : Option Op) (reply : Reply) (f : Frame) (t : TransferBody) → Sending v after heard' op reply → frame_among reply.sent ≡ Some f → f.body ≡ Some (heard.Transfer t)
+pub room-there : (v after : View) (heard' : Option Performative) (op : Option Op) (reply : Reply) (f : Frame) (t : TransferBody) → Sending v after heard' op reply → frame_among reply.sent ≡ Some f → f.body ≡ Some (heard.Transfer t)
     → (is_mapped v.session ≡ true) × ((v.windows.remote_incoming == 0) ≡ false)
 room-there v after heard' op reply f t (silent q) sent is = absurd (cc (q, sent))
 room-there v after heard' op reply f t (transfers b payload deaf mapped room named one) sent is = (mapped, room)

@@ -1,5 +1,5 @@
 -- What an accepted step sends: nothing with a body, a transfer, a flow, a begin, or another frame.
-use Rattle.std.proofs.Common.{◌≡◌, ℕ, ◌==◌, ◌&&◌, ◌||◌, Bool, true, false, not, cond, Option, Some, None, Result, Ok, List, [], ◌∷◌, refl, sym, ap, subst, ◌∙◌, find, option_map}
+use Rattle.std.proofs.Common.{◌≡◌, ℕ, ◌==◌, ◌&&◌, ◌||◌, Bool, true, false, not, cond, Option, Some, None, Result, Ok, List, [], ◌∷◌, refl, sym, ap, subst, ◌∙◌, find, option_map, unwrap_or}
 use Rattle.amqp_flow.specs.Windows.{WindowsView, next_outgoing, windows_begun, windows_heard, windows_renewed}
 use Rattle.amqp_performatives.specs.declared.bodies.TransferBody.{TransferBody}
 use Rattle.amqp_performatives.specs.declared.bodies.FlowBody.{FlowBody}
@@ -83,6 +83,18 @@ abbrev pub is_own_detach : Option Op → Bool
 is_own_detach (Some (Detach link error)) = true
 is_own_detach _ = false
 
+-- the disposition that an operation tells
+abbrev pub IsOf : Option Op → DispositionBody → Type 0
+IsOf (Some (Dispose role first last settled state)) d = (d.role ≡ role) × ((d.first ≡ first) × (((disposition_of d).last ≡ last) × ((disposition_of d).settled ≡ settled)))
+IsOf _ d = ⊥
+
+-- a body of a session's frame
+abbrev pub is_spoken : Option Performative → Bool
+is_spoken None = false
+is_spoken (Some (heard.Open b)) = false
+is_spoken (Some (heard.Close b)) = false
+is_spoken _ = true
+
 -- of a frame that is no transfer, flow or begin
 pub record Beside (v after : View) (hears : Option Performative) (op : Option Op) (p : Performative) : Type 0 where
   -- an attach is asked for; a detach too, or it answers one
@@ -91,6 +103,8 @@ pub record Beside (v after : View) (hears : Option Performative) (op : Option Op
   pub mapped : is_detach (Some p) ≡ false → is_mapped v.session ≡ true
   pub ends : is_end (Some p) ≡ true → is_over after.session ≡ true
   pub range : (d : DispositionBody) → Some p ≡ Some (heard.Disposition d) → is_backwards (disposition_of d).first (disposition_of d).last ≡ false
+  pub says : (d : DispositionBody) → Some p ≡ Some (heard.Disposition d) → IsOf op d
+  pub spoken : is_spoken (Some p) ≡ true
 
 pub data Sending (v : View) (after : View) (hears : Option Performative) (op : Option Op) (reply : Reply) : Type 0 where
   silent : frame_among reply.sent ≡ None → Sending v after hears op reply
@@ -135,7 +149,7 @@ take-silent link (d ∷ ds) reply h = let e : take_reply link d ≡ reply = cc i
 attach-sending : (v : View) (a : Wanted) (after : View) (reply : Reply) → attach_answer v a ≡ Ok reply → (op : Op) → is_own_attach (Some op) ≡ true → Sending v after None (Some op) reply
 attach-sending v a after reply h op is =
     let s = sends-ok v.max_frame (attach_refusals v a) (Some (heard.Attach (attach_sent v a))) [] (given.Link (number_met v.made (find (is_offered_as a.role a.name) v.links))) reply h in
-    others (heard.Attach (attach_sent v a)) [] refl refl (record { attaches = λ h. is; detaches = λ h. absurd (cc (h)); mapped = λ h. not-false (is_mapped v.session) s.none_holds.0; ends = λ h. absurd (cc (h)); range = λ d h. absurd (cc (h)) }) (sent-by _ reply s.replies)
+    others (heard.Attach (attach_sent v a)) [] refl refl (record { attaches = λ h. is; detaches = λ h. absurd (cc (h)); mapped = λ h. not-false (is_mapped v.session) s.none_holds.0; ends = λ h. absurd (cc (h)); range = λ d h. absurd (cc (h)); says = λ d h. absurd (cc (h)); spoken = refl }) (sent-by _ reply s.replies)
 
 said-range : (role : Role) (d : Disposition) (e : DispositionBody) → dispose_body role d ≡ Some (heard.Disposition e) → is_backwards d.first d.last ≡ false → is_backwards (disposition_of e).first (disposition_of e).last ≡ false
 said-range role d e h forward =
@@ -143,12 +157,22 @@ said-range role d e h forward =
     let same : body ≡ e = cc h in
     subst (λ (e : DispositionBody). is_backwards (disposition_of e).first (disposition_of e).last ≡ false) same forward
 
+said-of : (role : Role) (d : Disposition) (e : DispositionBody) → dispose_body role d ≡ Some (heard.Disposition e) → IsOf (Some (own.Dispose role d.first d.last d.settled d.state)) e
+said-of role d e h =
+    let body : DispositionBody = record { role = role; first = d.first; last = Some d.last; settled = flag d.settled; state = d.state; batchable = None } in
+    let same : body ≡ e = cc h in
+    subst (λ (e : DispositionBody). IsOf (Some (own.Dispose role d.first d.last d.settled d.state)) e) same (refl, (refl, (refl, back d.settled)))
+  where
+    back : (b : Bool) → unwrap_or (flag b) false ≡ b
+    back true = refl
+    back false = refl
+
 dispose-sending : (v : View) (role : Role) (d : Disposition) (after : View) (reply : Reply) → dispose_answer v role d ≡ Ok reply → Sending v after None (Some (own.Dispose role d.first d.last d.settled d.state)) reply
 dispose-sending v role d after reply h =
     let op = own.Dispose role d.first d.last d.settled d.state in
     let s = sends-ending-ok v.max_frame (dispose_refusals v role d) (dispose_body role d) (ended_by (sent_by_own v op) (received_by_own v op) v) given.Nothing reply h in
     let forward : is_backwards d.first d.last ≡ false = s.none_holds.1.0 in
-    others _ [] refl refl (record { attaches = λ h. absurd (cc (h)); detaches = λ h. absurd (cc (h)); mapped = λ h. not-false (is_mapped v.session) s.none_holds.0; ends = λ h. absurd (cc (h)); range = λ e h. said-range role d e h forward }) (sent-by _ reply s.replies)
+    others _ [] refl refl (record { attaches = λ h. absurd (cc (h)); detaches = λ h. absurd (cc (h)); mapped = λ h. not-false (is_mapped v.session) s.none_holds.0; ends = λ h. absurd (cc (h)); range = λ e h. said-range role d e h forward; says = λ e h. said-of role d e h; spoken = refl }) (sent-by _ reply s.replies)
 
 pub own-sending : (v : View) (op : Op) (reply : Reply) → own_answer v op ≡ Ok reply → Sending v (next_own v op) None (Some op) reply
 own-sending v Begin reply h =
@@ -200,10 +224,10 @@ own-sending v (Take link) reply h =
 own-sending v (Detach link error) reply h =
     let o = on-link-ok v link (λ l. sends_ending v.max_frame (detach_refusals l) (detach_body (handle_of l.ours) (Some true) error) (ended_by (Leaves link) (Leaves link) v) given.Nothing) reply h in
     let s = sends-ending-ok v.max_frame (detach_refusals o.on) (detach_body (handle_of o.on.ours) (Some true) error) (ended_by (Leaves link) (Leaves link) v) given.Nothing reply o.said in
-    others _ [] refl refl (record { attaches = λ h. absurd (cc (h)); detaches = λ h. refl; mapped = λ h. o.mapped; ends = λ h. absurd (cc (h)); range = λ d h. absurd (cc (h)) }) (sent-by _ reply s.replies)
+    others _ [] refl refl (record { attaches = λ h. absurd (cc (h)); detaches = λ h. refl; mapped = λ h. o.mapped; ends = λ h. absurd (cc (h)); range = λ d h. absurd (cc (h)); says = λ d h. absurd (cc (h)); spoken = refl }) (sent-by _ reply s.replies)
 own-sending v (End error) reply h =
     let s = sends-ending-ok v.max_frame ((not (is_mapped v.session), refusal.NotMapped) ∷ []) (end_body error) (ended_by Over Over v) given.Nothing reply h in
-    others _ [] refl refl (record { attaches = λ k. absurd (cc (k)); detaches = λ k. absurd (cc (k)); mapped = λ h. not-false (is_mapped v.session) s.none_holds.0; ends = λ h. refl; range = λ d h. absurd (cc (h)) }) (sent-by _ reply s.replies)
+    others _ [] refl refl (record { attaches = λ k. absurd (cc (k)); detaches = λ k. absurd (cc (k)); mapped = λ h. not-false (is_mapped v.session) s.none_holds.0; ends = λ h. refl; range = λ d h. absurd (cc (h)); says = λ d h. absurd (cc (h)); spoken = refl }) (sent-by _ reply s.replies)
 own-sending v Beat reply h =
     let s = sends-ok v.max_frame [] None [] given.Nothing reply h in
     silent (quiet-by (reply_of None [] given.Nothing) reply s.replies refl)
@@ -274,7 +298,7 @@ flow-sending v b reply h =
 detach-sending : (attached : Bool) (v after : View) (b : DetachBody) (l : LinkView) (reply : Reply)
     → cond attached (reply_ending (detach_body (handle_of l.ours) b.closed None) [] (ended_by (Leaves l.number) (Leaves l.number) v) (given.Gone l.number)) (record { sent = []; ended = ended_by (Leaves l.number) (Leaves l.number) v; given = given.Gone l.number }) ≡ reply
     → Sending v after (Some (heard.Detach b)) None reply
-detach-sending true v after b l reply h = others _ [] refl refl (record { attaches = λ k. absurd (cc (k)); detaches = λ k. refl; mapped = λ k. absurd (cc (k)); ends = λ k. absurd (cc (k)); range = λ d k. absurd (cc (k)) }) (sent-by _ reply h)
+detach-sending true v after b l reply h = others _ [] refl refl (record { attaches = λ k. absurd (cc (k)); detaches = λ k. refl; mapped = λ k. absurd (cc (k)); ends = λ k. absurd (cc (k)); range = λ d k. absurd (cc (k)); says = λ d k. absurd (cc (k)); spoken = refl }) (sent-by _ reply h)
 detach-sending false v after b l reply h = silent (quiet-by _ reply h refl)
 
 or-true : (a : Bool) → a || true ≡ true
@@ -284,7 +308,7 @@ or-true false = refl
 end-sending : (mapped : Bool) (v after : View) (b : EndBody) (reply : Reply) → mapped ≡ is_mapped v.session → is_over after.session ≡ true
     → cond mapped (reply_ending (end_body None) [] (ended_by Over Over v) given.Nothing) (record { sent = []; ended = ended_by Over Over v; given = given.Nothing }) ≡ reply
     → Sending v after (Some (heard.End b)) None reply
-end-sending true v after b reply is over h = others _ [] refl refl (record { attaches = λ k. absurd (cc (k)); detaches = λ k. absurd (cc (k)); mapped = λ k. sym is; ends = λ k. over; range = λ d k. absurd (cc (k)) }) (sent-by _ reply h)
+end-sending true v after b reply is over h = others _ [] refl refl (record { attaches = λ k. absurd (cc (k)); detaches = λ k. absurd (cc (k)); mapped = λ k. sym is; ends = λ k. over; range = λ d k. absurd (cc (k)); says = λ d k. absurd (cc (k)); spoken = refl }) (sent-by _ reply h)
 end-sending false v after b reply is over h = silent (quiet-by _ reply h refl)
 
 pub body-sending : (v : View) (body : Option Performative) (payload : List ℕ) (reply : Reply) → body_answer v body payload ≡ Ok reply → Sending v (next_body v body payload) body None reply

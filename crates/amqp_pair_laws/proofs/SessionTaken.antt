@@ -17,7 +17,7 @@ use Rattle.amqp_pair_laws.proofs.Next.{Next, next-of, ready-by}
 use Rattle.amqp_pair_laws.proofs.EndTaken.{end-taken}
 use Rattle.amqp_pair_laws.proofs.DispositionTaken.{disposition-taken}
 use Rattle.amqp_pair_laws.proofs.BeginTaken.{begin-next}
-use Rattle.amqp_pair_laws.specs.Taken.{AreTaken, IsBegin, IsEnd, IsDisposition}
+use Rattle.amqp_pair_laws.proofs.FrameKinds.{AreTaken, IsBegin, IsEnd, IsDisposition}
 
 -- begins, ends and dispositions
 abbrev IsOfSession : Option Performative → Type 0

@@ -321,7 +321,7 @@ pub record IsMet (role : Role) (name : List ℕ) (vb : View) (h : ℕ) : Type 0 
   pub named : find (has_name role name) vb.links ≡ Some link
   pub found : find (has_peer_handle h) vb.links ≡ Some link
 
-kept-is : (l : LinkView) → is_attached l ≡ true → kept (shape (Some l)) ≡ l.ours
+pub kept-is : (l : LinkView) → is_attached l ≡ true → kept (shape (Some l)) ≡ l.ours
 kept-is l h = by l.left (and-both (is_some l.ours && is_some l.theirs) (not l.left) h).1
   where
     by : (left : Bool) → not left ≡ true → cond left None l.ours ≡ l.ours

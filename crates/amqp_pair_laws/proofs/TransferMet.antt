@@ -1,14 +1,16 @@
 -- A transfer that comes next finds its link, and credit where it begins a delivery.
-use Rattle.std.proofs.Common.{suc, ◌≡◌, ◌≤◌, ◌<◌, inl, inr, ℕ, ◌+◌, ◌==◌, Bool, true, false, Option, Some, None, List, [], ◌∷◌, arith, refl, sym, ap, ◌∙◌, subst, find, is_some, option_map}
+use Rattle.std.proofs.Common.{suc, length, unwrap_or, ◌≡◌, ◌≤◌, ◌<◌, inl, inr, ℕ, ◌+◌, ◌==◌, Bool, true, false, Option, Some, None, List, [], ◌∷◌, arith, refl, sym, ap, ◌∙◌, subst, find, is_some, option_map}
 use Rattle.amqp_performatives.specs.declared.bodies.Role.{Role}
 use Rattle.amqp_performatives.specs.declared.bodies.Role.TheVariants.{Sender, Receiver}
 use Rattle.amqp_performatives.specs.declared.bodies.TransferBody.{TransferBody}
 use Rattle.amqp_performatives.specs.declared.performative.Performative.{Performative}
 use Rattle.amqp_performatives.specs.declared.performative.Performative.TheVariants as heard
 use Rattle.amqp_frames.specs.declared.frame.Frame.{Frame}
-use Rattle.amqp_events.specs.Joined.{Delivery}
+use Rattle.amqp_events.specs.Joined.{Delivery, next_delivery as joined_to}
 use Rattle.amqp_rules.specs.declared.config.Config.{Config}
-use Rattle.amqp_rules.specs.View.{LinkView, SendingView, View, handle_of, has_name, has_peer_handle, is_attached, is_over, opposite}
+use Rattle.amqp_rules.specs.View.{EndView, LinkView, SendingView, View, handle_of, has_name, has_peer_handle, is_attached, is_over, is_too_long, max_of, next_delivery, opposite, snd_of}
+use Rattle.amqp_rules.specs.Deliveries.{transferred}
+use Rattle.amqp_rules.specs.Start.{mode_forbids}
 use Rattle.amqp_rules.specs.PeerTransfer.{receives}
 use Rattle.amqp_rules.specs.Sound.{IsSound}
 use Rattle.amqp_laws.specs.declared.entry.Entry.{Entry}
@@ -19,14 +21,14 @@ use Rattle.amqp_laws.proofs.Sound.{at-is-sound}
 use Rattle.amqp_pair_laws.specs.Moves.{count, said_as}
 use Rattle.amqp_pair_laws.specs.World.{World, hears, sends}
 use Rattle.amqp_pair_laws.proofs.Slots.{kept}
-use Rattle.amqp_pair_laws.proofs.SlotOf.{shape}
-use Rattle.amqp_pair_laws.proofs.SlotActs.{AllFair, is-met, one-more, slots-known}
+use Rattle.amqp_pair_laws.proofs.SlotOf.{shape, slot_of}
+use Rattle.amqp_pair_laws.proofs.SlotActs.{AllFair, is-met, kept-is, one-more, slots-known}
 use Rattle.amqp_pair_laws.proofs.Doing.{IsOther}
 use Rattle.amqp_pair_laws.proofs.Named.{name-self, named-found}
 use Rattle.amqp_pair_laws.proofs.Opens.{few-by, replayed-by}
 use Rattle.amqp_pair_laws.proofs.Over.{behind-lives}
 use Rattle.amqp_pair_laws.proofs.Next.{Next, next-of}
-use Rattle.amqp_pair_laws.proofs.Turns.{Goes, IsAside, IsAsideIn, IsUncounted, TellsFlow, Turn, asks, away, by_handle, goes, hearing, is_counted, leaving, meets, rests, sending, tells}
+use Rattle.amqp_pair_laws.proofs.Turns.{Fits, Goes, IsAside, IsAsideIn, IsUncounted, TellsFlow, TellsTransfer, Turn, asks, away, by_handle, goes, hearing, is_counted, leaving, meets, rests, sending, tells}
 use Rattle.amqp_pair_laws.proofs.Tallies.{asks_from, link, tally, turn-of}
 use Rattle.amqp_pair_laws.proofs.Counts.{Agreed, Behind}
 use Rattle.amqp_pair_laws.proofs.CountsKnown.{answered-there, behind, same-some}
@@ -34,14 +36,33 @@ use Rattle.amqp_pair_laws.proofs.CountsKept.{fair-both, role-of}
 use Rattle.amqp_pair_laws.proofs.CountsPass.{attached-ends, counts-known}
 use Rattle.amqp_pair_laws.proofs.LinkFlowTaken.{one-link}
 
+-- what the end that sends it knows of a transfer, on link l; id is that of the delivery that begins next
+pub record Says (id : ℕ) (l : LinkView) (t : TransferBody) (payload : List ℕ) : Type 0 where
+  pub names : is_some l.sending ≡ false → (t.delivery_id ≡ Some id) × (is_some t.delivery_tag ≡ true)
+  pub later : is_some l.sending ≡ true → t.delivery_id ≡ None
+  pub no-mode : t.rcv_settle_mode ≡ None
+  pub allows : (mode : ℕ) (d : Option Delivery) → l.sending ≡ option_map size_of d → Fits l.ours d → unwrap_or t.aborted false ≡ false → mode_forbids (snd_of l.ours) (joined_to (transferred mode t payload) d).settled ≡ false
+  pub short : (mode : ℕ) (d : Option Delivery) → l.sending ≡ option_map size_of d → unwrap_or t.aborted false ≡ false → is_too_long (max_of l.theirs) (length (joined_to (transferred mode t payload) d).payload) ≡ false
+
+says-of : (id : ℕ) (l m : LinkView) (o : Option Frame) (x : TellsTransfer id l m o) → Says id l x.transfer x.frame.payload
+says-of id l m o x = record { names = x.names; later = x.later; no-mode = x.no-mode; allows = x.allows; short = x.short }
+
+says-by : (id : ℕ) (l m : LinkView) (o : Option Frame) (f : Frame) (t : TransferBody) → o ≡ Some f → f.body ≡ Some (heard.Transfer t) → TellsTransfer id l m o → Says id l t f.payload
+says-by id l m o f t is body x =
+    let one = same-some o x.frame f x.is_sent is in
+    let y : ◌≡◌ {A = Option Performative} (Some (heard.Transfer x.transfer)) (Some (heard.Transfer t)) = sym x.body ∙ ap (λ (f : Frame). f.body) one ∙ body in
+    let z : x.transfer ≡ t = cc y in
+    subst (λ (t : TransferBody). Says id l t f.payload) z (subst (λ (f : Frame). Says id l x.transfer f.payload) one (says-of id l m o x))
+
 -- the link on which it was sent
-record SentOn (ca : Config) (past : List Entry) (t : TransferBody) : Type 0 where
-  link' : LinkView
-  found : link (link'.role, link'.name) ca past ≡ Some link'
-  attached : is_attached link' ≡ true
-  handle : t.handle ≡ handle_of link'.ours
-  role-is : link'.role ≡ Sender
-  credit : is_some link'.sending ≡ false → (link'.credit.credit == 0) ≡ false
+pub record SentOn (ca : Config) (past : List Entry) (t : TransferBody) (payload : List ℕ) : Type 0 where
+  pub link' : LinkView
+  pub found : link (link'.role, link'.name) ca past ≡ Some link'
+  pub attached : is_attached link' ≡ true
+  pub handle : t.handle ≡ handle_of link'.ours
+  pub role-is : link'.role ≡ Sender
+  pub credit : is_some link'.sending ≡ false → (link'.credit.credit == 0) ≡ false
+  pub says : Says (next_delivery (at ca past)) link' t payload
 
 aside-transfer : (role : Role) (name : List ℕ) (v : View) (o : Option Frame) (f : Frame) (t : TransferBody) → o ≡ Some f → f.body ≡ Some (heard.Transfer t) → IsAside role name v o → IsOther role name v (by_handle t.handle)
 aside-transfer role name v o f t is body x =
@@ -62,21 +83,21 @@ no-told l m o f t is body x =
 
 -- by what the step does in the slot of the link
 on-slot : (ca : Config) (e : Entry) (past : List Entry) (f : Frame) (t : TransferBody) (l : LinkView) → AllFair ca (e ∷ past) → sends e ≡ Some f → f.body ≡ Some (heard.Transfer t)
-    → link (l.role, l.name) ca past ≡ Some l → is_attached l ≡ true → t.handle ≡ handle_of l.ours → SentOn ca past t
+    → link (l.role, l.name) ca past ≡ Some l → is_attached l ≡ true → t.handle ≡ handle_of l.ours → SentOn ca past t f.payload
 on-slot ca e past f t l fair sent body found attached is = by (turn-of (l.role, l.name) ca e past fair)
   where
     none : IsAside l.role l.name (at ca past) (sends e) → ⊥
     none x = one-link l.role l.name (at ca past) t.handle l (one-more (l.role, l.name) ca e past fair).sound found (name-self l.role l.name) attached is (aside-transfer l.role l.name (at ca past) (sends e) f t sent body x)
 
-    on : (m : LinkView) → Goes l.role l.name (at ca past) (is_some (body_heard e.step)) l m (sends e) → SentOn ca past t
+    on : (m : LinkView) → Goes l.role l.name (at ca past) (is_some (body_heard e.step)) l m (sends e) → SentOn ca past t f.payload
     on m (rests c s r aside) = absurd (none aside)
     on m (tells j first p own' s r x) = absurd (no-told l m (sends e) f t sent body x)
     on m (leaving gone both c mute) = absurd (uncounted (sends e) f t sent body mute)
-    on m (sending role-is c some r x) = record { link' = l; found = found; attached = attached; handle = is; role-is = role-is; credit = some }
+    on m (sending role-is c some r x) = record { link' = l; found = found; attached = attached; handle = is; role-is = role-is; credit = some; says = says-by (next_delivery (at ca past)) l m (sends e) f t sent body x }
     on m (hearing j h first p numbers s theirs early (inl aside)) = absurd (none aside)
     on m (hearing j h first p numbers s theirs early (inr x)) = absurd (no-told l m (sends e) f t sent body x)
 
-    by : Turn l.role l.name (at ca past) (at ca (e ∷ past)) (body_heard e.step) (sends e) → SentOn ca past t
+    by : Turn l.role l.name (at ca past) (at ca (e ∷ past)) (body_heard e.step) (sends e) → SentOn ca past t f.payload
     by (away gone (inl before)) = let x = before.0 in absurd (cc (x, found))
     by (away gone (inr mute)) = absurd (uncounted (sends e) f t sent body mute)
     by (asks b f' k deaf s body' free to) =
@@ -88,19 +109,19 @@ on-slot ca e past f t l fair sent body found attached is = by (turn-of (l.role, 
         let one = same-some (link (l.role, l.name) ca past) l0 l found0 found in
         on m (subst (λ (x : LinkView). Goes l.role l.name (at ca past) (is_some (body_heard e.step)) x m (sends e)) one g)
 
-sent-on : (ca : Config) (e : Entry) (past : List Entry) (f : Frame) (t : TransferBody) → AllFair ca (e ∷ past) → sends e ≡ Some f → f.body ≡ Some (heard.Transfer t) → SentOn ca past t
+sent-on : (ca : Config) (e : Entry) (past : List Entry) (f : Frame) (t : TransferBody) → AllFair ca (e ∷ past) → sends e ≡ Some f → f.body ≡ Some (heard.Transfer t) → SentOn ca past t f.payload
 sent-on ca e past f t fair sent body = by (turn-of (Sender, []) ca e past fair)
   where
     s : IsSound (at ca past)
     s = (one-more (Sender, []) ca e past fair).sound
 
-    here : (test : LinkView → Bool) (l : LinkView) → find test (at ca past).links ≡ Some l → is_attached l ≡ true → t.handle ≡ handle_of l.ours → SentOn ca past t
+    here : (test : LinkView → Bool) (l : LinkView) → find test (at ca past).links ≡ Some l → is_attached l ≡ true → t.handle ≡ handle_of l.ours → SentOn ca past t f.payload
     here test l found attached is = on-slot ca e past f t l fair sent body (named-found l.role l.name test (at ca past).links l s.links.names found (name-self l.role l.name)) attached is
 
-    aside : IsAside Sender [] (at ca past) (sends e) → SentOn ca past t
+    aside : IsAside Sender [] (at ca past) (sends e) → SentOn ca past t f.payload
     aside x = let y = aside-transfer Sender [] (at ca past) (sends e) f t sent body x in here y.test y.link y.found y.attached y.handle
 
-    on : (l m : LinkView) → link (Sender, []) ca past ≡ Some l → Goes Sender [] (at ca past) (is_some (body_heard e.step)) l m (sends e) → SentOn ca past t
+    on : (l m : LinkView) → link (Sender, []) ca past ≡ Some l → Goes Sender [] (at ca past) (is_some (body_heard e.step)) l m (sends e) → SentOn ca past t f.payload
     on l m found (rests c s' r x) = aside x
     on l m found (tells j first p own' s' r x) = absurd (no-told l m (sends e) f t sent body x)
     on l m found (leaving gone both c mute) = absurd (uncounted (sends e) f t sent body mute)
@@ -112,7 +133,7 @@ sent-on ca e past f t fair sent body = by (turn-of (Sender, []) ca e past fair)
     on l m found (hearing j h first p numbers s' theirs early (inl x)) = aside x
     on l m found (hearing j h first p numbers s' theirs early (inr x)) = absurd (no-told l m (sends e) f t sent body x)
 
-    by : Turn Sender [] (at ca past) (at ca (e ∷ past)) (body_heard e.step) (sends e) → SentOn ca past t
+    by : Turn Sender [] (at ca past) (at ca (e ∷ past)) (body_heard e.step) (sends e) → SentOn ca past t f.payload
     by (away gone (inl x)) = aside x.1
     by (away gone (inr mute)) = absurd (uncounted (sends e) f t sent body mute)
     by (asks b f' k deaf s' body' free to) =
@@ -122,20 +143,22 @@ sent-on ca e past f t fair sent body = by (turn-of (Sender, []) ca e past fair)
     by (meets b k is' s' free to) = absurd (cc (s', sent))
     by (goes l m found to o t' left' g) = on l m found g
 
-sizes-none : (s : Option SendingView) (d : Option Delivery) → s ≡ option_map size_of d → d ≡ None → is_some s ≡ false
+pub sizes-none : (s : Option SendingView) (d : Option Delivery) → s ≡ option_map size_of d → d ≡ None → is_some s ≡ false
 sizes-none s d e none = ap (λ (s : Option SendingView). is_some s) (e ∙ ap (λ (d : Option Delivery). option_map size_of d) none)
 
 -- the link of the end that hears it
-record Met (ca cb : Config) (b : List Entry) (f : Frame) (x : Next ca cb b f) (t : TransferBody) : Type 0 where
-  sent-on' : SentOn ca x.before t
-  link' : LinkView
-  found : find (has_peer_handle t.handle) (at cb b).links ≡ Some link'
-  named : link (opposite sent-on'.link'.role, sent-on'.link'.name) cb b ≡ Some link'
-  none : asks_from (opposite sent-on'.link'.role, sent-on'.link'.name) cb (count hears x.before) b ≡ []
-  ours : is_some link'.ours ≡ true
-  receives' : link'.role ≡ Receiver
+pub record Met (ca cb : Config) (b : List Entry) (f : Frame) (x : Next ca cb b f) (t : TransferBody) : Type 0 where
+  pub sent-on' : SentOn ca x.before t f.payload
+  pub link' : LinkView
+  pub found : find (has_peer_handle t.handle) (at cb b).links ≡ Some link'
+  pub named : link (opposite sent-on'.link'.role, sent-on'.link'.name) cb b ≡ Some link'
+  pub none : asks_from (opposite sent-on'.link'.role, sent-on'.link'.name) cb (count hears x.before) b ≡ []
+  pub ours : is_some link'.ours ≡ true
+  pub same-ours : link'.ours ≡ sent-on'.link'.theirs
+  pub same-theirs : link'.theirs ≡ sent-on'.link'.ours
+  pub receives' : link'.role ≡ Receiver
 
-met-by : (ca cb : Config) (b : List Entry) (f : Frame) (x : Next ca cb b f) (t : TransferBody) → f.body ≡ Some (heard.Transfer t) → is_over (at cb b).session ≡ false → Met ca cb b f x t
+pub met-by : (ca cb : Config) (b : List Entry) (f : Frame) (x : Next ca cb b f) (t : TransferBody) → f.body ≡ Some (heard.Transfer t) → is_over (at cb b).session ≡ false → Met ca cb b f x t
 met-by ca cb b f x t body lives =
     let fair = fair-both ca cb (suc x.moves) (x.entry ∷ x.before) b x.whole in
     let s = sent-on ca x.entry x.before f t fair.0 x.sent body in
@@ -153,8 +176,14 @@ met-by ca cb b f x t body lives =
       named = named;
       none = y.none;
       ours = ap (λ o. is_some (shape o).ours) (sym named) ∙ y.ours;
+      same-ours = ap (λ o. (shape o).ours) (sym named) ∙ its-ours (slot_of (opposite l.role) l.name (at cb b).links).ours l.theirs p.1.0 (λ g is. slot.answered g (ap (λ o. (shape o).theirs) s.found ∙ is) (ap (λ o. (shape o).left) s.found ∙ p.1.1));
+      same-theirs = ap (λ o. (shape o).theirs) (sym named) ∙ sym slot.asked ∙ ap (λ o. kept (shape o)) s.found ∙ kept-is l s.attached;
       receives' = role-of (opposite l.role, l.name) cb b met.link named ∙ ap opposite s.role-is;
     }
+  where
+    its-ours : (o g : Option EndView) → is_some g ≡ true → ((x : EndView) → g ≡ Some x → o ≡ Some x) → o ≡ g
+    its-ours o None some answered = absurd (cc (some))
+    its-ours o (Some x) some answered = answered x refl
 
 -- the next frame, where it is a transfer, finds the link, on which its end receives
 pub link-there : (ca cb : Config) (n : ℕ) (a b : List Entry) (f : Frame) (t : TransferBody) → World ca cb n a b → said_as sends (count hears b) a ≡ Some f → f.body ≡ Some (heard.Transfer t)

@@ -111,6 +111,19 @@ start_transfer handle id tag format settled more =
       batchable = None;
     }
 
+start-id : (more : Bool) (id size : ℕ) (d : SendingView) → sending_after more id size ≡ Some d → d.id ≡ id
+start-id true id size d h = let x : ◌≡◌ {A = Option SendingView} (Some (record { id = id; size = size })) (Some d) = h in let one : record { id = id; size = size } ≡ d = cc x in ap (λ (d : SendingView). d.id) (sym one)
+start-id false id size d h = absurd (cc (h))
+
+some-fresh : (s : Option SendingView) (c : SendingView) → s ≡ Some c → is_some s ≡ false → ⊥
+some-fresh s c is none = let k = rw is at none in absurd (cc (k))
+
+carry-id : (size : ℕ) (more : Bool) (s : Option SendingView) (c d : SendingView) → s ≡ Some c → carried size more s ≡ Some d → d.id ≡ c.id
+carry-id size more None c d was now = absurd (cc (was))
+carry-id size more (Some u) c d was now =
+    let one : u ≡ c = cc was in
+    start-id more u.id (u.size + size) d now ∙ ap (λ (d : SendingView). d.id) one
+
 start-carries : (o : Option EndView) (handle id : ℕ) (tag : List ℕ) (format : ℕ) (settled more : Bool) (payload : List ℕ) (s : Option SendingView) → is_some s ≡ false → mode_forbids (snd_of o) settled ≡ false
     → Carries o (start_transfer handle id tag format settled more) payload s (sending_after more id (length payload))
 start-carries o handle id tag format settled more payload (Some u) none fits mode d e x = absurd (cc (none))
@@ -127,7 +140,7 @@ start-carries o handle id tag format settled more payload None none fits mode No
 start-carries o handle id tag format settled more payload None none fits mode (Some u) e x = absurd (cc (e))
 
 -- a later one
-abbrev later_transfer : ℕ → Option Bool → Option Bool → TransferBody
+abbrev pub later_transfer : ℕ → Option Bool → Option Bool → TransferBody
 later_transfer handle more aborted =
     record {
       handle = handle;
@@ -223,7 +236,7 @@ start-turn role name v link tag format settled payload more reply h s =
     (turn-on role name v (next_own v (own.Start link tag format settled payload more)) None (Some f) (has_number link) (begin_delivery id (length payload) more) l
     (plain _ (λ l. refl) (λ l. refl) (λ l. refl) (λ l. refl) (λ l h. h)) s o.found refl
     (λ n. sending (role-of role name l n Sender k.none_holds.1.0) (rw fresh refl) (λ h. k.none_holds.1.1.1.1.1.0) refl
-    (record { frame = f; transfer = start_transfer (handle_of l.ours) id tag format settled more; attached = attached; is_sent = refl; body = refl; handle = refl; carries = start-carries l.ours (handle_of l.ours) id tag format settled more payload l.sending fresh fits; names = λ h. (refl, refl); later = λ h. absurd (cc (h, fresh)); no-mode = refl; allows = λ mode d e x y. start-allows l.ours (handle_of l.ours) id tag format settled more payload l.sending fresh fits mode d e; short = λ mode d e y. start-short (max_of l.theirs) (handle_of l.ours) id tag format settled more payload l.sending fresh k.none_holds.1.1.1.1.1.1.1.0 mode d e }))
+    (record { frame = f; transfer = start_transfer (handle_of l.ours) id tag format settled more; attached = attached; is_sent = refl; body = refl; handle = refl; carries = start-carries l.ours (handle_of l.ours) id tag format settled more payload l.sending fresh fits; names = λ h. (refl, refl); later = λ h. absurd (cc (h, fresh)); no-mode = refl; begins-id = λ d none was. start-id more id (length payload) d was; keeps-id = λ c d was now. absurd (some-fresh l.sending c was fresh); allows = λ mode d e x y. start-allows l.ours (handle_of l.ours) id tag format settled more payload l.sending fresh fits mode d e; short = λ mode d e y. start-short (max_of l.theirs) (handle_of l.ours) id tag format settled more payload l.sending fresh k.none_holds.1.1.1.1.1.1.1.0 mode d e }))
     (λ n. other-on role name v (has_number link) l o.found attached n))
 
 carry-turn : (role : Role) (name : List ℕ) (v : View) (link : ℕ) (payload : List ℕ) (more : Bool) (reply : Reply)
@@ -241,7 +254,7 @@ carry-turn role name v link payload more reply h s =
     (turn-on role name v (next_own v (own.Carry link payload more)) None (Some f) (has_number link) (carry_on (length payload) more) l
     (plain _ (λ l. refl) (λ l. refl) (λ l. refl) (λ l. refl) (λ l h. h)) s o.found refl
     (λ n. sending (role-of role name l n Sender k.none_holds.1.0) (rw is refl) (λ h. absurd (cc (h, is))) refl
-    (record { frame = f; transfer = later_transfer (handle_of l.ours) (flag more) None; attached = attached; is_sent = refl; body = refl; handle = refl; carries = carry-carries l.ours (handle_of l.ours) more payload l.sending some; names = λ h. absurd (cc (h, is)); later = λ h. refl; no-mode = refl; allows = λ mode d e x y. carry-allows l.ours (handle_of l.ours) more payload l.sending some mode d e x; short = λ mode d e y. carry-short (max_of l.theirs) (handle_of l.ours) more payload l.sending some k.none_holds.1.1.1.1.0 mode d e }))
+    (record { frame = f; transfer = later_transfer (handle_of l.ours) (flag more) None; attached = attached; is_sent = refl; body = refl; handle = refl; carries = carry-carries l.ours (handle_of l.ours) more payload l.sending some; names = λ h. absurd (cc (h, is)); later = λ h. refl; no-mode = refl; begins-id = λ d none was. absurd (cc (none, is)); keeps-id = λ c d was now. carry-id (length payload) more l.sending c d was now; allows = λ mode d e x y. carry-allows l.ours (handle_of l.ours) more payload l.sending some mode d e x; short = λ mode d e y. carry-short (max_of l.theirs) (handle_of l.ours) more payload l.sending some k.none_holds.1.1.1.1.0 mode d e }))
     (λ n. other-on role name v (has_number link) l o.found attached n))
   where
     unfinished-some : (o : Option SendingView) → is_none o ≡ false → is_some o ≡ true
@@ -263,7 +276,7 @@ abort-turn role name v link reply h s =
     (turn-on role name v (next_own v (own.Abort link)) None (Some f) (has_number link) aborted l
     (plain _ (λ l. refl) (λ l. refl) (λ l. refl) (λ l. refl) (λ l h. h)) s o.found refl
     (λ n. sending (role-of role name l n Sender k.none_holds.1.0) (rw is refl) (λ h. absurd (cc (h, is))) refl
-    (record { frame = f; transfer = later_transfer (handle_of l.ours) None (Some true); attached = attached; is_sent = refl; body = refl; handle = refl; carries = abort-carries l.ours (handle_of l.ours) [] l.sending; names = λ h. absurd (cc (h, is)); later = λ h. refl; no-mode = refl; allows = λ mode d e x y. absurd (cc (y)); short = λ mode d e y. absurd (cc (y)) }))
+    (record { frame = f; transfer = later_transfer (handle_of l.ours) None (Some true); attached = attached; is_sent = refl; body = refl; handle = refl; carries = abort-carries l.ours (handle_of l.ours) [] l.sending; names = λ h. absurd (cc (h, is)); later = λ h. refl; no-mode = refl; begins-id = λ d none now. absurd (cc (now)); keeps-id = λ c d was now. absurd (cc (now)); allows = λ mode d e x y. absurd (cc (y)); short = λ mode d e y. absurd (cc (y)) }))
     (λ n. other-on role name v (has_number link) l o.found attached n))
   where
     unfinished-some : (o : Option SendingView) → is_none o ≡ false → is_some o ≡ true

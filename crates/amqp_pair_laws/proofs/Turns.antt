@@ -94,6 +94,9 @@ pub record TellsTransfer (id : ℕ) (l m : LinkView) (sent : Option Frame) : Typ
   pub names : is_some l.sending ≡ false → (transfer.delivery_id ≡ Some id) × (is_some transfer.delivery_tag ≡ true)
   pub later : is_some l.sending ≡ true → transfer.delivery_id ≡ None
   pub no-mode : transfer.rcv_settle_mode ≡ None
+  -- what is unfinished after it is the delivery that begins, or the one that was unfinished before
+  pub begins-id : (d : SendingView) → is_some l.sending ≡ false → m.sending ≡ Some d → d.id ≡ id
+  pub keeps-id : (c d : SendingView) → l.sending ≡ Some c → m.sending ≡ Some d → d.id ≡ c.id
   -- unless it aborts the delivery, the mode allows what is said of being settled, and the payloads are not too long together
   pub allows : (mode : ℕ) (d : Option Delivery) → l.sending ≡ option_map size_of d → Fits l.ours d → unwrap_or transfer.aborted false ≡ false → mode_forbids (snd_of l.ours) (joined_to (transferred mode transfer frame.payload) d).settled ≡ false
   pub short : (mode : ℕ) (d : Option Delivery) → l.sending ≡ option_map size_of d → unwrap_or transfer.aborted false ≡ false → is_too_long (max_of l.theirs) (length (joined_to (transferred mode transfer frame.payload) d).payload) ≡ false

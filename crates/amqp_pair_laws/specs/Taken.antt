@@ -1,8 +1,6 @@
 -- Frames that the other end takes: the next one on its way is no violation there.
-use Rattle.std.specs.Prelude.{ℕ, ◌≡◌, Option, Some, List, IsOk}
+use Rattle.std.specs.Prelude.{ℕ, ◌≡◌, Some, List, IsOk}
 use Rattle.amqp_frames.specs.declared.frame.Frame.{Frame}
-use Rattle.amqp_performatives.specs.declared.performative.Performative.{Performative}
-use Rattle.amqp_performatives.specs.declared.performative.Performative.TheVariants as heard
 use Rattle.amqp_rules.specs.declared.config.Config.{Config}
 use Rattle.amqp_rules.specs.Answer.{heard_answer}
 use Rattle.amqp_laws.specs.declared.entry.Entry.{Entry}
@@ -14,32 +12,6 @@ use Rattle.amqp_pair_laws.specs.World.{World, hears, sends}
 abbrev pub IsNext : Frame → List Entry → List Entry → Type 0
 IsNext f a b = said_as sends (count hears b) a ≡ Some f
 
--- in every world the next frame is no violation, where its body is of this kind
-abbrev pub AreTaken : (Option Performative → Type 0) → Type 0
-AreTaken Kind = (ca cb : Config) (n : ℕ) (a b : List Entry) (f : Frame) → World ca cb n a b → IsNext f a b → Kind f.body → IsOk (heard_answer (at cb b) f)
-
--- # Kinds of frames
-
-abbrev pub IsBegin : Option Performative → Type 0
-IsBegin (Some (heard.Begin b)) = Unit {0}
-IsBegin _ = ⊥
-
-abbrev pub IsEnd : Option Performative → Type 0
-IsEnd (Some (heard.End b)) = Unit {0}
-IsEnd _ = ⊥
-
-abbrev pub IsDisposition : Option Performative → Type 0
-IsDisposition (Some (heard.Disposition b)) = Unit {0}
-IsDisposition _ = ⊥
-
-abbrev pub IsFlow : Option Performative → Type 0
-IsFlow (Some (heard.Flow b)) = Unit {0}
-IsFlow _ = ⊥
-
-abbrev pub IsAttach : Option Performative → Type 0
-IsAttach (Some (heard.Attach b)) = Unit {0}
-IsAttach _ = ⊥
-
-abbrev pub IsDetach : Option Performative → Type 0
-IsDetach (Some (heard.Detach b)) = Unit {0}
-IsDetach _ = ⊥
+-- in every world the next frame is no violation
+abbrev pub NextIsTaken : Type 0
+NextIsTaken = (ca cb : Config) (n : ℕ) (a b : List Entry) (f : Frame) → World ca cb n a b → IsNext f a b → IsOk (heard_answer (at cb b) f)

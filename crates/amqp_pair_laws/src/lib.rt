@@ -4,12 +4,7 @@
 //!
 //! | clause | law |
 //! |---|---|
-//! | `begin` | a begin that comes next is no violation |
-//! | `end` | nor is an end |
-//! | `disposition` | nor is a disposition |
-//! | `flow` | nor is a flow |
-//! | `attach` | nor is an attach |
-//! | `detach` | nor is a detach |
+//! | `taken` | the next frame is no violation for the end that hears it |
 //! | `window` | a transfer that comes next finds the incoming window open |
 //! | `link` | and its link, on which the end that hears it receives |
 //! | `credit` | and, where it begins a delivery on a link that was not left, credit |
@@ -18,7 +13,7 @@
 //! | `ids` | and then it has heard first transfers of the same ids as the other sent, in the same order |
 //! | `expected` | and the id that it expects next, if any, is that of the other's next delivery |
 //!
-//! Not stated here, and not proved: that transfers are no violation, and what is taken and learnt.
+//! Not stated here, and not proved: what is taken and learnt.
 #![tactic(auto)]
 
 pub mod laws;
