@@ -11,3 +11,4 @@ pub mod Sought
 pub mod Handled
 pub mod Spares
 pub mod Indexing
+pub mod Leaving

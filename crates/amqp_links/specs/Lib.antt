@@ -7,3 +7,4 @@ pub mod Handles
 pub mod Index
 pub mod Fate
 pub mod Waits
+pub mod Left

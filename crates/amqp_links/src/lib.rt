@@ -12,6 +12,7 @@
 //! | `names`, `handles` | the indexes by name and of our handles |
 //! | `telling` | what is told of deliveries waits on their links |
 //! | `found` | a link that was found, with its key |
+//! | `left` | what links leave that go |
 //! | `fate` | what becomes of the links, as data |
 #![tactic(auto)]
 
@@ -22,6 +23,7 @@ pub mod fate;
 pub mod found;
 mod handles;
 mod learning;
+pub mod left;
 pub mod link;
 pub mod links;
 mod lookups;
