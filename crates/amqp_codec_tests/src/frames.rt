@@ -465,6 +465,39 @@ fn a_cut_body_with_octets_behind_it_is_bad(rt: HostRuntime) {
     assert!(rt; is_bad_where_it_is_cut(rt.alloc()));
 }
 
+/// Whether an open of 625 octets, cut within its container-id, is judged by the two octets at the cut: whole, or a bad body. Else memory was refused
+/// before it was whole, or for one that is.
+fn is_judged_where_it_is_cut(alloc: Global, at_the_cut: [u8; 2], is_bad: bool) -> bool {
+    let mut octets = [0x61; 625];
+    octets[..25].copy_from_slice(
+        b"\x00\x00\x02\x71\x02\x00\x00\x00\x00\x53\x10\xd0\x00\x00\x02\x61\x00\x00\x00\x01\xb1\x00\x00\x02\x58",
+    );
+    octets[29..31].copy_from_slice(&at_the_cut);
+    let mut framer = Framer::new(alloc, 65536);
+    match fed(&mut framer, &octets[..30]) {
+        Ok(_) => match fed(&mut framer, &octets[30..]) {
+            Ok(answer) => !is_bad && answer == (595, true),
+            Err(fault) => {
+                fault
+                    == if is_bad {
+                        FrameFault::BadBody
+                    } else {
+                        FrameFault::NoMemory
+                    }
+            }
+        },
+        Err(fault) => fault == FrameFault::NoMemory,
+    }
+}
+
+// Also where memory is refused to join the body (rt try --test --fail-alloc): a character of two octets, of which one lies in each piece, and one that
+// is none.
+#[test]
+fn a_long_performative_is_judged_where_it_is_cut(rt: HostRuntime) {
+    assert!(rt; is_judged_where_it_is_cut(rt.alloc(), [0xc3, 0xa9], false));
+    assert!(rt; is_judged_where_it_is_cut(rt.alloc(), [0xc3, 0x61], true));
+}
+
 /// What is written for the frame that these octets are in pieces.
 fn written_in_pieces(alloc: Global, octets: &[u8]) -> Result<Bytes, FrameRefusal> {
     let mut framer = Framer::new(alloc, 65536);

@@ -1,13 +1,9 @@
 -- A framer: what it holds, and what a piece of octets makes of it.
-use Rattle.std.specs.Prelude.{ℕ, ◌≡◌, ◌≤◌, ◌<◌, ◌+◌, ◌*◌, ◌⊎◌, max, List, [], ◌∷◌, ◌++◌, length, take, drop, Option, Some, None, Result, Ok, Err}
+use Rattle.std.specs.Prelude.{ℕ, ◌≡◌, ◌≤◌, ◌+◌, ◌*◌, ◌⊎◌, max, List, [], ◌∷◌, ◌++◌, length, take, Option, Some, None, Result, Ok, Err}
 use Rattle.amqp_frames.specs.declared.fault.FrameFault.{FrameFault}
 use Rattle.amqp_frames.specs.declared.fault.FrameFault.TheVariants.{ShortSize, BadDoff, TooBig, BadKind, BadBody, NoMemory}
 use Rattle.amqp_frames.specs.declared.frame.Frame.{Frame}
-use Rattle.amqp_types.specs.Datum.{Datum}
-use Rattle.amqp_types.specs.Grammar.{Spells}
-use Rattle.amqp_performatives.specs.declared.performative.Performative.{Performative}
-use Rattle.amqp_performatives.specs.Spelling.{IsPerformative}
-use Rattle.amqp_frames.specs.Framing.{IsFrame, IsHeader, Shows, IsUnfinished, size_of, doff_of}
+use Rattle.amqp_frames.specs.Framing.{IsFrame, Shows, IsUnfinished, size_of}
 
 -- the most octets that a frame may have, the octets of the next frame that are here, and those that unread puts back in their place
 pub record FramerState : Type 0 where
@@ -38,29 +34,14 @@ pub record IsSound (max room : ℕ) (kept : List ℕ) (before : Option (List ℕ
 abbrev pub BeginsWithFrame : ℕ → List ℕ → Type 0
 BeginsWithFrame max x = (f : Frame) × (front back : List ℕ) × IsFrame f front × (length front ≤ max) × (x ≡ front ++ back)
 
--- what comes after the header, its extension included, in the frame that octets begin with
-abbrev pub contents_of : List ℕ → List ℕ
-contents_of x = drop (4 * doff_of x) (take (size_of x) x)
-
--- A frame with a header that shows no fault, whole in what is kept and the piece, and both have some of its contents. These are more than 512 octets (as many as
--- each peer takes: part 2, 2.8.19), no performative of them lies in what is kept, and a value that they begin with has more than 512 octets itself.
-pub record IsCut (max : ℕ) (kept piece : List ℕ) : Type 0 where
-  pub header : IsHeader max (kept ++ piece)
-  pub whole : size_of (kept ++ piece) ≤ length (kept ++ piece)
-  pub begun : 4 * doff_of (kept ++ piece) < length kept
-  pub cut : (p : Performative) (spelled rest : List ℕ) → IsPerformative p spelled → drop (4 * doff_of (kept ++ piece)) kept ≡ spelled ++ rest → ⊥
-  pub more : 512 < length (contents_of (kept ++ piece))
-  pub long : (v : Datum) (spelled rest : List ℕ) → Spells v spelled → contents_of (kept ++ piece) ≡ spelled ++ rest → 512 < length spelled
-
--- What a fault says of the octets that are kept and then those of the piece: they show it, or for want of memory was refused what they show. A performative is
--- read in one place, so want of memory for one that is cut and long says nothing of it.
+-- What a fault says of the octets that are kept and then those of the piece: they show it, or for want of memory was refused what they show.
 abbrev pub Faulty : FrameFault → ℕ → List ℕ → List ℕ → Type 0
 Faulty ShortSize max kept piece = Shows ShortSize max (kept ++ piece)
 Faulty BadDoff max kept piece = Shows BadDoff max (kept ++ piece)
 Faulty TooBig max kept piece = Shows TooBig max (kept ++ piece)
 Faulty BadKind max kept piece = Shows BadKind max (kept ++ piece)
 Faulty BadBody max kept piece = Shows BadBody max (kept ++ piece)
-Faulty NoMemory max kept piece = BeginsWithFrame max (kept ++ piece) ⊎ (IsUnfinished max (kept ++ piece) ⊎ IsCut max kept piece)
+Faulty NoMemory max kept piece = BeginsWithFrame max (kept ++ piece) ⊎ IsUnfinished max (kept ++ piece)
 
 -- what a feed of a piece answers and leaves: a frame and the number of octets taken, no frame, or a fault
 abbrev pub Feeds : FramerState → List ℕ → Result (ℕ × Option Frame) FrameFault → FramerState → Type 0

@@ -4,20 +4,17 @@ ghost use Rattle.amqp_performatives.specs.declared.performative.Performative.{Pe
 ghost use Rattle.amqp_frames.specs.Framing.{is_transfer, MayFollow, AreContents};
 ghost use Rattle.amqp_performatives.specs.Spelling.{IsPerformative};
 ghost use Rattle.amqp_decoder.specs.Slots.{LeavesFront};
-ghost use Rattle.amqp_frames.specs.Contents.{AreNoContents, BeginsWithPerformative, NoPerformative, IsFrontFault};
+ghost use Rattle.amqp_frames.specs.Contents.{AreNoContents, BeginsWithPerformative};
 ghost use Rattle.amqp_frames.specs.Slots.{holds_transfer};
 
 use crate::fault::FrameFault;
 use crate::frame::Frame;
 use amqp_decoder::{BodyFault, read_performative, read_performative_into};
+use amqp_halves::find_performative;
 use amqp_performatives::{Composite, Performative};
 use amqp_types::{Descriptor, read_descriptor, skip_value};
 use bytes::Bytes;
 use std::alloc::{AllocError, Global};
-
-/// How many octets of contents are judged that lie in two places, where there is no memory to join them: as many as a frame has that each peer
-/// takes (part 2, 2.8.19).
-const JUDGED: usize = 512;
 
 /// The frame of these contents on the channel. An octet after a performative that is no transfer is a fault, also where memory is refused.
 pub(crate) fn read_contents(alloc: Global, channel: u16, octets: &[u8]) -> Result<Frame, FrameFault>
@@ -99,76 +96,22 @@ fn names_transfer(octets: &[u8]) -> bool
     }
 }
 
-/// Why contents are refused that lie in two places, one after the other, where there is no memory to join them.
+/// Why contents are refused that lie in two places, one after the other, where there is no memory to join them. They are judged where they lie.
 #[inline(never)]
-pub(crate) fn front_fault(alloc: Global, octets: &[u8], others: &[u8]) -> FrameFault
+pub(crate) fn front_fault(octets: &[u8], others: &[u8]) -> FrameFault
     requires { 0 < length octets.now }
-    ensures { IsFrontFault result octets.now others.now }
+    ensures { AreNoContents result (octets.now ++ others.now) }
 {
-    let all = octets.len() + others.len();
-    match read_performative(alloc, octets) {
-        Ok((performative, _)) => {
-            drop(performative);
-            fault_behind(octets, all)
-        }
-        Err(BodyFault::NoMemory) => fault_behind(octets, all),
-        Err(BodyFault::NoBody) => cut_fault(alloc, octets, others),
-    }
-}
-
-/// The same where no performative lies in the first place: as many octets as are judged without memory are copied.
-fn cut_fault(alloc: Global, octets: &[u8], others: &[u8]) -> FrameFault
-    requires some { 0 < length octets.now }
-    requires none { NoPerformative octets.now }
-    ensures { IsFrontFault result octets.now others.now }
-{
-    let all = octets.len() + others.len();
-    let (front, count) = judged(octets, others);
-    match read_performative(alloc, &front[..count]) {
-        Ok((performative, _)) => {
-            drop(performative);
-            fault_behind(&front[..count], all)
-        }
-        Err(BodyFault::NoMemory) => fault_behind(&front[..count], all),
-        Err(BodyFault::NoBody) => {
-            if all <= JUDGED {
-                return FrameFault::BadBody;
-            }
-            // A value that is no performative begins no other value, nor a performative.
-            match skip_value(&front[..count]) {
-                Some(_) => FrameFault::BadBody,
-                None => FrameFault::NoMemory,
-            }
-        }
-    }
-}
-
-/// Why so many octets are no contents that begin with these, where these begin with a performative: a transfer alone has more behind it.
-fn fault_behind(octets: &[u8], all: usize) -> FrameFault
-    requires { BeginsWithPerformative octets.now }
-    ensures { (more : List ℕ) → length (octets.now ++ more) ≡ all → AreNoContents result (octets.now ++ more) }
-{
-    if names_transfer(octets) {
+    let Some(found) = find_performative(octets, others) else {
+        return FrameFault::BadBody;
+    };
+    if found.is_transfer {
         return FrameFault::NoMemory;
     }
-    if skip_value(octets) == Some(all) {
-        FrameFault::NoMemory
-    } else {
-        FrameFault::BadBody
+    if found.used == octets.len() + others.len() {
+        return FrameFault::NoMemory;
     }
-}
-
-/// The first octets of those in two places, as many as are judged without memory, or all of them where they are fewer.
-fn judged(octets: &[u8], others: &[u8]) -> ([u8; JUDGED], usize)
-    ensures octets { take result.1 result.0 ≡ take 512 (octets.now ++ others.now) }
-    ensures within { result.1 ≤ 512 }
-{
-    let mut front = [0; JUDGED];
-    let first = octets.len().min(JUDGED);
-    let second = others.len().min(JUDGED - first);
-    front[..first].copy_from_slice(&octets[..first]);
-    front[first..first + second].copy_from_slice(&others[..second]);
-    (front, first + second)
+    FrameFault::BadBody
 }
 
 /// Leaves the frame of contents in the slot that lie in shared octets from one place up to another; its payload is a slice of these. After a

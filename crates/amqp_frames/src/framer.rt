@@ -59,8 +59,7 @@ impl Framer {
     ///
     /// A fault is answered as soon as the octets show it (`FrameFault`): the size once four octets of the frame are there, the rest of its
     /// header once eight are, its body once it is whole. After a fault the framer is as before. A frame that lies whole in the piece is
-    /// read in place; a payload is copied once. Want of memory is told of octets that show no fault, with one exception: a body of which a
-    /// part was kept, and which may begin with a performative of more than 512 octets, is not read where there is no memory to join it.
+    /// read in place; a payload is copied once. Want of memory is told of octets that show no fault.
     pub fn feed(&mut self, piece: &[u8]) -> Result<(usize, Option<Frame>), FrameFault>
         ensures fed { Feeds self.old.state piece.now result self.new.state }
         ensures room { Roomy self.old piece.now result self.new }
@@ -185,11 +184,7 @@ impl Framer {
     {
         let count = self.kept().len();
         let Ok(()) = self.buffer.reserve(header.size as usize) else {
-            return Err(front_fault(
-                self.buffer.allocator(),
-                &self.buffer.as_slice()[header.start()..],
-                &piece[..missing],
-            ));
+            return Err(front_fault(&self.buffer.as_slice()[header.start()..], &piece[..missing]));
         };
         self.buffer.append(&piece[..missing]);
         match read_contents(

@@ -1,15 +1,15 @@
-use Rattle.std.proofs.Common.{Err, inl, ap, sym, take, drop, length-append}
-use Rattle.std.proofs.lemmas.List.{take-append-drop}
+use Rattle.std.proofs.Common.{◌++◌, ◌∙◌, sym, length-append}
+use Rattle.amqp_frames.proofs.Cuts.{none_found, transfer_found, whole_found, other_found}
 use Rattle.amqp_frames.proofs.contents.front_fault.Goals as goal
 
-pub fault_behind-requires : goal.fault_behind-requires
-fault_behind-requires c =
-    let size = c.in-Ok.field-0-1 in
-    let octets = c.args.octets.now in
-    (c.in-Ok.performative, take size octets, drop size octets, c.in-Ok.ensures.found.1, sym (take-append-drop size octets))
+pub returns-in_default : goal.returns-in_default
+returns-in_default c = none_found c.args.octets.now c.args.others.now c.requires c.in_default.ensures
 
-pub returns-in-Ok : goal.returns-in-Ok
-returns-in-Ok c = inl (c.fault_behind.ensures c.args.others.now (length-append c.args.octets.now c.args.others.now))
+pub returns-then-found : goal.returns-then-found
+returns-then-found c = transfer_found (c.args.octets.now ++ c.args.others.now) c.in-Some.found c.in-Some.ensures c.if-found.true
 
-pub cut_fault-requires-clause-none : goal.cut_fault-requires-clause-none
-cut_fault-requires-clause-none c = c.in-Err-NoBody.ensures.none (ap Err c.in-Err-NoBody.field-0-is)
+pub returns-then-found-octets : goal.returns-then-found-octets
+returns-then-found-octets c = whole_found (c.args.octets.now ++ c.args.others.now) c.in-Some.found c.in-Some.ensures (c.if-found-octets.true ∙ sym (length-append c.args.octets.now c.args.others.now))
+
+pub returns : goal.returns
+returns c = other_found (c.args.octets.now ++ c.args.others.now) c.in-Some.found c.in-Some.ensures c.if-found.false (λ u. c.if-found-octets.false (u ∙ length-append c.args.octets.now c.args.others.now))

@@ -1,6 +1,6 @@
 use Rattle.std.proofs.Common.{◌<◌, ◌++◌, ◌*◌, List, ℕ, length, take, arith, refl, sym, ap, subst, ◌∙◌}
 use Rattle.amqp_frames.proofs.Feeding.{done_view, framed, refused, in_both, not_done, joined_some, room_of, sound_done, sound_again, same_view, front_taken, view_max, view_kept, view_state, view_room}
-use Rattle.amqp_frames.specs.Contents.{IsFrontFault}
+use Rattle.amqp_frames.specs.Contents.{AreNoContents}
 use Rattle.amqp_frames.proofs.Cuts.{from_place, cut_short}
 use Rattle.amqp_frames.proofs.framer.Framer.finish.Goals as goal
 
@@ -15,7 +15,7 @@ returns-in_default-clause-fed c =
     let same = not_done c.self.inside.is_done c.self.inside.buffer.octets kept held some in
     let at = from_place c.as_slice.result.now kept (4 * c.args.header.doff) c.start.result c.start.ensures (c.as_slice.ensures ∙ c.reserve.ensures.octets ∙ same) in (
       cut_short _ c.args.header _ c.args.missing kept c.args.piece.now c.requires.begins c.requires.size c.requires.whole c.requires.place
-          (subst (λ (x : List ℕ). IsFrontFault c.front_fault.result x (take c.args.missing c.args.piece.now)) at c.front_fault.ensures),
+          (subst (λ (x : List ℕ). AreNoContents c.front_fault.result (x ++ take c.args.missing c.args.piece.now)) at c.front_fault.ensures),
       same_view c.self.inside.max_size c.self.inside.is_done c.self.inside.before c.reserve.new.self.octets c.self.inside.buffer.octets c.reserve.ensures.octets ∙ ap view_state c.self.view_is,
     )
 

@@ -1,0 +1,6 @@
+pub mod Texts
+pub mod Shapes
+pub mod FieldRows
+pub mod Held
+pub mod Told
+pub mod Nine
