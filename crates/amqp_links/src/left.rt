@@ -14,7 +14,7 @@ use crate::link::Link;
 use crate::links::Links;
 use crate::store::Store;
 use amqp_deliveries::Telling;
-use amqp_performatives::DeliveryState;
+use amqp_rules::copying::copy_state;
 use amqp_rules::reply::{Learned, Taken};
 use amqp_types::{Boxed, Text};
 use slab::Slab;
@@ -44,15 +44,6 @@ fn take_of(link: u32, waiting: &Waiting) -> Result<Taken, AllocError>
         settled: waiting.is_settled(),
         second: waiting.is_second(),
     })
-}
-
-fn copy_state(state: &Option<DeliveryState>) -> Result<Option<DeliveryState>, AllocError>
-    ensures { IfOk result (λ copy. copy ≡ state.now) }
-{
-    match state {
-        None => Ok(None),
-        Some(state) => Ok(Some(state.clone()?)),
-    }
 }
 
 /// What is learnt of a thing that was told.

@@ -5,7 +5,8 @@ use amqp_frames::{AmqpError, DeliveryState};
 use amqp_types::{Boxed, Value};
 use std::alloc::AllocError;
 
-pub(crate) fn copy_value(value: &Option<Boxed<Value>>) -> Result<Option<Boxed<Value>>, AllocError>
+/// A copy of a value, where there is one.
+pub fn copy_value(value: &Option<Boxed<Value>>) -> Result<Option<Boxed<Value>>, AllocError>
     ensures { IfOk result (λ copy. copy ≡ value.now) }
 {
     match value {
@@ -14,9 +15,8 @@ pub(crate) fn copy_value(value: &Option<Boxed<Value>>) -> Result<Option<Boxed<Va
     }
 }
 
-pub(crate) fn copy_error(
-    error: &Option<Boxed<AmqpError>>,
-) -> Result<Option<Boxed<AmqpError>>, AllocError>
+/// A copy of an error, where there is one.
+pub fn copy_error(error: &Option<Boxed<AmqpError>>) -> Result<Option<Boxed<AmqpError>>, AllocError>
     ensures { IfOk result (λ copy. copy ≡ error.now) }
 {
     match error {
@@ -25,7 +25,8 @@ pub(crate) fn copy_error(
     }
 }
 
-pub(crate) fn copy_state(state: &Option<DeliveryState>) -> Result<Option<DeliveryState>, AllocError>
+/// A copy of a state, where there is one.
+pub fn copy_state(state: &Option<DeliveryState>) -> Result<Option<DeliveryState>, AllocError>
     ensures { IfOk result (λ copy. copy ≡ state.now) }
 {
     match state {

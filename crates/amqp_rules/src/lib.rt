@@ -10,6 +10,7 @@
 //! | `status` | the windows and a link as they are shown |
 //! | `laws` | the frames of each reply have octets |
 //! | `equality` | `==` of operations and of replies is `≡` in contracts |
+//! | `copying` | copies of what may be left out |
 #![tactic(auto)]
 //! # The session (part 2, 2.5.5)
 //!
@@ -75,7 +76,7 @@
 //! Deliveries that a step ends are named in its reply, by role and id.
 
 pub mod config;
-mod copying;
+pub mod copying;
 pub mod equality;
 mod frame_refusal;
 pub mod laws;

@@ -10,7 +10,7 @@
 //! | `consumers` | threads that take deliveries and settle them |
 //! | `seed`, `name` | a connection before it is shared, and what tells one shared connection's passes and ring from another's |
 //! | `close`, `closing`, `refused` | how all comes together again |
-//! | `growing`, `receipt` | what each call adds to a connection, and what stands for it |
+//! | `growing` | what each call adds to a connection |
 //! | `waiting` | what threads wait for, and what may bring it |
 //!
 //! # How threads share a connection
@@ -53,7 +53,6 @@ mod history;
 mod locked;
 mod name;
 mod pass;
-mod receipt;
 mod refused;
 mod seed;
 mod shared;

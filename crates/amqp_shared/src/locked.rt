@@ -14,11 +14,10 @@ use crate::growing::{
 };
 use crate::name::{Name, Numbered};
 use crate::pass::Pass;
-use crate::receipt::receipt_of;
 use crate::waiting::{Waiters, Want, is_closed};
 use amqp_conn::{CloseRefusal, Conn, ConnFault, Fed, Phase};
 use amqp_frames::AmqpError;
-use amqp_journal::receipt::Receipt;
+use amqp_journal::receipt::{Receipt, receipt_of};
 use amqp_journal::unit::Unit;
 use amqp_rules::op::Op;
 use amqp_rules::refusal::Refusal;
