@@ -1,5 +1,5 @@
--- The plan of an attach of the peer's that answers ours.
-use Rattle.std.proofs.Common.{◌≡◌, ℕ, ◌+◌, not, Bool, true, false, Option, Some, None, [], ◌∷◌, refl, ap, sym, subst, find, is_some, is_none}
+-- What answers an attach and a detach of the peer's.
+use Rattle.std.proofs.Common.{◌≡◌, ℕ, ◌+◌, not, Bool, true, false, Option, Some, None, [], ◌∷◌, refl, ap, sym, subst, find, is_some, is_none, Result, Ok, Err, ◌∙◌, inr, MatchResult}
 use Rattle.std.specs.Prelude.{◌&&◌}
 use Rattle.amqp_performatives.specs.declared.bodies.AttachBody.{AttachBody}
 use Rattle.amqp_deliveries.specs.declared.change.Change.TheVariants as change
@@ -9,18 +9,28 @@ use Rattle.amqp_links.specs.Links.{IsFirst}
 use Rattle.amqp_rules.specs.declared.reply.Given.TheVariants.{Attached}
 use Rattle.amqp_rules.specs.declared.violation.Violation.{Violation}
 use Rattle.amqp_rules.specs.declared.violation.ViolationKind.TheVariants.{OutOfSession, HandleTaken, NameTaken, MissingField}
-use Rattle.amqp_rules.specs.View.{LinkView, EndView, SendingView, opposite, has_number, has_peer_handle, is_asked_as, is_theirs, takes_frames}
+use Rattle.amqp_rules.specs.View.{LinkView, EndView, SendingView, opposite, has_number, has_peer_handle, is_asked_as, is_theirs, takes_frames, is_attached}
 use Rattle.amqp_rules.specs.Carry.{size_so_far}
-use Rattle.amqp_rules.specs.Refusing.{first_refusal, unlinked}
+use Rattle.amqp_rules.specs.Refusing.{first_refusal, unlinked, no_memory}
 use Rattle.amqp_rules.specs.Attach.{attached_by_peer, end_of}
 use Rattle.amqp_rules.specs.PeerAttach.{lacks_count, attach_heard_answer, attach_violations, next_attach_heard}
 use Rattle.amqp_endpoint.specs.declared.plan.Session.{Session}
 use Rattle.amqp_endpoint.specs.declared.plan.Plan.{Plan}
 use Rattle.amqp_endpoint.specs.declared.endpoint.peer_attach.Answered.{Answered}
-use Rattle.amqp_endpoint.specs.Answered.{IsAnswered}
+use Rattle.amqp_endpoint.specs.Answered.{IsAnswered, IsParting}
 use Rattle.amqp_endpoint.specs.Stores.{StoresView}
-use Rattle.amqp_endpoint.specs.Plan.{IsKept, IsPlan, IsShort, flags_of, quiet_plan, view_of}
-use Rattle.amqp_endpoint.proofs.Plans.{change-alike, counted-still, short-found, shorter}
+use Rattle.amqp_endpoint.specs.Plan.{IsKept, IsPlan, IsShort, flags_of, quiet_plan, view_of, Plans, sending_plan}
+use Rattle.amqp_endpoint.proofs.Plans.{same, change-alike, counted-still, short-found, shorter}
+use Rattle.amqp_performatives.specs.declared.bodies.DetachBody.{DetachBody}
+use Rattle.amqp_performatives.specs.declared.performative.Performative.{Performative}
+use Rattle.amqp_links.specs.declared.fate.Fate.TheVariants as fate
+use Rattle.amqp_rules.specs.declared.reply.Given.TheVariants as given
+use Rattle.amqp_rules.specs.Detach.{detach_body}
+use Rattle.amqp_rules.specs.PeerDetach.{detach_heard_answer, next_detach_heard}
+use Rattle.amqp_deliveries.specs.declared.change.Change.TheVariants.{Leaves}
+use Rattle.amqp_endpoint.specs.declared.endpoint.peer_detach.Parting.{Parting}
+
+-- # An attach that answers ours
 
 none-at : (o : Option LinkView) (a c d : Bool) (x y z w : Violation) → first_refusal ((a, x) ∷ (is_some o, y) ∷ (c, z) ∷ (d, w) ∷ []) ≡ None → o ≡ None
 none-at None a c d x y z w h = refl
@@ -32,9 +42,6 @@ asked-free true true None h = refl
 asked-free true true (Some e) h = absurd (cc)
 asked-free true false o h = absurd (cc)
 asked-free false ours o h = absurd (cc)
-
-only : (x y : LinkView) (o : Option LinkView) → o ≡ Some x → o ≡ Some y → x ≡ y
-only x y o h k = cc
 
 pub answering-plan : (steps : ℕ) (s : Session) (st : StoresView) (b : AttachBody) (a : Answered) (p : Plan)
     → first_refusal (attach_violations (view_of steps s st) b) ≡ None
@@ -55,10 +62,43 @@ answering-plan steps s st b a p none answered k is =
       sound = record {
         fit = (
           none-at (find (has_peer_handle b.handle) st.links.list) (not (takes_frames (flags_of s))) (is_some (find (is_theirs (opposite b.role) b.name) st.links.list)) (lacks_count b) (unlinked OutOfSession) (unlinked HandleTaken) (unlinked NameTaken) (unlinked MissingField) none,
-          λ j e. (let q : l ≡ j = only l j (find (has_number l.number) st.links.list) first.numbered e in rw (← q) (asked-free _ _ l.theirs first.passes)),
+          λ j e. (let q : l ≡ j = same (sym first.numbered ∙ e) in rw (← q) (asked-free _ _ l.theirs first.passes)),
         );
         short = subst (λ (x : Option SendingView). IsShort (steps + 1) x) (sym sends) (shorter steps (size_so_far l.sending) short);
         counted = counted-still steps s s st change.Stay tt k refl refl refl refl;
         alone = tt;
       };
     }
+
+-- # A detach
+
+abbrev gone_body : DetachBody → Parting → Option Performative
+gone_body b p = detach_body p.handle b.closed None
+
+-- the peer leaves a link that is not attached
+pub plan-gone : (steps : ℕ) (s : Session) (st : StoresView) (b : DetachBody) (p : Parting) → IsKept steps s st → IsParting (view_of steps s st) b p → p.attached ≡ false
+    → IsPlan (view_of steps s st) (detach_heard_answer (view_of steps s st) b) (next_detach_heard (view_of steps s st) b) (quiet_plan s (fate.Gone p.key p.number) (Leaves p.number) (given.Gone p.number))
+plan-gone steps s st b p k t a =
+    let q : is_attached t.on ≡ false = sym t.attached ∙ a in
+    rw t.number
+    record {
+      due = rw (t.takes, t.first.found, q) refl;
+      leaves = rw (t.first.found, t.first.removed) refl;
+      sound = record { fit = tt; short = tt; counted = counted-still steps s s st (Leaves t.on.number) tt k refl refl refl refl; alone = tt };
+    }
+
+-- and one that is
+pub plan-gone-told : (steps : ℕ) (s : Session) (st : StoresView) (b : DetachBody) (p : Parting) (r : Result Plan Violation) → IsKept steps s st → IsParting (view_of steps s st) b p → p.attached ≡ true
+    → MatchResult r
+    (λ plan. plan ≡ sending_plan s (fate.Gone p.key p.number) (Leaves p.number) (gone_body b p) [] (given.Gone p.number))
+    (λ e. e ≡ no_memory)
+    → Plans no_memory (view_of steps s st) (detach_heard_answer (view_of steps s st) b) (next_detach_heard (view_of steps s st) b) r
+plan-gone-told steps s st b p (Ok plan) k t a r =
+    let q : is_attached t.on ≡ true = sym t.attached ∙ a in
+    rw (r, t.number, t.handle)
+    record {
+      due = rw (t.takes, t.first.found, q) refl;
+      leaves = rw (t.first.found, t.first.removed) refl;
+      sound = record { fit = tt; short = tt; counted = counted-still steps s s st (Leaves t.on.number) tt k refl refl refl refl; alone = tt };
+    }
+plan-gone-told steps s st b p (Err e) k t a r = inr (rw (t.takes, t.first.found) refl, r)

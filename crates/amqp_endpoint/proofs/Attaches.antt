@@ -12,15 +12,14 @@ use Rattle.amqp_rules.specs.declared.reply.Given.TheVariants.{Link}
 use Rattle.amqp_rules.specs.Carry.{size_so_far}
 use Rattle.amqp_rules.specs.View.{LinkView, EndView, SendingView, has_name, has_number, is_offered, is_offered_as, new_link, free_handle}
 use Rattle.amqp_rules.specs.Attach.{Wanted, own_attach, end_of, attached_by_us, attach_answer, next_attach}
-use Rattle.amqp_endpoint.specs.declared.endpoint.attach.Place.{Place}
 use Rattle.amqp_endpoint.specs.declared.endpoint.attach.Meeting.{Meeting}
 use Rattle.amqp_endpoint.specs.declared.plan.Plan.{Plan}
 use Rattle.amqp_endpoint.specs.declared.plan.Session.{Session}
 use Rattle.amqp_deliveries.specs.declared.change.Change.TheVariants.{Stay}
 use Rattle.amqp_endpoint.specs.Stores.{StoresView}
 use Rattle.amqp_endpoint.specs.Plan.{IsPlan, IsKept, IsShort, view_of, sending_plan}
-use Rattle.amqp_endpoint.specs.Attaching.{IsMeeting, Meets, attached_fate, counted_by, number_at}
-use Rattle.amqp_endpoint.proofs.Plans.{change-alike, counted-still, short-found, shorter}
+use Rattle.amqp_endpoint.specs.Attaching.{IsMeeting, Meets, attached_fate, counted_by}
+use Rattle.amqp_endpoint.proofs.Plans.{same, change-alike, counted-still, short-found, shorter}
 
 -- the link after our attach: by its marks, or by its body
 ours-alike : (a : Wanted) (handle : ℕ) (m : Marks) (l : LinkView) → with_marks m l ≡ counted_by a l → with_ours (end_of (own_attach a handle)) m l ≡ attached_by_us (own_attach a handle) l
@@ -29,9 +28,6 @@ ours-alike a handle m l e = ap (λ (x : LinkView). record x { ours = Some (end_o
 no-end : (o : Option EndView) → is_none o ≡ true → o ≡ None
 no-end None h = refl
 no-end (Some e) h = absurd (cc)
-
-same-link : (x y : LinkView) → ◌≡◌ {A = Option LinkView} (Some x) (Some y) → x ≡ y
-same-link x y h = cc
 
 -- an offered link has no attach of ours
 offered-bare : (a : Wanted) (l : LinkView) → is_offered_as a.role a.name l ≡ true → l.ours ≡ None
@@ -43,15 +39,16 @@ attach_plan s fate a handle number = sending_plan s fate Stay (Some (Attach (own
 
 pub plan-attached : (steps : ℕ) (s : Session) (st : StoresView) (a : Wanted) (w : Meeting) → IsKept steps s st → IsMeeting (view_of steps s st) a w
     → IsPlan (view_of steps s st) (attach_answer (view_of steps s st) a) (next_attach (view_of steps s st) a)
-    (attach_plan s (attached_fate a.name w.met (end_of (own_attach a w.handle)) w.marks) a w.handle w.number)
-plan-attached steps s st a w k t = rw (t.number, t.handle) (by w.met t.meets)
+    (attach_plan s (attached_fate a.name w.met w.number (end_of (own_attach a w.handle)) w.marks) a w.handle w.number)
+plan-attached steps s st a w k t = rw t.handle (by w.met w.number t.meets)
   where
-    by : (met : Option Place) → Meets (view_of steps s st) a met w.marks
+    by : (met : Option ℕ) (n : ℕ) → Meets (view_of steps s st) a met n w.marks
         → IsPlan (view_of steps s st) (attach_answer (view_of steps s st) a) (next_attach (view_of steps s st) a)
-        (attach_plan s (attached_fate a.name met (end_of (own_attach a (free_handle st.links.list))) w.marks) a (free_handle st.links.list) (number_at st.links.made met))
-    by None m =
-        let e = ours-alike a (free_handle st.links.list) w.marks (new_link st.links.made a.role a.name) (m.2 st.links.made) in
-        let none : w.marks.sending ≡ None = ap (λ (l : LinkView). l.sending) (m.2 0) in
+        (attach_plan s (attached_fate a.name met n (end_of (own_attach a (free_handle st.links.list))) w.marks) a (free_handle st.links.list) n)
+    by None n m =
+        let e = ours-alike a (free_handle st.links.list) w.marks (new_link st.links.made a.role a.name) (m.3 st.links.made) in
+        let none : w.marks.sending ≡ None = ap (λ (l : LinkView). l.sending) (m.3 0) in
+        rw m.1
         record {
           due = rw (t.mapped, t.unused, t.low, t.written, m.0) refl;
           leaves = rw (m.0, e) refl;
@@ -62,9 +59,9 @@ plan-attached steps s st a w k t = rw (t.number, t.handle) (by w.met t.meets)
             alone = tt;
           };
         }
-    by (Some p) (on, first, number, marks) =
+    by (Some key) n (on, first, number, marks) =
         let e = ours-alike a (free_handle st.links.list) w.marks on marks in
-        let same : w.marks.sending ≡ on.sending = ap (λ (l : LinkView). l.sending) marks in
+        let sends : w.marks.sending ≡ on.sending = ap (λ (l : LinkView). l.sending) marks in
         let bare = offered-bare a on first.passes in
         let b : AttachBody = own_attach a (free_handle st.links.list) in
         let alike = change-alike (has_number on.number) (attached_by_us b) (with_ours (end_of b) w.marks) st.links.list on first.numbered (sym e) in
@@ -73,8 +70,8 @@ plan-attached steps s st a w k t = rw (t.number, t.handle) (by w.met t.meets)
           due = rw (t.mapped, t.unused, t.low, t.written, first.found) refl;
           leaves = rw (first.found, first.alone (attached_by_us b), alike) refl;
           sound = record {
-            fit = (refl, λ l found. let q : on ≡ l = same-link on l (sym first.numbered ∙ found) in subst (λ (x : LinkView). x.ours ≡ None) q bare);
-            short = subst (λ (x : Option SendingView). IsShort (steps + 1) x) (sym same) (shorter steps (size_so_far on.sending) (short-found steps (is_offered_as a.role a.name) st.links.list on k.short first.found));
+            fit = (refl, λ l found. let q : on ≡ l = same (sym first.numbered ∙ found) in subst (λ (x : LinkView). x.ours ≡ None) q bare);
+            short = subst (λ (x : Option SendingView). IsShort (steps + 1) x) (sym sends) (shorter steps (size_so_far on.sending) (short-found steps (is_offered_as a.role a.name) st.links.list on k.short first.found));
             counted = counted-still steps s s st Stay tt k refl refl refl refl;
             alone = tt;
           };

@@ -1,27 +1,23 @@
 -- A further transfer of ours, and a delivery that is given up.
-use Rattle.std.proofs.Common.{◌≡◌, ◌<◌, ◌≤◌, ℕ, ◌+◌, ◌*◌, ◌^◌, Bool, true, false, Option, Some, None, Result, Ok, Err, List, [], refl, ap, sym, find, MatchResult, ⊎_elim, inl, inr, ◌⊎◌, arith, subst, ◌∙◌}
+use Rattle.std.proofs.Common.{◌≡◌, ◌<◌, ◌≤◌, ℕ, ◌+◌, ◌*◌, ◌^◌, Bool, true, false, Option, Some, None, List, [], refl, ap, sym, find, inl, arith, subst, ◌∙◌}
 use Rattle.amqp_performatives.specs.declared.performative.Performative.{Performative}
 use Rattle.amqp_performatives.specs.declared.bodies.Role.TheVariants.{Sender}
 use Rattle.amqp_flow.specs.Windows.{windows_sent}
 use Rattle.amqp_links.specs.declared.fate.Fate.TheVariants.{Marked}
 use Rattle.amqp_links.specs.Marks.{with_marks}
 use Rattle.amqp_rules.specs.declared.reply.Given.TheVariants.{Nothing}
-use Rattle.amqp_rules.specs.declared.refusal.Refusal.{Refusal}
-use Rattle.amqp_rules.specs.declared.refusal.Refusal.TheVariants.{NoMemory}
 use Rattle.amqp_rules.specs.Abort.{abort_answer, aborted, next_abort}
 use Rattle.amqp_rules.specs.Carry.{size_so_far, carried, later_body}
 use Rattle.amqp_rules.specs.View.{LinkView, SendingView, has_number, handle_of}
-use Rattle.amqp_rules.specs.Sending.{frame_refused}
 use Rattle.amqp_endpoint.specs.declared.endpoint.abort.Aborted.{Aborted}
-use Rattle.amqp_endpoint.specs.declared.plan.Plan.{Plan}
 use Rattle.amqp_endpoint.specs.declared.plan.Session.{Session}
 use Rattle.amqp_deliveries.specs.declared.change.Change.{Change}
 use Rattle.amqp_deliveries.specs.declared.change.Change.TheVariants.{Continues}
-use Rattle.amqp_endpoint.specs.Aborting.{IsAborted}
+use Rattle.amqp_endpoint.specs.Taking.{IsAborted}
+use Rattle.amqp_endpoint.specs.Drafting.{IsDraft}
 use Rattle.amqp_endpoint.specs.Stores.{StoresView}
-use Rattle.amqp_endpoint.specs.Plan.{IsBegun, IsCounted, IsKept, IsShort, AreShortOn, Plans, view_of, sending_plan}
-use Rattle.amqp_endpoint.proofs.Plans.{change-alike, short-found}
-use Rattle.amqp_endpoint.proofs.Rows.{expects-same}
+use Rattle.amqp_endpoint.specs.Plan.{IsBegun, IsCounted, IsKept, IsShort, AreShortOn, view_of, sending_plan}
+use Rattle.amqp_endpoint.proofs.Plans.{change-alike, short-found, expects-same}
 
 -- # Lengths
 
@@ -51,27 +47,17 @@ counted_sent steps s st change begins k =
       begun = begins;
     }
 
--- # Plans
+-- # A delivery is given up
 
--- a delivery is given up
-pub plan_aborted : (steps : ℕ) (s : Session) (st : StoresView) (link : ℕ) (a : Aborted) (said : Option Performative) (r : Result Plan Refusal) → IsKept steps s st
+pub draft_aborted : (steps : ℕ) (s : Session) (st : StoresView) (link : ℕ) (a : Aborted) (said : Option Performative) → IsKept steps s st
     → IsAborted (view_of steps s st) link a → said ≡ later_body a.on.handle None (Some true)
-    → MatchResult r
-    (λ p. (frame_refused s.max_frame said [] ≡ None) × (p ≡ sending_plan (record s { windows = windows_sent s.windows }) (Marked a.on.key link a.on.marks) (Continues Sender a.id None true) said [] Nothing))
-    (λ e. (frame_refused s.max_frame said [] ≡ Some e) ⊎ ((frame_refused s.max_frame said [] ≡ None) × (e ≡ NoMemory)))
-    → Plans NoMemory (view_of steps s st) (abort_answer (view_of steps s st) link) (next_abort (view_of steps s st) link) r
-plan_aborted steps s st link a said (Err e) k t b r =
-    ⊎_elim
-    (λ f. let q : frame_refused s.max_frame (later_body (handle_of t.taken.on.ours) None (Some true)) [] ≡ Some e = rw (← t.taken.handle, ← b) f in inl (rw (t.taken.mapped, t.taken.found, t.taken.free, q) refl))
-    (λ f. let q : frame_refused s.max_frame (later_body (handle_of t.taken.on.ours) None (Some true)) [] ≡ None = rw (← t.taken.handle, ← b) f.0 in inr (rw (t.taken.mapped, t.taken.found, t.taken.free, q) refl, f.1))
-    r
-plan_aborted steps s st link a said (Ok p) k t b r =
-    let q : frame_refused s.max_frame (later_body (handle_of t.taken.on.ours) None (Some true)) [] ≡ None = rw (← t.taken.handle, ← b) r.0 in
+    → IsDraft (view_of steps s st) (abort_answer (view_of steps s st) link) (next_abort (view_of steps s st) link) said []
+    (sending_plan (record s { windows = windows_sent s.windows }) (Marked a.on.key link a.on.marks) (Continues Sender a.id None true) said [] Nothing)
+draft_aborted steps s st link a said k t b =
     let h : said ≡ later_body (handle_of t.taken.on.ours) None (Some true) = b ∙ ap (λ n. later_body n None (Some true)) t.taken.handle in
     let gone : a.on.marks.sending ≡ None = ap (λ l. l.sending) t.taken.marks in
-    rw r.1
     record {
-      due = rw (t.taken.mapped, t.taken.found, t.taken.free, q, h, t.unfinished) refl;
+      due = rw (t.taken.mapped, t.taken.found, t.taken.free, h, t.unfinished) refl;
       leaves = rw (change-alike (has_number link) aborted (with_marks a.on.marks) st.links.list t.taken.on t.taken.found (rw t.taken.marks refl), t.taken.found, t.unfinished) refl;
       sound = record {
         fit = tt;

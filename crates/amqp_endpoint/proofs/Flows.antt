@@ -1,5 +1,5 @@
 -- The plan of a flow that is heard.
-use Rattle.std.proofs.Common.{◌≡◌, ◌∙◌, ℕ, ◌+◌, ◌&&◌, not, Bool, true, false, cond, Option, Some, None, Result, Ok, Err, List, [], inl, inr, refl, ap, arith, is_some, ◌∷◌, MatchResult}
+use Rattle.std.proofs.Common.{◌≡◌, ◌∙◌, ℕ, ◌+◌, ◌&&◌, not, Bool, true, false, cond, Option, Some, None, Ok, List, [], inl, inr, refl, ap, arith, is_some, ◌∷◌}
 use Rattle.std.specs.Option.{option_map}
 use Rattle.amqp_performatives.specs.declared.bodies.FlowBody.{FlowBody}
 use Rattle.amqp_performatives.specs.declared.performative.Performative.TheVariants.{Flow}
@@ -15,41 +15,34 @@ use Rattle.amqp_rules.specs.declared.reply.Given.TheVariants as given
 use Rattle.amqp_rules.specs.declared.violation.Violation.{Violation}
 use Rattle.amqp_rules.specs.Flow.{flow_answer, flow_reply, flow_link, flow_links, flowed, named_link, names_no_link, next_flow, echo_body, is_ahead_of_link}
 use Rattle.amqp_rules.specs.Opened.{no_reply}
-use Rattle.amqp_rules.specs.Refusing.{no_memory}
 use Rattle.amqp_rules.specs.Sending.{reply_of}
 use Rattle.amqp_rules.specs.View.{View, LinkView, is_attached, takes_frames, has_number, has_peer_handle, change_first}
 use Rattle.amqp_endpoint.specs.declared.plan.Session.{Session}
-use Rattle.amqp_endpoint.specs.declared.plan.Plan.{Plan}
 use Rattle.amqp_endpoint.specs.Stores.{StoresView}
-use Rattle.amqp_endpoint.specs.declared.endpoint.flow.Flowing.{Flowing}
-use Rattle.amqp_endpoint.specs.Flowing.{session_ahead, session_after, windows_told_by, sends_echo, echo_plan}
+use Rattle.amqp_endpoint.specs.declared.endpoint.peer_flow.Flowing.{Flowing}
+use Rattle.amqp_endpoint.specs.Flowing.{IsStill, session_ahead, session_after, windows_told_by, sends_echo, echo_plan}
 use Rattle.amqp_endpoint.specs.Plan.{AreShort, IsCounted, IsKept, IsPlan, flags_of, plan_reply, view_of}
-use Rattle.amqp_endpoint.proofs.Plans.{change-alike, short-found, shorter}
-use Rattle.amqp_endpoint.proofs.Rows.{expects-same}
+use Rattle.amqp_endpoint.proofs.Plans.{change-alike, short-found, shorter, expects-same}
 
 echo-reply : (v : View) (session : Session) (fate : Fate) (echo : Bool) (body : FlowBody)
     → cond echo (reply_of (Some (Flow body)) [] given.Nothing) no_reply ≡ plan_reply (echo_plan (record { session = session; fate = fate; echo = echo; body = body })) v
 echo-reply v session fate true body = refl
 echo-reply v session fate false body = refl
 
-sent-after : (begun echo : Bool) (b : FlowBody) (w : WindowsView) → (cond echo (windows_renewed (windows_told_by begun b w)) (windows_told_by begun b w)).sent ≡ w.sent
-sent-after true true b w = refl
-sent-after true false b w = refl
-sent-after false true b w = refl
-sent-after false false b w = refl
-
-first-after : (begun echo : Bool) (b : FlowBody) (w : WindowsView) → (cond echo (windows_renewed (windows_told_by begun b w)) (windows_told_by begun b w)).first ≡ w.first
-first-after true true b w = refl
-first-after true false b w = refl
-first-after false true b w = refl
-first-after false false b w = refl
+numbers-after : (begun echo : Bool) (b : FlowBody) (w : WindowsView)
+    → let n : WindowsView = cond echo (windows_renewed (windows_told_by begun b w)) (windows_told_by begun b w) in (n.sent ≡ w.sent) × (n.first ≡ w.first)
+numbers-after true true b w = (refl, refl)
+numbers-after true false b w = (refl, refl)
+numbers-after false true b w = (refl, refl)
+numbers-after false false b w = (refl, refl)
 
 counted-after : (k : ℕ) (s : Session) (st : StoresView) (b : FlowBody) → IsKept k s st → IsCounted (view_of k s st) change.Stay (session_after b s)
 counted-after k s st b i =
+    let n = numbers-after s.begin_sent (sends_echo s.begin_sent b) b s.windows in
     record {
-      sent = (let h = i.sent in rw (sent-after s.begin_sent (sends_echo s.begin_sent b) b s.windows) (omega (arith, h)));
+      sent = (let h = i.sent in rw n.0 (omega (arith, h)));
       deliveries = (let h = i.deliveries in omega (arith, h));
-      ours = inl (rw (first-after s.begin_sent (sends_echo s.begin_sent b) b s.windows) refl);
+      ours = inl (rw n.1 refl);
       theirs = expects-same s.expected;
       begun = tt;
     }
@@ -77,7 +70,7 @@ planned-echo k s st b f o x i due leaves fit short h =
       sound = record { fit = fit; short = short; counted = counted-after k s st b i; alone = tt };
     }
 
--- # A flow of the session alone
+-- # A flow that names no link
 
 none-named : (o : Option ℕ) (b : FlowBody) (links : List LinkView) → b.handle ≡ o → o ≡ None → names_no_link b links ≡ false
 none-named None b links e h = rw e refl
@@ -89,17 +82,7 @@ named-none o links h = rw h refl
 links-none : (b : FlowBody) (o : Option ℕ) (links : List LinkView) → o ≡ None → flow_links b o links ≡ links
 links-none b o links h = rw h refl
 
-pub session-flow-plan : (k : ℕ) (s : Session) (st : StoresView) (b : FlowBody) (x : Flowing) → IsKept k s st
-    → takes_frames (flags_of s) ≡ true → b.handle ≡ None → session_ahead s.begin_sent b s.windows ≡ false
-    → x ≡ record { session = session_after b s; fate = Stay; echo = sends_echo s.begin_sent b; body = echo_body (session_after b s).windows None }
-    → IsPlan {E = Violation} (view_of k s st) (flow_answer (view_of k s st) b) (next_flow (view_of k s st) b) (echo_plan x)
-session-flow-plan k s st b x i takes names ahead h =
-    planned-echo k s st b Stay None x i
-    (answer-is k s st b None takes (none-named b.handle b st.links.list refl names) ahead (named-none b.handle st.links.list names) refl)
-    (leaves-is k s st b st.links.list (links-none b b.handle st.links.list names))
-    tt tt h
-
--- # A flow of a link
+-- # A flow that names one
 
 no-other : (b : FlowBody) (h : ℕ) (links : List LinkView) (l : LinkView) → b.handle ≡ Some h → IsFirst (has_peer_handle h) links l → names_no_link b links ≡ false
 no-other b h links l e i = rw (e, i.found) refl
@@ -141,15 +124,21 @@ passed-body w b l e = rw (left-stays b l e, left-not_attached l e) refl
 passed-behind : (b : FlowBody) (l : LinkView) → l.left ≡ true → is_ahead_of_link b (Some l) ≡ false
 passed-behind b l e = rw (left-not_attached l e) refl
 
-pub passed-flow-plan : (k h : ℕ) (s : Session) (st : StoresView) (b : FlowBody) (l : LinkView) (x : Flowing) → IsKept k s st
-    → takes_frames (flags_of s) ≡ true → b.handle ≡ Some h → IsFirst (has_peer_handle h) st.links.list l → l.left ≡ true → session_ahead s.begin_sent b s.windows ≡ false
+pub still-flow-plan : (k : ℕ) (s : Session) (st : StoresView) (b : FlowBody) (x : Flowing) → IsKept k s st
+    → takes_frames (flags_of s) ≡ true → session_ahead s.begin_sent b s.windows ≡ false → IsStill (view_of k s st) b
     → x ≡ record { session = session_after b s; fate = Stay; echo = sends_echo s.begin_sent b; body = echo_body (session_after b s).windows None }
     → IsPlan {E = Violation} (view_of k s st) (flow_answer (view_of k s st) b) (next_flow (view_of k s st) b) (echo_plan x)
-passed-flow-plan k h s st b l x i takes names called left ahead m =
+still-flow-plan k s st b x i takes ahead (inl names) m =
+    planned-echo k s st b Stay None x i
+    (answer-is k s st b None takes (none-named b.handle b st.links.list refl names) ahead (named-none b.handle st.links.list names) refl)
+    (leaves-is k s st b st.links.list (links-none b b.handle st.links.list names))
+    tt tt m
+still-flow-plan k s st b x i takes ahead (inr p) m =
+    let l : LinkView = p.on in
     planned-echo k s st b Stay (Some (flow_link b l)) x i
-    (answer-is k s st b (Some l) takes (no-other b h st.links.list l names called) ahead (named-is b.handle h st.links.list l names called) (passed-behind b l left))
-    (leaves-is k s st b st.links.list (links-are b b.handle h st.links.list l (λ m. m) names called (left-stays b l left) ∙ stays-first (has_number l.number) st.links.list))
-    tt tt (rw (passed-body (session_after b s).windows b l left) m)
+    (answer-is k s st b (Some l) takes (no-other b p.handle st.links.list l p.names p.called) ahead (named-is b.handle p.handle st.links.list l p.names p.called) (passed-behind b l p.left))
+    (leaves-is k s st b st.links.list (links-are b b.handle p.handle st.links.list l (λ m. m) p.names p.called (left-stays b l p.left) ∙ stays-first (has_number l.number) st.links.list))
+    tt tt (rw (passed-body (session_after b s).windows b l p.left) m)
 
 pub marks-sending : (m : Marks) (b : FlowBody) (l : LinkView) → l.left ≡ false → with_marks m l ≡ flow_link b l → m.sending ≡ l.sending
 marks-sending m b l e h = ap (λ x. x.sending) h ∙ by l.left e

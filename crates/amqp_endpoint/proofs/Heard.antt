@@ -5,7 +5,7 @@ use Rattle.amqp_performatives.specs.declared.bodies.Role.{Role}
 use Rattle.amqp_performatives.specs.declared.bodies.Role.TheVariants.{Sender, Receiver}
 use Rattle.amqp_events.specs.Event as event
 use Rattle.amqp_events.specs.Event.{Disposition}
-use Rattle.amqp_events.specs.Told.{SentItem, tellings}
+use Rattle.amqp_events.specs.Told.{SentItem, tellings, Telling}
 use Rattle.amqp_links.specs.declared.fate.Fate.TheVariants as fate
 use Rattle.amqp_deliveries.specs.declared.change.Change.TheVariants.{Hears}
 use Rattle.amqp_rules.specs.declared.reply.Given.TheVariants.{Nothing}
@@ -16,9 +16,12 @@ use Rattle.amqp_rules.specs.PeerDisposition.{disposition_answer, next_dispositio
 use Rattle.amqp_rules.specs.View.{LinkView, opposite, takes_frames}
 use Rattle.amqp_endpoint.specs.declared.plan.Plan.{Plan}
 use Rattle.amqp_endpoint.specs.declared.plan.Session.{Session}
-use Rattle.amqp_endpoint.specs.Stores.{StoresView}
+use Rattle.amqp_endpoint.specs.Stores.{StoresView, stores_after}
 use Rattle.amqp_endpoint.specs.Plan.{IsPlan, IsKept, flags_of, view_of, quiet_plan}
 use Rattle.amqp_endpoint.proofs.Plans.{counted-still}
+use Rattle.amqp_links.specs.Links.{LinksView}
+use Rattle.amqp_links.specs.Fate.{links_told}
+use Rattle.amqp_deliveries.specs.Change.{TablesView, tables_after}
 
 -- # What says nothing tells nothing
 
@@ -58,3 +61,9 @@ pub plan_heard : (steps : ℕ) (s : Session) (st : StoresView) (b : DispositionB
 plan_heard steps s st b role d p k takes back said ours is =
     let P : Plan → Type 0 = IsPlan {E = Violation} (view_of steps s st) (disposition_answer (view_of steps s st) b) (next_disposition (view_of steps s st) b) in
     subst P (sym (is ∙ (λ i. quiet_plan s fate.Stay (Hears (ours i) (said i)) Nothing))) (of-role steps s st b b.role k takes back)
+
+pub heard-told : (role : Role) (d : event.Disposition) (s : StoresView) (l : LinksView) (ts : List Telling) (t : TablesView)
+    → role ≡ Sender → l ≡ links_told ts s.links → ts ≡ tellings (event.Hears d) s.tables.sent → t ≡ tables_after (Hears role d) s.tables
+    → ◌≡◌ {A = StoresView} (record { links = l; tables = t }) (stores_after fate.Stay (Hears role d) s)
+heard-told Sender d s l ts t e a b f = rw (a, b, f) refl
+heard-told Receiver d s l ts t e a b f = absurd (cc)

@@ -20,8 +20,8 @@ use Rattle.amqp_rules.specs.PeerDisposition.{told_more}
 use Rattle.amqp_endpoint.specs.declared.plan.Session.{Session}
 use Rattle.amqp_endpoint.specs.declared.plan.Plan.{Plan}
 use Rattle.amqp_deliveries.specs.declared.change.Change.{Change}
-use Rattle.amqp_deliveries.specs.declared.change.Change.TheVariants.{Stay, Begins, Continues, Says, Hears, Leaves, Over}
-use Rattle.amqp_deliveries.specs.Change.{TablesView, held_items, tables_after}
+use Rattle.amqp_deliveries.specs.declared.change.Change.TheVariants.{Stay, Begins, Continues, Says, Hears, Over}
+use Rattle.amqp_deliveries.specs.Change.{TablesView, held_items, received_event, sent_event, tables_after}
 use Rattle.amqp_endpoint.specs.Stores.{StoresView, IsApt, IsMet, told_after, stores_after}
 use Rattle.amqp_endpoint.specs.Plan.{AreBehind, AreBehindExpected, AreShort, AreShortOn, IsShort, IsAlone, IsAtMostNext, IsBegun, IsDue, IsExpectedNext, IsKept, IsSound, next_id, view_of}
 
@@ -99,14 +99,11 @@ ours-kept : (k n : ℕ) (v : View) (s : Session) (c : Change) (t : TablesView) �
 ours-kept k n v s Stay t g e b = b
 ours-kept k n v s (Begins Sender i) t g e b = kept-sent (k + 1) n (event.Begins i true) t.sent b (alone-behind k i _ n g.0 (rw (← e) g.1))
 ours-kept k n v s (Begins Receiver i) t g e b = b
-ours-kept k n v s (Continues Sender id state over) t g e b = kept-sent (k + 1) n (event.Continues id state over) t.sent b tt
 ours-kept k n v s (Continues Receiver id state over) t g e b = b
 ours-kept k n v s (Says Sender d) t g e b = kept-sent (k + 1) n (event.Says d) t.sent b tt
-ours-kept k n v s (Says Receiver d) t g e b = kept-sent (k + 1) n event.Nothing t.sent b tt
 ours-kept k n v s (Hears Sender d) t g e b = kept-sent (k + 1) n (event.Hears d) t.sent b tt
-ours-kept k n v s (Hears Receiver d) t g e b = kept-sent (k + 1) n event.Nothing t.sent b tt
-ours-kept k n v s (Leaves link) t g e b = kept-sent (k + 1) n (event.Leaves link) t.sent b tt
 ours-kept k n v s Over t g e b = tt
+ours-kept k n v s c t g e b = kept-sent (k + 1) n (sent_event c) t.sent b tt
 
 -- those that we receive
 theirs-kept : (k n : ℕ) (c : Change) (t : TablesView) → AreBehind (k + 1) n t.received → ((i : Item) → c ≡ Begins Receiver i → AreBehind (k + 1) n (i ∷ [])) → AreBehind (k + 1) n (tables_after c t).received
@@ -114,13 +111,10 @@ theirs-kept k n Stay t b g = b
 theirs-kept k n (Begins Sender i) t b g = b
 theirs-kept k n (Begins Receiver i) t b g = kept-held (k + 1) n (event.Begins i true) t.received b (g i refl)
 theirs-kept k n (Continues Sender id state over) t b g = b
-theirs-kept k n (Continues Receiver id state over) t b g = kept-held (k + 1) n (event.Continues id state over) t.received b tt
 theirs-kept k n (Says Sender d) t b g = kept-held (k + 1) n event.Nothing t.received b tt
-theirs-kept k n (Says Receiver d) t b g = kept-held (k + 1) n (event.Says d) t.received b tt
 theirs-kept k n (Hears Sender d) t b g = kept-held (k + 1) n event.Nothing t.received b tt
-theirs-kept k n (Hears Receiver d) t b g = kept-held (k + 1) n (event.Hears d) t.received b tt
-theirs-kept k n (Leaves link) t b g = kept-held (k + 1) n (event.Leaves link) t.received b tt
 theirs-kept k n Over t b g = tt
+theirs-kept k n c t b g = kept-held (k + 1) n (received_event c) t.received b tt
 
 is-begin : (c : Change) → (i : Item) → c ≡ Begins Receiver i → (v : View) (s : Session) → IsBegun v c s → IsDue i.id v.expected × (s.expected ≡ Some (wire (i.id + 1)))
 is-begin c i e v s g = let h : IsBegun v (Begins Receiver i) s = rw e at g in (h.0, h.1)
@@ -140,17 +134,12 @@ expected-kept k v s c t None small is x g b = from-none c g
     begin i m h = rw (h, b) (nothing i (wire (i.id + 1)) refl)
 
     from-none : (d : Change) → IsBegun v d s → AreBehindExpected (k + 1) s.expected (tables_after d t).received
-    from-none Stay h = all s.expected _ b
-    from-none (Begins Sender i) h = all s.expected _ b
     from-none (Begins Receiver i) h = begin i s.expected h.1
     from-none (Continues Sender id state over) h = all s.expected _ b
-    from-none (Continues Receiver id state over) h = all s.expected _ (rw b refl)
     from-none (Says Sender d) h = all s.expected _ (rw b refl)
-    from-none (Says Receiver d) h = all s.expected _ (rw b refl)
     from-none (Hears Sender d) h = all s.expected _ (rw b refl)
-    from-none (Hears Receiver d) h = all s.expected _ (rw b refl)
-    from-none (Leaves link) h = all s.expected _ (rw b refl)
     from-none Over h = all s.expected _ refl
+    from-none d h = all s.expected _ (rw b refl)
 expected-kept k v s c t (Some n) small is x g b =
     ⊎_elim
     (λ e. rw e (theirs-kept k n c t (later k n t.received b) (λ i q. (let h = is-begin c i q v s g in absurd (one-of n i (rw (← is) at h.0) (rw e at h.1))))))

@@ -1,15 +1,9 @@
-pub mod Refused
 pub mod Sent
 pub mod Kept
-pub mod Hearing
 pub mod Sends
-pub mod Rows
 pub mod Starts
 pub mod Plans
-pub mod Credits
-pub mod Leaves
 pub mod Flows
-pub mod Offers
 pub mod Answering
 pub mod Carried
 pub mod Heard

@@ -12,16 +12,16 @@ use Rattle.amqp_links.specs.Fate.{changed}
 use Rattle.amqp_performatives.specs.declared.bodies.Role.TheVariants.{Sender}
 use Rattle.amqp_links.specs.declared.fate.Fate.TheVariants.{Marked}
 use Rattle.amqp_rules.specs.declared.refusal.Refusal.{Refusal}
-use Rattle.amqp_rules.specs.declared.refusal.Refusal.TheVariants.{NoMemory, NotAttached, WrongRole, InDelivery, TagHeld, SettleMode, NoCredit, NoWindow, MessageTooLong}
+use Rattle.amqp_rules.specs.declared.refusal.Refusal.TheVariants.{NotAttached, WrongRole, InDelivery, TagHeld, SettleMode, NoCredit, NoWindow, MessageTooLong}
 use Rattle.amqp_rules.specs.declared.reply.Given.TheVariants.{Delivery}
 use Rattle.amqp_rules.specs.View.{View, LinkView, next_delivery, has_number, handle_of, rcv_mode, is_attached, is_too_long, max_of, same_role, snd_mode}
 use Rattle.amqp_rules.specs.Refusing.{first_refusal}
 use Rattle.amqp_rules.specs.Start.{begin_delivery, mode_forbids, next_start, sending_after, start_answer, start_body, start_refusals, tag_is_held}
 use Rattle.amqp_endpoint.specs.declared.plan.Session.{Session}
-use Rattle.amqp_endpoint.specs.declared.plan.Plan.{Plan}
 use Rattle.amqp_endpoint.specs.declared.endpoint.onlink.OnLink.{OnLink}
 use Rattle.amqp_endpoint.specs.Stores.{StoresView}
-use Rattle.amqp_endpoint.specs.Plan.{IsCounted, IsKept, IsPlan, IsShort, Plans, planned, tables_in, view_of}
+use Rattle.amqp_endpoint.specs.Drafting.{IsDraft}
+use Rattle.amqp_endpoint.specs.Plan.{IsCounted, IsKept, IsPlan, IsShort, planned, sending_plan, tables_in, view_of}
 use Rattle.amqp_endpoint.specs.Starting.{change_begun, item_begun, second_on, start_plan, started}
 use Rattle.amqp_endpoint.specs.declared.endpoint.start.Starting.{Starting}
 use Rattle.amqp_endpoint.specs.declared.done.Done.{Done}
@@ -29,8 +29,8 @@ use Rattle.amqp_endpoint.specs.Doing.{IsDone}
 use Rattle.amqp_rules.specs.declared.reply.Reply.{Reply}
 use Rattle.amqp_deliveries.specs.Change.{TablesView, ended_in}
 use Rattle.amqp_endpoint.specs.Taking.{IsTaken}
-use Rattle.amqp_endpoint.proofs.Sends.{Sends, plan-on}
-use Rattle.amqp_endpoint.proofs.Rows.{found-number, any-of, expects-same}
+use Rattle.amqp_endpoint.proofs.Sends.{draft-on}
+use Rattle.amqp_endpoint.proofs.Plans.{found-number, any-of, expects-same}
 
 -- a delivery that begins settled changes none of the unsettled ones
 unspoken-of : (i : Item) (xs : List SentItem) → map (next_sent (event.Begins i false)) (filter (λ s. not (ends (event.Begins i false) s.item)) xs) ≡ xs
@@ -39,9 +39,6 @@ unspoken-of i (x ∷ xs) = rw (unspoken-of i xs) refl
 
 unspoken : (i : Item) (xs : List SentItem) → next_sent_held (event.Begins i false) xs ≡ xs
 unspoken i xs = rw (append-nil (map (next_sent (event.Begins i false)) (filter (λ s. not (ends (event.Begins i false) s.item)) xs))) (unspoken-of i xs)
-
-abbrev pub begun-item : View → ℕ → List ℕ → Bool → Item
-begun-item v link tag second = record { id = next_delivery v; link = link; tag = tag; second = second; local = None; remote = None }
 
 next-wire : (n d : ℕ) → wire (n + (d + 1)) ≡ wire (wire (n + d) + 1)
 next-wire n d = omega arith
@@ -57,17 +54,18 @@ fourth false false true d w x y z rows h = absurd (cc)
 fourth false false false true w x y z rows h = absurd (cc)
 fourth false false false false w x y z rows h = refl
 
-tag-free : (v : View) (l : LinkView) (tag payload : List ℕ) (settled : Bool) → first_refusal (start_refusals v l tag settled payload) ≡ None → tag_is_held v l.number tag ≡ false
-tag-free v l tag payload settled h =
-    fourth (not (is_attached l)) (not (same_role Sender l.role)) (is_some l.sending) (tag_is_held v l.number tag) NotAttached WrongRole InDelivery TagHeld
+tag-free : (v : View) (link : ℕ) (l : LinkView) (tag payload : List ℕ) (settled : Bool) → find (has_number link) v.links ≡ Some l → first_refusal (start_refusals v l tag settled payload) ≡ None → tag_is_held v link tag ≡ false
+tag-free v link l tag payload settled f h =
+    rw (found-number link v.links l f) at
+    (fourth (not (is_attached l)) (not (same_role Sender l.role)) (is_some l.sending) (tag_is_held v l.number tag) NotAttached WrongRole InDelivery TagHeld
     ((mode_forbids (snd_mode l) settled, SettleMode)
     ∷ (l.credit.credit == 0, NoCredit)
     ∷ (v.windows.remote_incoming == 0, NoWindow)
     ∷ (is_too_long (max_of l.theirs) (length payload), MessageTooLong)
-    ∷ []) h
+    ∷ []) h)
 
 counted : (k : ℕ) (s : Session) (st : StoresView) (link : ℕ) (tag : List ℕ) (settled second : Bool) → IsKept k s st → tag_is_held (view_of k s st) link tag ≡ false
-    → IsCounted (view_of k s st) (change_begun settled (begun-item (view_of k s st) link tag second)) (started s)
+    → IsCounted (view_of k s st) (change_begun settled (item_begun (next_delivery (view_of k s st)) link tag second)) (started s)
 counted k s st link tag true second i free =
     record {
       sent = (let h = i.sent in omega (arith, h));
@@ -85,46 +83,40 @@ counted k s st link tag false second i free =
       begun = (
         refl,
         next-wire s.windows.first s.deliveries,
-        rw (any-of (is_tagged_as (begun-item (view_of k s st) link tag second)) (λ x. x.item) st.tables.sent) free,
+        rw (any-of (is_tagged_as (item_begun (next_delivery (view_of k s st)) link tag second)) (λ x. x.item) st.tables.sent) free,
       );
     }
 
 start-leaves : (k : ℕ) (s : Session) (st : StoresView) (link format : ℕ) (tag payload : List ℕ) (settled more second : Bool) (l : LinkView) → find (has_number link) st.links.list ≡ Some l → second ≡ (rcv_mode l == 1)
     → next_start (view_of k s st) link tag format settled payload more
-    ≡ view_of (k + 1) (started s) (record { links = changed link (begin_delivery (next_delivery (view_of k s st)) (length payload) more) st.links; tables = tables_after (change_begun settled (begun-item (view_of k s st) link tag second)) st.tables })
+    ≡ view_of (k + 1) (started s) (record { links = changed link (begin_delivery (next_delivery (view_of k s st)) (length payload) more) st.links; tables = tables_after (change_begun settled (item_begun (next_delivery (view_of k s st)) link tag second)) st.tables })
 start-leaves k s st link format tag payload true more second l f e =
     rw (f, unspoken (record { id = next_delivery (view_of k s st); link = link; tag = tag; second = rcv_mode l == 1; local = None; remote = None }) st.tables.sent) refl
 start-leaves k s st link format tag payload false more second l f e = rw (f, e) refl
 
-pub start-plan : (k : ℕ) (s : Session) (st : StoresView) (link key format : ℕ) (tag payload : List ℕ) (settled more second : Bool) (o : OnLink) (r : Result Plan Refusal)
+pub start-draft : (k : ℕ) (s : Session) (st : StoresView) (link format : ℕ) (tag payload : List ℕ) (settled more second : Bool) (o : OnLink)
     → IsKept k s st → length payload < 2 ^ 64 → second ≡ second_on (find (has_number link) st.links.list)
     → IsTaken (view_of k s st) link (λ l. start_refusals (view_of k s st) l tag settled payload) (begin_delivery (next_delivery (view_of k s st)) (length payload) more) o
-    → Sends (started s) (Marked key link o.marks) (change_begun settled (begun-item (view_of k s st) link tag second)) (start_body o.handle (next_delivery (view_of k s st)) tag format settled more) payload (Delivery (next_delivery (view_of k s st))) r
-    → Plans NoMemory (view_of k s st) (start_answer (view_of k s st) link tag format settled payload more) (next_start (view_of k s st) link tag format settled payload more) r
-start-plan k s st link key format tag payload true more second o r i fits is t h =
+    → IsDraft (view_of k s st) (start_answer (view_of k s st) link tag format settled payload more) (next_start (view_of k s st) link tag format settled payload more)
+    (start_body o.handle (next_delivery (view_of k s st)) tag format settled more) payload
+    (sending_plan (started s) (Marked o.key link o.marks) (change_begun settled (item_begun (next_delivery (view_of k s st)) link tag second))
+    (start_body o.handle (next_delivery (view_of k s st)) tag format settled more) payload (Delivery (next_delivery (view_of k s st))))
+start-draft k s st link format tag payload true more second o i fits is t =
     let v = view_of k s st in
-    let same : second ≡ (rcv_mode t.on == 1) = rw t.found at is in
-    rw (start-leaves k s st link format tag payload true more second t.on t.found same)
-    (plan-on v link key (λ l. start_refusals v l tag true payload) (begin_delivery (next_delivery v) (length payload) more) o (started s) _
-    (λ l. start_body (handle_of l.ours) (next_delivery v) tag format true more) _ payload (Delivery (next_delivery v)) r t refl
-    (λ l f g m n. (
-      ap (λ x. start_body x (next_delivery v) tag format true more) g,
-      (let free = rw (found-number link v.links l f) at (tag-free v l tag payload true n) in counted k s st link tag true second i free),
-      (let e = ap (λ x. x.sending) m in rw e (short-after k (length payload) (next_delivery v) more fits)),
-    ))
-    tt h)
-start-plan k s st link key format tag payload false more second o r i fits is t h =
+    let free = tag-free v link t.on tag payload true t.found t.free in
+    let e : o.marks.sending ≡ sending_after more (next_delivery v) (length payload) = ap (λ x. x.sending) t.marks in
+    rw (start-leaves k s st link format tag payload true more second t.on t.found (rw t.found at is))
+    (draft-on v link (λ l. start_refusals v l tag true payload) (begin_delivery (next_delivery v) (length payload) more) o (started s) _
+    (λ l. start_body (handle_of l.ours) (next_delivery v) tag format true more) _ payload (Delivery (next_delivery v)) t
+    (ap (λ x. start_body x (next_delivery v) tag format true more) t.handle) (counted k s st link tag true second i free) (rw e (short-after k (length payload) (next_delivery v) more fits)) tt)
+start-draft k s st link format tag payload false more second o i fits is t =
     let v = view_of k s st in
-    let same : second ≡ (rcv_mode t.on == 1) = rw t.found at is in
-    rw (start-leaves k s st link format tag payload false more second t.on t.found same)
-    (plan-on v link key (λ l. start_refusals v l tag false payload) (begin_delivery (next_delivery v) (length payload) more) o (started s) _
-    (λ l. start_body (handle_of l.ours) (next_delivery v) tag format false more) _ payload (Delivery (next_delivery v)) r t refl
-    (λ l f g m n. (
-      ap (λ x. start_body x (next_delivery v) tag format false more) g,
-      (let free = rw (found-number link v.links l f) at (tag-free v l tag payload false n) in counted k s st link tag false second i free),
-      (let e = ap (λ x. x.sending) m in rw e (short-after k (length payload) (next_delivery v) more fits)),
-    ))
-    tt h)
+    let free = tag-free v link t.on tag payload false t.found t.free in
+    let e : o.marks.sending ≡ sending_after more (next_delivery v) (length payload) = ap (λ x. x.sending) t.marks in
+    rw (start-leaves k s st link format tag payload false more second t.on t.found (rw t.found at is))
+    (draft-on v link (λ l. start_refusals v l tag false payload) (begin_delivery (next_delivery v) (length payload) more) o (started s) _
+    (λ l. start_body (handle_of l.ours) (next_delivery v) tag format false more) _ payload (Delivery (next_delivery v)) t
+    (ap (λ x. start_body x (next_delivery v) tag format false more) t.handle) (counted k s st link tag false second i free) (rw e (short-after k (length payload) (next_delivery v) more fits)) tt)
 
 ended-begun : (settled : Bool) (i : Item) (t : TablesView) → ended_in (change_begun settled i) t ≡ []
 ended-begun true i t = refl

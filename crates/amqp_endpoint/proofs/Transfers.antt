@@ -1,5 +1,5 @@
 -- The plan of a transfer that is heard.
-use Rattle.std.proofs.Common.{◌≡◌, ◌∙◌, sym, ℕ, ◌+◌, ◌<◌, ◌==◌, ◌&&◌, ◌||◌, ◌++◌, not, Bool, true, false, cond, Option, Some, None, List, [], ◌∷◌, inl, inr, arith, refl, ap, find, is_none, is_some, map, unwrap_or, ⊎_elim}
+use Rattle.std.proofs.Common.{◌≡◌, ◌∙◌, sym, ℕ, ◌+◌, ◌<◌, ◌==◌, ◌&&◌, ◌||◌, ◌++◌, not, Bool, true, false, cond, Option, Some, None, List, [], ◌∷◌, inl, inr, arith, refl, ap, is_none, map, unwrap_or, ⊎_elim}
 use Rattle.std.proofs.lemmas.Bool.{cases_Bool, eq-eqb, eqb-true, eqb-false}
 use Rattle.std.proofs.lemmas.List.{append-nil}
 use Rattle.amqp_flow.specs.Serial.{wire}
@@ -9,7 +9,7 @@ use Rattle.amqp_performatives.specs.declared.bodies.Role.TheVariants.{Receiver}
 use Rattle.amqp_performatives.specs.declared.bodies.TransferBody.{TransferBody}
 use Rattle.amqp_events.specs.Event as event
 use Rattle.amqp_events.specs.Event.{Event, Item}
-use Rattle.amqp_events.specs.Joined.{Delivery, Open, Complete, Aborted, and_more, completed, first_of, next_delivery, next_unfinished}
+use Rattle.amqp_events.specs.Joined.{Delivery, Open, Complete, Aborted, and_more, first_of}
 use Rattle.amqp_events.specs.Named.{has_id, ids_gone}
 use Rattle.amqp_events.specs.Numbers.{id_used, one_past}
 use Rattle.amqp_events.specs.Told.{SentItem, next_sent_held}
@@ -22,25 +22,22 @@ use Rattle.amqp_links.specs.declared.fate.Fate.TheVariants as fate
 use Rattle.amqp_links.specs.declared.marks.Marks.{Marks}
 use Rattle.amqp_links.specs.Arrivals.{with_piece}
 use Rattle.amqp_links.specs.Fate.{with_heard}
-use Rattle.amqp_links.specs.Links.{IsFirst}
 use Rattle.amqp_links.specs.Marks.{IsMarksOf, with_marks}
 use Rattle.amqp_rules.specs.declared.reply.Given.{Given}
 use Rattle.amqp_rules.specs.declared.reply.Given.TheVariants.{Nothing, Ready}
 use Rattle.amqp_rules.specs.declared.violation.Violation.{Violation}
-use Rattle.amqp_rules.specs.View.{View, LinkView, takes_frames, has_number, has_peer_handle, change_first, rcv_mode, is_sender, same_role}
+use Rattle.amqp_rules.specs.View.{View, LinkView, has_number, has_peer_handle, change_first, rcv_mode}
 use Rattle.amqp_rules.specs.Deliveries.{ended_by, item_of, transfer_on, transferred}
-use Rattle.amqp_rules.specs.PeerTransfer.{breaks_mode, breaks_size, credit_used, delivery_violations, given_by, heard_on, is_nameless, is_unexpected, name_violations, next_transfer, received_on, receives, tag_is_taken, transfer_answer, transfer_given, transfer_violations}
+use Rattle.amqp_rules.specs.PeerTransfer.{breaks_mode, breaks_size, credit_used, delivery_violations, given_by, heard_on, is_nameless, is_unexpected, name_violations, received_on, receives, tag_is_taken, transfer_given, transfer_violations}
 use Rattle.amqp_rules.specs.Refusing.{first_refusal, of_link, unlinked}
 use Rattle.amqp_rules.specs.declared.violation.ViolationKind.TheVariants.{BadHandle, Window, MissingField, IdOrder, TagHeld, Mode, Credit, TooLong}
 use Rattle.amqp_endpoint.specs.declared.plan.Session.{Session}
 use Rattle.amqp_endpoint.specs.Stores.{StoresView, stores_after}
-use Rattle.amqp_endpoint.specs.Plan.{IsBegun, IsCounted, IsDue, IsExpectedNext, IsKept, IsPlan, IsSound, flags_of, quiet_plan, view_of}
-use Rattle.amqp_endpoint.specs.declared.endpoint.peer_transfer.Arriving.{Arriving}
-use Rattle.amqp_endpoint.specs.Arriving.{arriving_plan, begun_plan, change_by, heard_session}
-use Rattle.amqp_endpoint.specs.Doing.{session_in}
+use Rattle.amqp_endpoint.specs.Plan.{IsBegun, IsCounted, IsDue, IsExpectedNext, IsKept, IsSound, quiet_plan, view_of}
+use Rattle.amqp_endpoint.specs.declared.endpoint.arriving.Arriving.{Arriving}
+use Rattle.amqp_endpoint.specs.Arriving.{IsHeard, PlansTransfer, change_arriving, passed_plan}
 use Rattle.amqp_endpoint.specs.Transferring.{change_heard, delivery_rows, first_rows, given_heard}
-use Rattle.amqp_endpoint.proofs.Plans.{change-alike, short-found, shorter}
-use Rattle.amqp_endpoint.proofs.Rows.{expects-same}
+use Rattle.amqp_endpoint.proofs.Plans.{change-alike, short-found, shorter, expects-same, row-free}
 use Rattle.amqp_endpoint.proofs.Flows.{stays-first}
 
 -- # Rows
@@ -64,27 +61,10 @@ free-both (x ∷ xs) ys h =
     (λ t. let i = free-both xs ys (rw t at h) in (rw t i.0, i.1))
     (cases_Bool x.0)
 
-row-free : (b : Bool) (e : Violation) (rows : List (Bool × Violation)) → first_refusal ((b, e) ∷ rows) ≡ None → (b ≡ false) × (first_refusal rows ≡ None)
-row-free true e rows h = absurd (cc)
-row-free false e rows h = (refl, h)
-
-pub record IsFree (v : View) (b : TransferBody) (payload : List ℕ) (l : LinkView) : Type 0 where
-  pub receives : receives l ≡ true
-  pub window : (v.windows.incoming == 0) ≡ false
-  pub rest : first_refusal (cond l.left [] (delivery_violations v b payload l)) ≡ None
-
-not-true : (b : Bool) → not b ≡ false → b ≡ true
-not-true true h = refl
-not-true false h = absurd (cc)
-
-pub free-of : (v : View) (b : TransferBody) (payload : List ℕ) (l : LinkView) → first_refusal (transfer_violations v b payload l) ≡ None → IsFree v b payload l
-free-of v b payload l h =
-    let r = row-free (not (receives l)) (unlinked BadHandle) ((v.windows.incoming == 0, unlinked Window) ∷ cond l.left [] (delivery_violations v b payload l)) h in
-    let w = row-free (v.windows.incoming == 0) (unlinked Window) (cond l.left [] (delivery_violations v b payload l)) r.1 in
-    record { receives = not-true (receives l) r.0; window = w.0; rest = w.1 }
-
-pub window-open : (n : ℕ) → (n == 0) ≡ false → 0 < n
-window-open n h = let d = eqb-false n 0 h in omega (arith, d)
+rest-free : (v : View) (b : TransferBody) (payload : List ℕ) (l : LinkView) → first_refusal (transfer_violations v b payload l) ≡ None → first_refusal (cond l.left [] (delivery_violations v b payload l)) ≡ None
+rest-free v b payload l h =
+    let rest = cond l.left [] (delivery_violations v b payload l) in
+    (row-free (v.windows.incoming == 0) (unlinked Window) rest (row-free (not (receives l)) (unlinked BadHandle) ((v.windows.incoming == 0, unlinked Window) ∷ rest) h).1).1
 
 -- # What an event that ends nothing leaves
 
@@ -134,17 +114,16 @@ none-ended e v items h i = rw (quiet-sent v.sent, none-left (map (λ s. s.item) 
 -- # The plan
 
 pub heard-plan : (k : ℕ) (s t : Session) (st : StoresView) (b : TransferBody) (payload : List ℕ) (l : LinkView) (e : Event) (f : Fate) (c : Change) (g : Given)
-    → takes_frames (flags_of s) ≡ true → find (has_peer_handle b.handle) st.links.list ≡ Some l → first_refusal (transfer_violations (view_of k s st) b payload l) ≡ None
-    → transfer_on b (Some l) ≡ e → ended_by event.Nothing e (view_of k s st) ≡ ended_in c st.tables → transfer_given b l ≡ g
+    → IsHeard (view_of k s st) b payload l → transfer_on b (Some l) ≡ e → ended_by event.Nothing e (view_of k s st) ≡ ended_in c st.tables → transfer_given b l ≡ g
     → view_of (k + 1) (record s { windows = windows_received s.windows; expected = one_past (id_used e s.expected) s.expected })
     (record { links = record st.links { list = change_first (has_peer_handle b.handle) (heard_on b payload) st.links.list }; tables = record st.tables { received = next_held e st.tables.received } })
     ≡ view_of (k + 1) t (stores_after f c st)
     → IsSound (view_of k s st) (quiet_plan t f c g)
-    → IsPlan {E = Violation} (view_of k s st) (transfer_answer (view_of k s st) b payload) (next_transfer (view_of k s st) b payload) (quiet_plan t f c g)
-heard-plan k s t st b payload l e f c g takes found free is ended given leaves sound =
+    → PlansTransfer (view_of k s st) b payload (quiet_plan t f c g)
+heard-plan k s t st b payload l e f c g h is ended given leaves sound =
     record {
-      due = rw (takes, found, free, is, ended, given) refl;
-      leaves = rw (found, is) leaves;
+      due = rw (h.takes, h.found.found, h.free, is, ended, given) refl;
+      leaves = rw (h.found.found, is) leaves;
       sound = sound;
     }
 
@@ -184,40 +163,30 @@ left-heard b payload l h = by l.left h
     by true e = refl
     by false e = absurd (cc)
 
-pub passed-plan : (k : ℕ) (s : Session) (st : StoresView) (b : TransferBody) (payload : List ℕ) (l : LinkView) → IsKept k s st
-    → takes_frames (flags_of s) ≡ true → IsFirst (has_peer_handle b.handle) st.links.list l → l.left ≡ true → first_refusal (transfer_violations (view_of k s st) b payload l) ≡ None
-    → IsPlan {E = Violation} (view_of k s st) (transfer_answer (view_of k s st) b payload) (next_transfer (view_of k s st) b payload)
-    (quiet_plan (record s { windows = windows_received s.windows; expected = one_past (id_used (event.PassesOver b.delivery_id) s.expected) s.expected }) fate.Stay Stay Nothing)
-passed-plan k s st b payload l i takes first left free =
-    heard-plan k s _ st b payload l (event.PassesOver b.delivery_id) fate.Stay Stay Nothing takes first.found free (left-event b l left)
+pub passed-plan : (k : ℕ) (s : Session) (st : StoresView) (b : TransferBody) (payload : List ℕ) (l : LinkView) → IsKept k s st → IsHeard (view_of k s st) b payload l → l.left ≡ true
+    → PlansTransfer (view_of k s st) b payload (passed_plan (view_of k s st) (one_past (id_used (event.PassesOver b.delivery_id) s.expected) s.expected))
+passed-plan k s st b payload l i h left =
+    heard-plan k s _ st b payload l (event.PassesOver b.delivery_id) fate.Stay Stay Nothing h (left-event b l left)
     (none-ended (event.PassesOver b.delivery_id) (view_of k s st) st.tables.received (quiet-passed b.delivery_id st.tables.received) (rw (append-nil st.tables.received) at (in-self st.tables.received [])))
     (left-given b l left)
     (rw (
-      first.alone (heard_on b payload),
-      change-alike (has_number l.number) (heard_on b payload) (λ x. x) st.links.list l first.numbered (left-heard b payload l left),
+      h.found.alone (heard_on b payload),
+      change-alike (has_number l.number) (heard_on b payload) (λ x. x) st.links.list l h.found.numbered (left-heard b payload l left),
       stays-first (has_number l.number) st.links.list,
       quiet-passed b.delivery_id st.tables.received,
     ) refl)
     (record { fit = tt; short = tt; counted = moved-on k s st _ Stay i (expected-passed b.delivery_id s.expected) tt; alone = tt })
 
-pub free-at : (v w : View) (b : TransferBody) (payload : List ℕ) (l : LinkView) → v ≡ w → first_refusal (transfer_violations w b payload l) ≡ None → first_refusal (transfer_violations v b payload l) ≡ None
-free-at v w b payload l e h = rw e h
-
 -- # The first transfer of a delivery
 
 pub record IsFirstFree (v : View) (b : TransferBody) (l : LinkView) : Type 0 where
-  pub receiver : same_role Receiver l.role ≡ true
   pub credit : 0 < l.credit.credit
   pub named : is_nameless b ≡ false
   pub due : is_unexpected v.expected b ≡ false
   pub fresh : tag_is_taken v l.number b ≡ false
 
-and-right : (a b : Bool) → (a && b) ≡ true → b ≡ true
-and-right true b h = h
-and-right false b h = absurd (cc)
-
 credit-there : (a : Bool) (n : ℕ) → a ≡ true → (a && n == 0) ≡ false → 0 < n
-credit-there true n e h = window-open n h
+credit-there true n e h = let d = eqb-false n 0 h in omega (arith, d)
 credit-there false n e h = absurd (cc)
 
 names-of : (v : View) (b : TransferBody) (l : LinkView) (o : Option Delivery) → o ≡ None → first_refusal (name_violations v b l o) ≡ None → first_refusal (first_rows v b l.number) ≡ None
@@ -229,8 +198,7 @@ none-there o e = rw e refl
 
 pub first-free : (v : View) (b : TransferBody) (payload : List ℕ) (l : LinkView) → first_refusal (transfer_violations v b payload l) ≡ None → l.left ≡ false → l.receiving ≡ None → IsFirstFree v b l
 first-free v b payload l free left none =
-    let f = free-of v b payload l free in
-    let rest : first_refusal (delivery_violations v b payload l) ≡ None = rw left at f.rest in
+    let rest : first_refusal (delivery_violations v b payload l) ≡ None = rw left at (rest-free v b payload l free) in
     let both = free-both (name_violations v b l l.receiving) (delivery_rows b payload l) rest in
     let names = names-of v b l l.receiving none both.0 in
     let a = row-free (is_nameless b) (unlinked MissingField) ((is_unexpected v.expected b, unlinked IdOrder) ∷ (tag_is_taken v l.number b, unlinked TagHeld) ∷ []) names in
@@ -239,12 +207,15 @@ first-free v b payload l free left none =
     let m = row-free (breaks_mode l b) (unlinked Mode) ((is_none l.receiving && l.credit.credit == 0, of_link l.number Credit) ∷ (breaks_size l (transferred (rcv_mode l) b payload), of_link l.number TooLong) ∷ []) both.1 in
     let c = row-free (is_none l.receiving && l.credit.credit == 0) (of_link l.number Credit) ((breaks_size l (transferred (rcv_mode l) b payload), of_link l.number TooLong) ∷ []) m.1 in
     record {
-      receiver = and-right (is_some l.ours) (not (is_sender l.role)) f.receives;
       credit = credit-there (is_none l.receiving) l.credit.credit (none-there l.receiving none) c.0;
       named = a.0;
       due = d.0;
       fresh = t.0;
     }
+
+not-true : (b : Bool) → not b ≡ false → b ≡ true
+not-true true h = refl
+not-true false h = absurd (cc)
 
 -- the id is the one that is due
 id-due : (n given : ℕ) → not (given == n) ≡ false → given ≡ n
@@ -273,53 +244,51 @@ given-of k d false false e = rw e refl
 first-given : (b : TransferBody) (l : LinkView) → l.left ≡ false → l.receiving ≡ None → transfer_given b l ≡ given_heard l.number (unwrap_or b.delivery_id 0) b
 first-given b l h e = rw (h, e) (given-of l.number (first_of (transferred (rcv_mode l) b [])) (unwrap_or b.aborted false) (unwrap_or b.more false) refl)
 
+heard-so : (b : TransferBody) (payload : List ℕ) (l : LinkView) (m : Marks) → l.left ≡ false → with_marks m l ≡ record l { credit = credit_used l.receiving l.credit }
+    → heard_on b payload l ≡ with_heard m (transferred (rcv_mode l) b payload) l
+heard-so b payload l m h q = by l.left h ∙ sym (ap (λ x. with_piece (transferred (rcv_mode l) b payload) x) q)
+  where
+    by : (x : Bool) → x ≡ false
+        → cond x l (received_on b payload l) ≡ with_piece (transferred (rcv_mode l) b payload) (record l { credit = credit_used l.receiving l.credit })
+    by true e = absurd (cc)
+    by false e = refl
+
 first-heard : (b : TransferBody) (payload : List ℕ) (l : LinkView) (m : Marks) → l.left ≡ false → l.receiving ≡ None → with_marks m l ≡ record l { credit = delivery_begun l.credit }
     → heard_on b payload l ≡ with_heard m (transferred (rcv_mode l) b payload) l
-first-heard b payload l m h e q =
-    let t = transferred (rcv_mode l) b payload in
-    let r : with_heard m t l ≡ with_piece t (record l { credit = delivery_begun l.credit }) = ap (λ x. with_piece t x) q in
-    by l.left l.receiving h e ∙ sym r
-  where
-    by : (x : Bool) (o : Option Delivery) → x ≡ false → o ≡ None
-        → cond x l (record l { credit = credit_used o l.credit; receiving = next_unfinished (transferred (rcv_mode l) b payload) l.receiving; ready = l.ready ++ completed (next_delivery (transferred (rcv_mode l) b payload) l.receiving) })
-        ≡ with_piece (transferred (rcv_mode l) b payload) (record l { credit = delivery_begun l.credit })
-    by true o x y = absurd (cc)
-    by false (Some d) x y = absurd (cc)
-    by false None x y = refl
+first-heard b payload l m h e q = heard-so b payload l m h (q ∙ ap (λ (o : Option Delivery). record l { credit = credit_used o l.credit }) (sym e))
 
 pub first-plan : (k key : ℕ) (s : Session) (st : StoresView) (b : TransferBody) (payload : List ℕ) (l : LinkView) (m : Marks) (over : Bool) → IsKept k s st
-    → takes_frames (flags_of s) ≡ true → IsFirst (has_peer_handle b.handle) st.links.list l → l.left ≡ false → l.receiving ≡ None → first_refusal (transfer_violations (view_of k s st) b payload l) ≡ None
-    → over ≡ (unwrap_or b.settled false || unwrap_or b.aborted false)
+    → IsHeard (view_of k s st) b payload l → l.left ≡ false → l.receiving ≡ None → over ≡ (unwrap_or b.settled false || unwrap_or b.aborted false)
     → with_marks m l ≡ record l { credit = delivery_begun l.credit } → m.sending ≡ l.sending
-    → IsPlan {E = Violation} (view_of k s st) (transfer_answer (view_of k s st) b payload) (next_transfer (view_of k s st) b payload)
+    → PlansTransfer (view_of k s st) b payload
     (quiet_plan (record s { windows = windows_received s.windows; expected = Some (wire (unwrap_or b.delivery_id 0 + 1)) })
     (fate.Heard key l.number m (transferred (rcv_mode l) b payload))
     (change_heard over (item_of l.number (transferred (rcv_mode l) b []) b.state))
     (given_heard l.number (unwrap_or b.delivery_id 0) b))
-first-plan k key s st b payload l m true i takes first left none free is marks sending =
-    let f = first-free (view_of k s st) b payload l free left none in
+first-plan k key s st b payload l m true i h left none is marks sending =
+    let f = first-free (view_of k s st) b payload l h.free left none in
     let d = due-id s.expected b.delivery_id b refl (or-left (is_none b.delivery_id) (is_none b.delivery_tag) f.named) f.due in
     let item = item_of l.number (transferred (rcv_mode l) b []) b.state in
-    heard-plan k s _ st b payload l (event.Begins item false) _ _ _ takes first.found free
+    heard-plan k s _ st b payload l (event.Begins item false) _ _ _ h
     (first-event b l left none ∙ ap (λ y. event.Begins item (not y)) (sym is))
     (none-ended (event.Begins item false) (view_of k s st) st.tables.received (quiet-settled item st.tables.received) (rw (append-nil st.tables.received) at (in-self st.tables.received [])))
     (first-given b l left none)
     (rw (
-      first.alone (heard_on b payload),
-      change-alike (has_number l.number) (heard_on b payload) (with_heard m (transferred (rcv_mode l) b payload)) st.links.list l first.numbered (first-heard b payload l m left none marks),
+      h.found.alone (heard_on b payload),
+      change-alike (has_number l.number) (heard_on b payload) (with_heard m (transferred (rcv_mode l) b payload)) st.links.list l h.found.numbered (first-heard b payload l m left none marks),
       quiet-settled item st.tables.received,
     ) refl)
-    (record { fit = tt; short = rw sending (shorter k _ (short-found k (has_peer_handle b.handle) st.links.list l i.short first.found)); counted = moved-on k s st _ Stay i d.1 tt; alone = tt })
-first-plan k key s st b payload l m false i takes first left none free is marks sending =
-    let f = first-free (view_of k s st) b payload l free left none in
+    (record { fit = tt; short = rw sending (shorter k _ (short-found k (has_peer_handle b.handle) st.links.list l i.short h.found.found)); counted = moved-on k s st _ Stay i d.1 tt; alone = tt })
+first-plan k key s st b payload l m false i h left none is marks sending =
+    let f = first-free (view_of k s st) b payload l h.free left none in
     let d = due-id s.expected b.delivery_id b refl (or-left (is_none b.delivery_id) (is_none b.delivery_tag) f.named) f.due in
     let item = item_of l.number (transferred (rcv_mode l) b []) b.state in
-    heard-plan k s _ st b payload l (event.Begins item true) _ _ _ takes first.found free
+    heard-plan k s _ st b payload l (event.Begins item true) _ _ _ h
     (first-event b l left none ∙ ap (λ y. event.Begins item (not y)) (sym is))
     (none-ended (event.Begins item true) (view_of k s st) (st.tables.received ++ item ∷ []) (one-more item st.tables.received) (in-self st.tables.received (item ∷ [])))
     (first-given b l left none)
-    (rw (first.alone (heard_on b payload), change-alike (has_number l.number) (heard_on b payload) (with_heard m (transferred (rcv_mode l) b payload)) st.links.list l first.numbered (first-heard b payload l m left none marks)) refl)
-    (record { fit = tt; short = rw sending (shorter k _ (short-found k (has_peer_handle b.handle) st.links.list l i.short first.found)); counted = moved-on k s st _ (Begins Receiver item) i d.1 (d.0, refl, f.fresh); alone = tt })
+    (rw (h.found.alone (heard_on b payload), change-alike (has_number l.number) (heard_on b payload) (with_heard m (transferred (rcv_mode l) b payload)) st.links.list l h.found.numbered (first-heard b payload l m left none marks)) refl)
+    (record { fit = tt; short = rw sending (shorter k _ (short-found k (has_peer_handle b.handle) st.links.list l i.short h.found.found)); counted = moved-on k s st _ (Begins Receiver item) i d.1 (d.0, refl, f.fresh); alone = tt })
 
 -- # A further transfer of the unfinished delivery
 
@@ -332,45 +301,28 @@ later-given b l d h e = rw (h, e) (given-of l.number (and_more (transferred (rcv
 
 later-heard : (b : TransferBody) (payload : List ℕ) (l : LinkView) (d : Delivery) (m : Marks) → l.left ≡ false → l.receiving ≡ Some d → with_marks m l ≡ l
     → heard_on b payload l ≡ with_heard m (transferred (rcv_mode l) b payload) l
-later-heard b payload l d m h e q =
-    let t = transferred (rcv_mode l) b payload in
-    let r : with_heard m t l ≡ with_piece t l = ap (λ x. with_piece t x) q in
-    by l.left l.receiving h e ∙ sym r
-  where
-    by : (x : Bool) (o : Option Delivery) → x ≡ false → o ≡ Some d
-        → cond x l (record l { credit = credit_used o l.credit; receiving = next_unfinished (transferred (rcv_mode l) b payload) l.receiving; ready = l.ready ++ completed (next_delivery (transferred (rcv_mode l) b payload) l.receiving) })
-        ≡ with_piece (transferred (rcv_mode l) b payload) l
-    by true o x y = absurd (cc)
-    by false None x y = absurd (cc)
-    by false (Some c) x y = refl
+later-heard b payload l d m h e q = heard-so b payload l m h (q ∙ ap (λ (o : Option Delivery). record l { credit = credit_used o l.credit }) (sym e))
 
 pub marks-same : (l : LinkView) (m : Marks) → IsMarksOf l m → with_marks m l ≡ l
 marks-same l m i = rw (i.role, i.credit, i.left, i.available, i.sending) refl
 
 pub later-plan : (k key id : ℕ) (s : Session) (st : StoresView) (b : TransferBody) (payload : List ℕ) (l : LinkView) (d : Delivery) (m : Marks) (over : Bool) → IsKept k s st
-    → takes_frames (flags_of s) ≡ true → IsFirst (has_peer_handle b.handle) st.links.list l → l.left ≡ false → l.receiving ≡ Some d → id ≡ d.id → first_refusal (transfer_violations (view_of k s st) b payload l) ≡ None
-    → over ≡ (unwrap_or b.settled false || unwrap_or b.aborted false) → IsMarksOf l m
-    → IsPlan {E = Violation} (view_of k s st) (transfer_answer (view_of k s st) b payload) (next_transfer (view_of k s st) b payload)
+    → IsHeard (view_of k s st) b payload l → l.left ≡ false → l.receiving ≡ Some d → id ≡ d.id → over ≡ (unwrap_or b.settled false || unwrap_or b.aborted false) → IsMarksOf l m
+    → PlansTransfer (view_of k s st) b payload
     (quiet_plan (record s { windows = windows_received s.windows; expected = s.expected })
     (fate.Heard key l.number m (transferred (rcv_mode l) b payload))
     (Continues Receiver id b.state over)
     (given_heard l.number id b))
-later-plan k key id s st b payload l d m over i takes first left some same free is marks =
-    heard-plan k s _ st b payload l (event.Continues id b.state over) _ _ _ takes first.found free
+later-plan k key id s st b payload l d m over i h left some same is marks =
+    heard-plan k s _ st b payload l (event.Continues id b.state over) _ _ _ h
     (rw (same, is) (later-event b l d left some))
     refl
     (rw same (later-given b l d left some))
-    (rw (first.alone (heard_on b payload), change-alike (has_number l.number) (heard_on b payload) (with_heard m (transferred (rcv_mode l) b payload)) st.links.list l first.numbered (later-heard b payload l d m left some (marks-same l m marks))) refl)
-    (record { fit = tt; short = rw marks.sending (shorter k _ (short-found k (has_peer_handle b.handle) st.links.list l i.short first.found)); counted = moved-on k s st s.expected (Continues Receiver id b.state over) i (expects-same s.expected) tt; alone = tt })
+    (rw (h.found.alone (heard_on b payload), change-alike (has_number l.number) (heard_on b payload) (with_heard m (transferred (rcv_mode l) b payload)) st.links.list l h.found.numbered (later-heard b payload l d m left some (marks-same l m marks))) refl)
+    (record { fit = tt; short = rw marks.sending (shorter k _ (short-found k (has_peer_handle b.handle) st.links.list l i.short h.found.found)); counted = moved-on k s st s.expected (Continues Receiver id b.state over) i (expects-same s.expected) tt; alone = tt })
 
--- # A first transfer that leaves its delivery unsettled
+-- # A first transfer that leaves its delivery unsettled begins it
 
-pub begun-so : (v : View) (b : TransferBody) (payload : List ℕ) (a : Arriving) → a.first ≡ true → (unwrap_or b.settled false || unwrap_or b.aborted false) ≡ false → arriving_plan v b payload a ≡ begun_plan v b payload a
-begun-so v b payload a first over =
-    let g : ◌≡◌ {A = Change} (change_by a.first a.number a.mode a.id b) (Begins Receiver (item_of a.number (transferred a.mode b []) b.state)) = by a.first (unwrap_or b.settled false || unwrap_or b.aborted false) first over in
-    ap (λ (c : Change). quiet_plan (heard_session (session_in v) a.expected) (fate.Heard a.key a.number a.marks (transferred a.mode b payload)) c (given_heard a.number a.id b)) g
-  where
-    by : (x o : Bool) → x ≡ true → o ≡ false → cond x (change_heard o (item_of a.number (transferred a.mode b []) b.state)) (Continues Receiver a.id b.state o) ≡ Begins Receiver (item_of a.number (transferred a.mode b []) b.state)
-    by true false e f = refl
-    by true true e f = absurd (cc)
-    by false o e f = absurd (cc)
+pub begun-so : (b : TransferBody) (a : Arriving) → a.first ≡ true → (unwrap_or b.settled false || unwrap_or b.aborted false) ≡ false
+    → ◌≡◌ {A = Change} (change_arriving b a) (Begins Receiver (item_of a.number (transferred a.mode b []) b.state))
+begun-so b a first over = rw (first, over) refl

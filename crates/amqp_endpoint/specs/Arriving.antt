@@ -1,22 +1,37 @@
 -- The plans of a transfer that is heard, by how it comes.
-use Rattle.std.specs.Prelude.{ℕ, Bool, cond, false, ◌||◌, unwrap_or, List, [], Option}
+use Rattle.std.specs.Prelude.{ℕ, ◌≡◌, ◌<◌, ◌^◌, Bool, true, false, cond, ◌||◌, unwrap_or, List, [], Option, None}
 use Rattle.amqp_performatives.specs.declared.bodies.Role.TheVariants.{Receiver}
 use Rattle.amqp_performatives.specs.declared.bodies.TransferBody.{TransferBody}
 use Rattle.amqp_rules.specs.Deliveries.{item_of, transferred}
 use Rattle.amqp_flow.specs.Windows.{windows_received}
 use Rattle.amqp_rules.specs.declared.reply.Given.TheVariants.{Nothing}
-use Rattle.amqp_rules.specs.View.{View}
+use Rattle.amqp_rules.specs.declared.violation.Violation.{Violation}
+use Rattle.amqp_rules.specs.PeerTransfer.{next_transfer, transfer_answer, transfer_violations}
+use Rattle.amqp_rules.specs.Refusing.{first_refusal}
+use Rattle.amqp_rules.specs.View.{View, LinkView, has_peer_handle, takes_frames}
 use Rattle.amqp_links.specs.declared.fate.Fate.TheVariants as fate
+use Rattle.amqp_links.specs.Links.{IsFirst}
 use Rattle.amqp_deliveries.specs.declared.change.Change.{Change}
-use Rattle.amqp_deliveries.specs.declared.change.Change.TheVariants.{Stay, Begins, Continues}
-use Rattle.amqp_endpoint.specs.declared.endpoint.peer_transfer.Arriving.{Arriving}
-use Rattle.amqp_endpoint.specs.declared.endpoint.peer_transfer.Arrival.{Arrival}
-use Rattle.amqp_endpoint.specs.declared.endpoint.peer_transfer.Arrival.TheVariants.{Passed, Comes}
+use Rattle.amqp_deliveries.specs.declared.change.Change.TheVariants.{Stay, Continues}
+use Rattle.amqp_endpoint.specs.declared.done.Done.{Done}
+use Rattle.amqp_endpoint.specs.declared.endpoint.arriving.Arriving.{Arriving}
+use Rattle.amqp_endpoint.specs.declared.endpoint.arriving.Arrival.{Arrival}
+use Rattle.amqp_endpoint.specs.declared.endpoint.arriving.Arrival.TheVariants.{Passed, Comes}
 use Rattle.amqp_endpoint.specs.declared.plan.Session.{Session}
 use Rattle.amqp_endpoint.specs.declared.plan.Plan.{Plan}
 use Rattle.amqp_endpoint.specs.Doing.{session_in}
-use Rattle.amqp_endpoint.specs.Plan.{quiet_plan}
+use Rattle.amqp_endpoint.specs.Plan.{IsPlan, IsSound, plan_reply, planned, quiet_plan}
 use Rattle.amqp_endpoint.specs.Transferring.{change_heard, given_heard}
+
+-- frames are taken, and a transfer on this link violates nothing
+pub record IsHeard (v : View) (b : TransferBody) (payload : List ℕ) (l : LinkView) : Type 0 where
+  pub takes : takes_frames v.session ≡ true
+  pub found : IsFirst (has_peer_handle b.handle) v.links l
+  pub free : first_refusal (transfer_violations v b payload l) ≡ None
+
+-- the plan of the transfer
+abbrev pub PlansTransfer : View → TransferBody → List ℕ → Plan → Type 0
+PlansTransfer v b payload p = IsPlan {E = Violation} v (transfer_answer v b payload) (next_transfer v b payload) p
 
 -- the session once a transfer was heard
 abbrev pub heard_session : Session → Option ℕ → Session
@@ -32,19 +47,25 @@ change_by first number mode id b =
 abbrev pub change_arriving : TransferBody → Arriving → Change
 change_arriving b a = change_by a.first a.number a.mode a.id b
 
-abbrev pub arrived_plan : Session → TransferBody → List ℕ → Arrival → Plan
-arrived_plan s b payload (Passed expected) = quiet_plan (heard_session s expected) fate.Stay Stay Nothing
-arrived_plan s b payload (Comes a) = quiet_plan (heard_session s a.expected) (fate.Heard a.key a.number a.marks (transferred a.mode b payload)) (change_arriving b a) (given_heard a.number a.id b)
-
-abbrev pub arrival_plan : View → TransferBody → List ℕ → Arrival → Plan
-arrival_plan v b payload a = arrived_plan (session_in v) b payload a
-
 abbrev pub passed_plan : View → Option ℕ → Plan
 passed_plan v expected = quiet_plan (heard_session (session_in v) expected) fate.Stay Stay Nothing
 
 abbrev pub arriving_plan : View → TransferBody → List ℕ → Arriving → Plan
 arriving_plan v b payload a = quiet_plan (heard_session (session_in v) a.expected) (fate.Heard a.key a.number a.marks (transferred a.mode b payload)) (change_arriving b a) (given_heard a.number a.id b)
 
--- the same where an unsettled delivery begins
-abbrev pub begun_plan : View → TransferBody → List ℕ → Arriving → Plan
-begun_plan v b payload a = quiet_plan (heard_session (session_in v) a.expected) (fate.Heard a.key a.number a.marks (transferred a.mode b payload)) (Begins Receiver (item_of a.number (transferred a.mode b []) b.state)) (given_heard a.number a.id b)
+abbrev pub arrival_plan : View → TransferBody → List ℕ → Arrival → Plan
+arrival_plan v b payload (Passed expected) = passed_plan v expected
+arrival_plan v b payload (Comes a) = arriving_plan v b payload a
+
+-- the transfer may come so
+pub record MayCome (v : View) (b : TransferBody) (payload : List ℕ) (a : Arriving) : Type 0 where
+  pub steps : v.steps < 2 ^ 30
+  pub window : 0 < v.windows.incoming
+  pub sound : IsSound v (arriving_plan v b payload a)
+
+-- the transfer has come, and gives this
+pub record HasCome (v new : View) (b : TransferBody) (payload : List ℕ) (a : Arriving) (d : Done) : Type 0 where
+  pub reply : d.reply ≡ plan_reply (arriving_plan v b payload a) v
+  pub octets : d.octets ≡ None
+  pub given : d.given ≡ d.reply.given
+  pub next : new ≡ planned v (arriving_plan v b payload a)

@@ -12,7 +12,6 @@ use Rattle.amqp_rules.specs.View.{View, LinkView, EndView, is_mapped, is_ours, i
 use Rattle.amqp_rules.specs.Attach.{own_attach, attach_sent, count_of, Wanted as Asked_for}
 use Rattle.amqp_rules.specs.Sending.{frame_refused}
 use Rattle.amqp_endpoint.specs.declared.endpoint.attach.Wanted.{Wanted}
-use Rattle.amqp_endpoint.specs.declared.endpoint.attach.Place.{Place}
 use Rattle.amqp_endpoint.specs.declared.endpoint.attach.Meeting.{Meeting}
 
 abbrev pub wanted_of : Wanted → Asked_for
@@ -29,24 +28,20 @@ wanted_of w =
     }
 
 -- an offered link has our attach, or one more is asked for
-abbrev pub attached_fate : List ℕ → Option Place → EndView → Marks → Fate
-attached_fate name (Some p) end m = Ours p.key p.number end m
-attached_fate name None end m = Asked name end m
-
--- the number of a link that is met, or of the next to be made
-abbrev pub number_at : ℕ → Option Place → ℕ
-number_at made (Some p) = p.number
-number_at made None = made
+abbrev pub attached_fate : List ℕ → Option ℕ → ℕ → EndView → Marks → Fate
+attached_fate name (Some key) n end m = Ours key n end m
+attached_fate name None n end m = Asked name end m
 
 -- the link with the delivery-count that our attach tells where we send
 abbrev pub counted_by : Asked_for → LinkView → LinkView
 counted_by a l = record l { credit = cond (is_sender l.role) (count_given (count_of (own_attach a 0)) l.credit) l.credit }
 
--- the first link that is offered is met and has these marks after it, or none is offered
-abbrev pub Meets : View → Asked_for → Option Place → Marks → Type 0
-Meets v a (Some p) m = (on : LinkView) × IsFirst (is_offered_as a.role a.name) v.links on × (p.number ≡ on.number) × (with_marks m on ≡ counted_by a on)
-Meets v a None m =
+-- the first link that is offered is met, or one more is made; it has this number, and these marks after the attach
+abbrev pub Meets : View → Asked_for → Option ℕ → ℕ → Marks → Type 0
+Meets v a (Some key) n m = (on : LinkView) × IsFirst (is_offered_as a.role a.name) v.links on × (n ≡ on.number) × (with_marks m on ≡ counted_by a on)
+Meets v a None n m =
     (find (is_offered_as a.role a.name) v.links ≡ None)
+    × (n ≡ v.made)
     × (role_of m.credit ≡ a.role)
     × ((k : ℕ) → with_marks m (new_link k a.role a.name) ≡ counted_by a (new_link k a.role a.name))
 
@@ -57,5 +52,4 @@ pub record IsMeeting (v : View) (a : Asked_for) (w : Meeting) : Type 0 where
   pub handle : w.handle ≡ free_handle v.links
   pub low : nat_lt v.handle_max (free_handle v.links) ≡ false
   pub written : frame_refused v.max_frame (Some (Attach (attach_sent v a))) [] ≡ None
-  pub number : w.number ≡ number_at v.made w.met
-  pub meets : Meets v a w.met w.marks
+  pub meets : Meets v a w.met w.number w.marks

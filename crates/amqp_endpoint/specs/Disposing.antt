@@ -1,4 +1,4 @@
--- What the unsettled deliveries refuse to a disposition of ours (part 2, 2.6.12 and 2.7.6).
+-- A disposition of ours, with its state lent, and what the unsettled deliveries refuse to it (part 2, 2.6.12 and 2.7.6).
 use Rattle.std.specs.Prelude.{Bool, ◌&&◌, List, [], ◌∷◌, filter}
 use Rattle.std.specs.List.{list_any}
 use Rattle.amqp_performatives.specs.declared.bodies.Role.{Role}
@@ -8,6 +8,7 @@ use Rattle.amqp_events.specs.States.{is_fixed}
 use Rattle.amqp_rules.specs.declared.refusal.Refusal.{Refusal}
 use Rattle.amqp_rules.specs.declared.refusal.Refusal.TheVariants.{NothingHeld, MustNotSettle, OutcomeFixed}
 use Rattle.amqp_rules.specs.Dispose.{is_empty, waits_for_sender}
+use Rattle.amqp_endpoint.specs.declared.endpoint.dispose.Said.{Said}
 
 -- the rows of the table that speak of deliveries
 abbrev pub held_refusals : Role → Disposition → List Item → List (Bool × Refusal)
@@ -16,3 +17,6 @@ held_refusals role d items =
     ∷ (d.settled && list_any (waits_for_sender role) (filter (covers d) items), MustNotSettle)
     ∷ (list_any (is_fixed d.state) (filter (covers d) items), OutcomeFixed)
     ∷ []
+
+abbrev pub said_in : Said → Disposition
+said_in s = record { first = s.first; last = s.last; settled = s.settled; state = s.state.now }

@@ -1,10 +1,10 @@
 -- Parts of what a heard flow leaves, as the private calls of the endpoint compute them.
-use Rattle.std.specs.Prelude.{◌≡◌, ◌&&◌, Bool, true, false, cond, Option, Some, None, []}
+use Rattle.std.specs.Prelude.{ℕ, ◌≡◌, ◌⊎◌, ◌&&◌, Bool, true, false, cond, Option, Some, None, []}
 use Rattle.amqp_performatives.specs.declared.bodies.FlowBody.{FlowBody}
 use Rattle.amqp_flow.specs.Windows.{WindowsView, session_is_ahead, windows_begun, windows_heard, windows_renewed}
 use Rattle.amqp_performatives.specs.declared.performative.Performative.TheVariants.{Flow}
 use Rattle.amqp_links.specs.declared.credit.Credit.{Credit}
-use Rattle.amqp_endpoint.specs.declared.endpoint.flow.Flowing.{Flowing}
+use Rattle.amqp_endpoint.specs.declared.endpoint.peer_flow.Flowing.{Flowing}
 use Rattle.amqp_endpoint.specs.declared.plan.Session.{Session}
 use Rattle.amqp_endpoint.specs.declared.plan.Plan.{Plan}
 use Rattle.amqp_deliveries.specs.declared.change.Change.TheVariants.{Stay}
@@ -13,6 +13,8 @@ use Rattle.amqp_rules.specs.declared.reply.Sent.{Sent}
 use Rattle.amqp_rules.specs.Sending.{sent_of}
 use Rattle.amqp_rules.specs.Flow.{session_part, asks_echo, count_ahead, credit_heard}
 use Rattle.amqp_links.specs.Credits.{role_of, credit_in}
+use Rattle.amqp_links.specs.Links.{IsFirst}
+use Rattle.amqp_rules.specs.View.{View, LinkView, has_peer_handle}
 
 -- the peer counts further than we have; before our begin there is no count of ours
 abbrev pub session_ahead : Bool → FlowBody → WindowsView → Bool
@@ -29,6 +31,18 @@ sends_echo begun b = asks_echo b && begun
 abbrev pub session_after : FlowBody → Session → Session
 session_after b s =
     record s { windows = cond (sends_echo s.begin_sent b) (windows_renewed (windows_told_by s.begin_sent b s.windows)) (windows_told_by s.begin_sent b s.windows) }
+
+-- the flow names a link that we have left
+pub record IsPassed (v : View) (b : FlowBody) : Type 0 where
+  pub handle : ℕ
+  pub on : LinkView
+  pub names : b.handle ≡ Some handle
+  pub called : IsFirst (has_peer_handle handle) v.links on
+  pub left : on.left ≡ true
+
+-- it names none, or such a one
+abbrev pub IsStill : View → FlowBody → Type 0
+IsStill v b = (b.handle ≡ None) ⊎ IsPassed v b
 
 -- the credit of a link, whose attach of ours was sent or not
 abbrev pub credit_ahead : Bool → FlowBody → Credit → Bool

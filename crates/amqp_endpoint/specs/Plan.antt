@@ -139,6 +139,11 @@ abbrev pub Plans : {E : Type 0} → E → View → Result Reply E → View → R
 Plans no_memory v answer after (Ok p) = IsPlan v answer after p
 Plans no_memory v answer after (Err e) = IsRefused no_memory answer e
 
+-- the same of a call that makes what the step needs
+abbrev pub Makes : {X E : Type 0} → E → View → Result Reply E → View → (X → Plan) → Result X E → Type 0
+Makes no_memory v answer after plan_of (Ok x) = IsPlan v answer after (plan_of x)
+Makes no_memory v answer after plan_of (Err e) = IsRefused no_memory answer e
+
 -- the check tells what the step needs that has this answer and leaves this view, or it refuses as the answer does
 abbrev pub Checks : {X E : Type 0} → View → Result Reply E → View → (X → Plan) → Result X E → Type 0
 Checks v answer after plan_of (Ok x) = IsPlan v answer after (plan_of x)

@@ -13,6 +13,7 @@ use Rattle.amqp_rules.specs.PeerDisposition.{told_more}
 use Rattle.amqp_deliveries.specs.declared.change.Change.{Change}
 use Rattle.amqp_deliveries.specs.declared.change.Change.TheVariants.{Stay, Begins, Continues, Says, Hears, Leaves, Over}
 use Rattle.amqp_deliveries.specs.Change.{TablesView, held_items, is_tagged_as, tables_after}
+use Rattle.amqp_deliveries.specs.Held.{GivesState}
 
 pub record StoresView : Type 0 where
   pub links : LinksView
@@ -46,3 +47,9 @@ IsApt f Over t = Unit {0}
 pub record IsMet (fate : Fate) (change : Change) (s : StoresView) : Type 0 where
   pub fit : IsFit fate s.links
   pub apt : IsApt fate change s.tables
+
+-- a disposition does where it gives a state to deliveries that stay, and one that is heard of ours where what it tells is kept too
+abbrev pub MayNeed : Change → TablesView → Type 0
+MayNeed (Says role d) t = GivesState d (held_items role t)
+MayNeed (Hears Receiver d) t = GivesState d (held_items Receiver t)
+MayNeed _ t = Unit {0}

@@ -3,7 +3,7 @@ ghost use Rattle.std.specs.Prelude.{◌≡◌, ◌+◌, ◌⊎◌, [], Some, Non
 ghost use Rattle.amqp_flow.specs.Serial.{wire};
 ghost use Rattle.amqp_endpoint.specs.Plan.{flags_of, quiet_plan, sending_plan};
 ghost use Rattle.amqp_rules.specs.Refusing.{no_memory};
-ghost use Rattle.amqp_rules.specs.Sending.{frame_refused};
+ghost use Rattle.amqp_endpoint.specs.Written.{Writes};
 ghost use Rattle.amqp_rules.specs.View.{awaits_begin, is_ending, is_mapped, may_begin, takes_frames};
 
 use crate::refusal::Refusal;
@@ -58,7 +58,7 @@ pub(crate) fn plan_sending(
     body: Option<Performative>,
     given: Given,
 ) -> Result<Plan, Refusal>
-    ensures { MatchResult result (λ p. (frame_refused session.max_frame body [] ≡ None) × (p ≡ sending_plan session fate change body [] given)) (λ e. (frame_refused session.max_frame body [] ≡ Some e) ⊎ ((frame_refused session.max_frame body [] ≡ None) × (e ≡ Refusal.NoMemory))) }
+    ensures { Writes session.max_frame body [] (sending_plan session fate change body [] given) result }
 {
     match write(alloc, body, Bytes::new(), session.max_frame) {
         Ok(sent) => Ok(Plan {

@@ -1,6 +1,7 @@
 //! Frames as they are sent: all on channel 0, each with its octets.
 ghost use Rattle.std.specs.Prelude.{ℕ, Option, ◌≡◌, ◌<◌, vec_capacity, vec_len, ◌⊎◌, ◌∷◌, Some, None, IfOk, MatchResult, [], option_map, option_to_list};
 ghost use Rattle.amqp_endpoint.specs.Plan.{octets_sent};
+ghost use Rattle.amqp_endpoint.specs.Written.{Writes};
 ghost use Rattle.amqp_frames.specs.Measuring.{Measures};
 ghost use Rattle.amqp_rules.specs.Sending.{told, frame_of, frame_refused, sent_of};
 
@@ -35,32 +36,29 @@ impl Model for Written {
     ghost invariant = { λ w. IsAlone w.list w.octets };
 }
 
-/// A place for one frame, and its octets with a handle more.
-fn make_place(alloc: Global, octets: Vec<u8>) -> Result<(Vec<Sent>, Bytes, Bytes), AllocError>
+/// A place for one frame, and one handle more of its octets.
+fn make_place(alloc: Global, bytes: &Bytes) -> Result<(Vec<Sent>, Bytes), AllocError>
     ensures empty { IfOk result (λ t. t.0.items ≡ []) }
     ensures room { IfOk result (λ t. vec_len t.0 < vec_capacity t.0) }
-    ensures octets { IfOk result (λ t. t.1 ≡ octets.items) }
-    ensures handle { IfOk result (λ t. t.2 ≡ octets.items) }
+    ensures handle { IfOk result (λ t. t.1 ≡ bytes.now) }
 {
     let items = Vec::with_capacity(alloc, 1)?;
-    let Ok(bytes) = Bytes::from_vec(octets) else {
-        return Err(AllocError);
-    };
     let handle = bytes.clone()?;
-    Ok((items, bytes, handle))
+    Ok((items, handle))
 }
 
 /// The frame with its octets moves to where it stays.
-fn keep_frame(alloc: Global, frame: Frame, octets: Vec<u8>) -> Result<Written, AllocError>
-    ensures { IfOk result (λ w. w ≡ record { frame = frame; bytes = octets.items }) }
+fn keep_frame(alloc: Global, frame: Frame, bytes: Bytes) -> Result<Written, AllocError>
+    ensures { IfOk result (λ w. w ≡ record { frame = frame; bytes = bytes }) }
 {
-    match make_place(alloc, octets) {
-        Ok((mut items, bytes, octets)) => {
+    match make_place(alloc, &bytes) {
+        Ok((mut items, octets)) => {
             items.push_reserved(Sent { frame, bytes });
             let list = Items { items };
             Ok(Written { list, octets })
         }
         Err(e) => {
+            drop(bytes);
             drop(frame);
             Err(e)
         }
@@ -103,7 +101,7 @@ pub(crate) fn write(
     payload: Bytes,
     max: u32,
 ) -> Result<Written, Refusal>
-    ensures { MatchResult result (λ s. (frame_refused max body payload ≡ None) × (s ≡ sent_of body payload)) (λ e. (frame_refused max body payload ≡ Some e) ⊎ ((frame_refused max body payload ≡ None) × (e ≡ Refusal.NoMemory))) }
+    ensures { Writes max body payload (sent_of body payload) result }
 {
     let frame = Frame {
         channel: 0,
@@ -112,10 +110,16 @@ pub(crate) fn write(
     };
     let mut octets = Vec::new(alloc);
     match append_frame(&frame, max, &mut octets) {
-        Ok(()) => match keep_frame(alloc, frame, octets) {
-            Ok(written) => Ok(written),
-            Err(_) => Err(Refusal::NoMemory),
-        },
+        Ok(()) => {
+            let Ok(bytes) = Bytes::from_vec(octets) else {
+                drop(frame);
+                return Err(Refusal::NoMemory);
+            };
+            match keep_frame(alloc, frame, bytes) {
+                Ok(written) => Ok(written),
+                Err(_) => Err(Refusal::NoMemory),
+            }
+        }
         Err(fault) => {
             drop(frame);
             Err(Refusal::from(fault))
@@ -126,36 +130,6 @@ pub(crate) fn write(
 /// A frame whose payload has more octets than these has a block of its own.
 const SHORT: usize = 512;
 
-/// The frame moves to where it stays, with the cutter's draft as its octets.
-fn keep_cut(alloc: Global, cutter: &mut Cutter, frame: Frame) -> Result<Written, AllocError>
-    ensures { IfOk result (λ w. w ≡ record { frame = frame; bytes = cutter.old.draft.items }) }
-{
-    match cut_place(alloc, cutter) {
-        Ok((mut items, bytes, octets)) => {
-            items.push_reserved(Sent { frame, bytes });
-            let list = Items { items };
-            Ok(Written { list, octets })
-        }
-        Err(e) => {
-            drop(frame);
-            Err(e)
-        }
-    }
-}
-
-/// A place for one frame, and the octets of the cutter's draft with a handle more.
-fn cut_place(alloc: Global, cutter: &mut Cutter) -> Result<(Vec<Sent>, Bytes, Bytes), AllocError>
-    ensures empty { IfOk result (λ t. t.0.items ≡ []) }
-    ensures room { IfOk result (λ t. vec_len t.0 < vec_capacity t.0) }
-    ensures octets { IfOk result (λ t. t.1 ≡ cutter.old.draft.items) }
-    ensures handle { IfOk result (λ t. t.2 ≡ cutter.old.draft.items) }
-{
-    let items = Vec::with_capacity(alloc, 1)?;
-    let bytes = cutter.cut()?;
-    let handle = bytes.clone()?;
-    Ok((items, bytes, handle))
-}
-
 /// As `write`, with the octets of a short frame out of the cutter's block.
 fn write_cut(
     alloc: Global,
@@ -164,7 +138,7 @@ fn write_cut(
     payload: Bytes,
     max: u32,
 ) -> Result<Written, Refusal>
-    ensures { MatchResult result (λ s. (frame_refused max body payload ≡ None) × (s ≡ sent_of body payload)) (λ e. (frame_refused max body payload ≡ Some e) ⊎ ((frame_refused max body payload ≡ None) × (e ≡ Refusal.NoMemory))) }
+    ensures { Writes max body payload (sent_of body payload) result }
 {
     let frame = Frame {
         channel: 0,
@@ -173,10 +147,16 @@ fn write_cut(
     };
     cutter.draft.clear();
     match append_frame(&frame, max, &mut cutter.draft) {
-        Ok(()) => match keep_cut(alloc, cutter, frame) {
-            Ok(written) => Ok(written),
-            Err(_) => Err(Refusal::NoMemory),
-        },
+        Ok(()) => {
+            let Ok(bytes) = cutter.cut() else {
+                drop(frame);
+                return Err(Refusal::NoMemory);
+            };
+            match keep_frame(alloc, frame, bytes) {
+                Ok(written) => Ok(written),
+                Err(_) => Err(Refusal::NoMemory),
+            }
+        }
         Err(fault) => {
             drop(frame);
             Err(Refusal::from(fault))
@@ -192,7 +172,7 @@ pub(crate) fn cut_sharing(
     payload: &Bytes,
     max: u32,
 ) -> Result<Written, Refusal>
-    ensures { MatchResult result (λ s. (frame_refused max body payload.now ≡ None) × (s ≡ sent_of body payload.now)) (λ e. (frame_refused max body payload.now ≡ Some e) ⊎ ((frame_refused max body payload.now ≡ None) × (e ≡ Refusal.NoMemory))) }
+    ensures { Writes max body payload.now (sent_of body payload.now) result }
 {
     if SHORT < payload.len() {
         return write_sharing(alloc, body, payload, max);
@@ -210,7 +190,7 @@ pub(crate) fn write_sharing(
     payload: &Bytes,
     max: u32,
 ) -> Result<Written, Refusal>
-    ensures { MatchResult result (λ s. (frame_refused max body payload.now ≡ None) × (s ≡ sent_of body payload.now)) (λ e. (frame_refused max body payload.now ≡ Some e) ⊎ ((frame_refused max body payload.now ≡ None) × (e ≡ Refusal.NoMemory))) }
+    ensures { Writes max body payload.now (sent_of body payload.now) result }
 {
     if let Ok(handle) = payload.clone() {
         return write(alloc, body, handle, max);

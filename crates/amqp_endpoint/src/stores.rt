@@ -1,8 +1,7 @@
 //! The links and the unsettled deliveries, and what a step makes of both.
 ghost use Rattle.std.specs.Prelude.{◌≡◌, ◌<◌, ◌^◌, [], OnOk, OnErr};
-ghost use Rattle.amqp_endpoint.specs.Needing.{MayNeed};
+ghost use Rattle.amqp_endpoint.specs.Stores.{IsMet, MayNeed, stores_after};
 ghost use Rattle.amqp_endpoint.specs.Starting.{change_begun};
-ghost use Rattle.amqp_endpoint.specs.Stores.{IsMet, stores_after};
 
 use amqp_deliveries::{Change, Disposition, HeldItem, Tables};
 use amqp_links::arrival::Piece;
@@ -113,27 +112,6 @@ impl Stores {
         }
     }
 
-    /// An unsettled delivery of ours begins on the link, which has these marks.
-    fn hold(
-        &mut self,
-        key: usize,
-        number: u32,
-        marks: &Marks,
-        item: HeldItem,
-    ) -> Result<(), AllocError>
-        requires met { IsMet (Fate.Marked key number marks.now) (Change.Begins Role.Sender item) self.old }
-        ensures ok { OnOk result (self.new ≡ stores_after (Fate.Marked key number marks.now) (Change.Begins Role.Sender item) self.old) }
-        ensures err { OnErr result (self.new ≡ self.old) }
-    {
-        match self.tables.begin(Role::Sender, item) {
-            Ok(()) => {
-                self.links.mark(key, number, marks);
-                Ok(())
-            }
-            Err(e) => Err(e),
-        }
-    }
-
     /// A delivery of ours begins on the link, which has these marks. One that is sent settled is not held.
     pub(crate) fn start(
         &mut self,
@@ -147,13 +125,17 @@ impl Stores {
         ensures ok { OnOk result (self.new ≡ stores_after (Fate.Marked key number marks.now) (change_begun settled item) self.old) }
         ensures err { OnErr result (self.new ≡ self.old) }
     {
-        match settled {
-            true => {
-                drop(item);
+        if settled {
+            drop(item);
+            self.links.mark(key, number, marks);
+            return Ok(());
+        }
+        match self.tables.begin(Role::Sender, item) {
+            Ok(()) => {
                 self.links.mark(key, number, marks);
                 Ok(())
             }
-            false => self.hold(key, number, marks, item),
+            Err(e) => Err(e),
         }
     }
 

@@ -1,21 +1,17 @@
 //! Abort: the unfinished delivery is given up, and ended (part 2, 2.7.5).
-ghost use Rattle.std.specs.Prelude.{◌≡◌, ◌<◌, ◌^◌, Some, Err, IfOk, MatchResult};
-ghost use Rattle.std.specs.Result.{result_err};
-ghost use Rattle.amqp_rules.specs.Abort.{aborted, abort_answer, abort_refusals, next_abort};
-ghost use Rattle.amqp_endpoint.specs.Aborting.{IsAborted};
-ghost use Rattle.amqp_endpoint.specs.Plan.{Plans};
+ghost use Rattle.std.specs.Prelude.{◌≡◌, [], ◌<◌, ◌^◌, Err, IfOk, MatchResult};
+ghost use Rattle.amqp_rules.specs.Abort.{abort_answer, next_abort};
+ghost use Rattle.amqp_endpoint.specs.Taking.{IsAborted};
+ghost use Rattle.amqp_endpoint.specs.Drafting.{Drafts};
 
 use crate::endpoint::Endpoint;
 use crate::endpoint::carry::{later_body, sent};
+use crate::endpoint::drafting::Draft;
 use crate::endpoint::onlink::OnLink;
-use crate::plan::{Plan, plan_sending};
 use crate::refusal::Refusal;
-use crate::reply::Given;
-use crate::sending::sending_refusal;
 use amqp_deliveries::Change;
 use amqp_frames::Role;
 use amqp_links::credit::same_role;
-use amqp_links::fate::Fate;
 
 /// An unfinished delivery that is given up: its id, and its link as it will be.
 #[derive(Clone, Copy)]
@@ -61,38 +57,18 @@ impl Endpoint {
         })
     }
 
-    /// The refusal that is due.
-    pub(crate) fn refuse_abort(&self, link: u32) -> Option<Refusal>
-        ensures { result ≡ result_err (abort_answer self.now link) }
-    {
-        match self.check_abort(link) {
-            Err(refusal) => Some(refusal),
-            Ok(aborted) => {
-                let body = later_body(aborted.on.handle, None, Some(true));
-                sending_refusal(body, &[], self.session.max_frame)
-            }
-        }
-    }
-
     /// Gives the unfinished delivery up. O(log n) for n links, and for as many unsettled deliveries.
-    pub(crate) fn plan_abort(&self, link: u32) -> Result<Plan, Refusal>
+    pub(crate) fn draft_abort(&self, link: u32) -> Result<Draft, Refusal>
         requires { self.now.steps < 2 ^ 30 }
-        ensures { Plans Refusal.NoMemory self.now (abort_answer self.now link) (next_abort self.now link) result }
+        ensures { Drafts self.now (abort_answer self.now link) (next_abort self.now link) [] result }
     {
         let aborted = self.check_abort(link)?;
         let on = aborted.on;
-        let fate = Fate::Marked {
-            key: on.key,
-            number: link,
-            marks: on.marks,
-        };
-        plan_sending(
-            self.alloc,
-            sent(self.session),
-            fate,
-            Change::Continues(Role::Sender, aborted.id, None, true),
-            later_body(on.handle, None, Some(true)),
-            Given::Nothing,
-        )
+        Ok(Draft {
+            session: sent(self.session),
+            fate: on.fate(link),
+            change: Change::Continues(Role::Sender, aborted.id, None, true),
+            body: later_body(on.handle, None, Some(true)),
+        })
     }
 }

@@ -7,7 +7,7 @@ ghost use Rattle.amqp_performatives.specs.declared.performative.Performative.The
 ghost use Rattle.amqp_rules.specs.Attach.{attach_answer, next_attach, own_attach, size_told, end_of};
 ghost use Rattle.amqp_rules.specs.Sending.{frame_refused};
 ghost use Rattle.amqp_rules.specs.View.{is_sender};
-ghost use Rattle.amqp_endpoint.specs.Attaching.{IsMeeting, Meets, attached_fate, number_at, wanted_of};
+ghost use Rattle.amqp_endpoint.specs.Attaching.{IsMeeting, Meets, attached_fate, wanted_of};
 ghost use Rattle.amqp_endpoint.specs.Plan.{Plans};
 
 use crate::copying::copy_terminus;
@@ -39,17 +39,10 @@ pub(crate) struct Wanted<'a> {
     pub(crate) max_message: u64,
 }
 
-/// Where an offered link is.
-#[derive(Clone, Copy)]
-pub(crate) struct Place {
-    pub(crate) key: usize,
-    pub(crate) number: u32,
-}
-
-/// The link that is attached: an offered one, or one more; its number, our handle of it, and its marks after it.
+/// The link that is attached: where it is, if it was offered, or one more; its number, our handle of it, and its marks after it.
 #[derive(Clone, Copy)]
 pub(crate) struct Meeting {
-    pub(crate) met: Option<Place>,
+    pub(crate) met: Option<usize>,
     pub(crate) number: u32,
     pub(crate) handle: u32,
     pub(crate) marks: Marks,
@@ -147,12 +140,12 @@ fn our_end(wanted: &Wanted<'_>, handle: u32) -> End
 
 /// What becomes of the links. The name is copied for a link that we ask for.
 fn attached(name: &Text, meeting: &Meeting, end: End) -> Result<Fate, AllocError>
-    ensures { IfOk result (λ fate. fate ≡ attached_fate name.now meeting.now.met end meeting.now.marks) }
+    ensures { IfOk result (λ fate. fate ≡ attached_fate name.now meeting.now.met meeting.now.number end meeting.now.marks) }
 {
     match meeting.met {
-        Some(place) => Ok(Fate::Ours {
-            key: place.key,
-            number: place.number,
+        Some(key) => Ok(Fate::Ours {
+            key,
+            number: meeting.number,
             end,
             marks: meeting.marks,
         }),
@@ -168,20 +161,22 @@ fn attached(name: &Text, meeting: &Meeting, end: End) -> Result<Fate, AllocError
 }
 
 impl Endpoint {
-    /// The offered link that is met, if there is one, and the marks of the link after our attach.
-    fn met(&self, wanted: &Wanted<'_>) -> (Option<Place>, Marks)
-        ensures { Meets self.now (wanted_of wanted.now) result.0 result.1 }
+    /// The link that our attach meets, which calls it by this handle.
+    fn meet(&self, wanted: &Wanted<'_>, handle: u32) -> Meeting
+        ensures handle { result.handle ≡ handle }
+        ensures meets { Meets self.now (wanted_of wanted.now) result.met result.number result.marks }
     {
         let count = count_told(wanted.role, wanted.count).unwrap_or(0);
         match self.stores.links.offered_as(wanted.role, wanted.name) {
             Some(found) => {
                 let mut marks = found.link.marks();
                 marks.credit = credit_told(&marks.credit, count);
-                let place = Place {
-                    key: found.key,
+                Meeting {
+                    met: Some(found.key),
                     number: found.link.number(),
-                };
-                (Some(place), marks)
+                    handle,
+                    marks,
+                }
             }
             None => {
                 let none = Credit::none(wanted.role);
@@ -191,18 +186,13 @@ impl Endpoint {
                     available: 0,
                     sending: None,
                 };
-                (None, marks)
+                Meeting {
+                    met: None,
+                    number: self.stores.links.made(),
+                    handle,
+                    marks,
+                }
             }
-        }
-    }
-
-    /// The number of the link that is met, or of the next to be made.
-    fn number_met(&self, met: Option<Place>) -> u32
-        ensures { result ≡ number_at self.now.made met }
-    {
-        match met {
-            Some(place) => place.number,
-            None => self.stores.links.made(),
         }
     }
 
@@ -223,13 +213,7 @@ impl Endpoint {
         if let Some(refusal) = attach_refusal(wanted, handle, self.session.max_frame) {
             return Err(refusal);
         }
-        let (met, marks) = self.met(wanted);
-        Ok(Meeting {
-            met,
-            number: self.number_met(met),
-            handle,
-            marks,
-        })
+        Ok(self.meet(wanted, handle))
     }
 
     /// The refusal that is due.

@@ -1,24 +1,21 @@
 //! Carry: a further transfer of the unfinished delivery (part 2, 2.6.14 and 2.7.5).
 ghost use Rattle.std.specs.Prelude.{◌≡◌, ◌<◌, ◌+◌, ◌^◌, length, Err, IfOk, MatchResult};
 ghost use Rattle.amqp_flow.specs.Windows.{windows_sent};
-ghost use Rattle.std.specs.Result.{result_err};
 ghost use Rattle.amqp_rules.specs.Carry.{carry_answer, carry_on, carry_refusals, later_body, next_carry};
-ghost use Rattle.amqp_endpoint.specs.Plan.{IsShort, Plans};
+ghost use Rattle.amqp_endpoint.specs.Plan.{IsShort};
 ghost use Rattle.amqp_endpoint.specs.Taking.{IsTaken};
+ghost use Rattle.amqp_endpoint.specs.Drafting.{Drafts};
 
 use crate::endpoint::Endpoint;
+use crate::endpoint::drafting::Draft;
 use crate::endpoint::onlink::OnLink;
 use crate::endpoint::start::{is_too_long, sending_after};
 use crate::endpoint::telling::flag;
-use crate::plan::{Plan, Session};
+use crate::plan::Session;
 use crate::refusal::Refusal;
-use crate::reply::Given;
-use crate::sending::{sending_refusal, write_sharing};
 use amqp_deliveries::Change;
 use amqp_frames::{Performative, Role, TransferBody};
 use amqp_links::credit::same_role;
-use amqp_links::fate::Fate;
-use bytes::Bytes;
 
 /// A later transfer on the link with this handle.
 pub(crate) fn later_body(
@@ -93,41 +90,22 @@ impl Endpoint {
         })
     }
 
-    /// The refusal that is due.
-    pub(crate) fn refuse_carry(&self, link: u32, payload: &[u8], more: bool) -> Option<Refusal>
-        requires { self.now.steps < 2 ^ 30 }
-        ensures { result ≡ result_err (carry_answer self.now link payload.now more) }
-    {
-        match self.check_carry(link, payload, more) {
-            Err(refusal) => Some(refusal),
-            Ok(on) => {
-                let body = later_body(on.handle, flag(more), None);
-                sending_refusal(body, payload, self.session.max_frame)
-            }
-        }
-    }
-
     /// Sends more of the unfinished delivery. O(log n) for n links.
-    pub(crate) fn plan_carry(&self, link: u32, payload: &Bytes, more: bool) -> Result<Plan, Refusal>
+    pub(crate) fn draft_carry(
+        &self,
+        link: u32,
+        payload: &[u8],
+        more: bool,
+    ) -> Result<Draft, Refusal>
         requires { self.now.steps < 2 ^ 30 }
-        ensures { Plans Refusal.NoMemory self.now (carry_answer self.now link payload.now more) (next_carry self.now link payload.now more) result }
+        ensures { Drafts self.now (carry_answer self.now link payload.now more) (next_carry self.now link payload.now more) payload.now result }
     {
         let on = self.check_carry(link, payload, more)?;
-        let body = later_body(on.handle, flag(more), None);
-        let written = match write_sharing(self.alloc, body, payload, self.session.max_frame) {
-            Ok(written) => written,
-            Err(refusal) => return Err(refusal),
-        };
-        Ok(Plan {
+        Ok(Draft {
             session: sent(self.session),
-            fate: Fate::Marked {
-                key: on.key,
-                number: link,
-                marks: on.marks,
-            },
+            fate: on.fate(link),
             change: Change::Stay,
-            sent: Some(written),
-            given: Given::Nothing,
+            body: later_body(on.handle, flag(more), None),
         })
     }
 }

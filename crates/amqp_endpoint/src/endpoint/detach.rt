@@ -2,7 +2,7 @@
 ghost use Rattle.std.specs.Prelude.{◌≡◌, true, Some, None, Err, [], MatchResult};
 ghost use Rattle.amqp_rules.specs.Detach.{detach_answer, detach_body, next_detach};
 ghost use Rattle.amqp_rules.specs.Sending.{frame_refused};
-ghost use Rattle.amqp_endpoint.specs.Leaving.{IsLeft};
+ghost use Rattle.amqp_endpoint.specs.Taking.{IsLeft};
 ghost use Rattle.amqp_endpoint.specs.Plan.{Plans};
 
 use crate::copying::copy_error;

@@ -1,29 +1,23 @@
 //! Grant: the peer may begin so many deliveries, or is asked to use them up (part 2, 2.6.7).
-ghost use Rattle.std.specs.Prelude.{◌≡◌, Bool, Some, None, Err, MatchResult};
-ghost use Rattle.std.specs.Result.{result_err};
+ghost use Rattle.std.specs.Prelude.{◌≡◌, [], Bool, Some, None, Err, MatchResult};
 ghost use Rattle.amqp_flow.specs.Receiver.{granted};
 ghost use Rattle.amqp_rules.specs.Grant.{granted_on, grant_refusals, grant_answer, grant_flow, next_grant};
 ghost use Rattle.amqp_rules.specs.Refusing.{first_refusal};
 ghost use Rattle.amqp_rules.specs.View.{LinkView, handle_of};
 ghost use Rattle.amqp_links.specs.Marks.{with_marks};
-ghost use Rattle.amqp_endpoint.specs.Granting.{grant_rows};
-ghost use Rattle.amqp_endpoint.specs.Plan.{Plans};
-ghost use Rattle.amqp_endpoint.specs.Taking.{IsTaken};
+ghost use Rattle.amqp_endpoint.specs.Taking.{grant_rows, IsTaken};
+ghost use Rattle.amqp_endpoint.specs.Drafting.{Drafts};
 
 use crate::endpoint::Endpoint;
+use crate::endpoint::drafting::{Draft, draft_flow};
 use crate::endpoint::onlink::OnLink;
-use crate::endpoint::telling::{OUTGOING_WINDOW, flag};
-use crate::plan::{Plan, plan_sending};
+use crate::endpoint::telling::{flag, link_flow};
 use crate::refusal::Refusal;
-use crate::reply::Given;
-use crate::sending::sending_refusal;
-use amqp_deliveries::Change;
 use amqp_flow::receiver::ReceiverCredit;
 use amqp_flow::refusal::GrantRefusal;
 use amqp_flow::windows::Windows;
-use amqp_frames::{FlowBody, Performative};
+use amqp_frames::FlowBody;
 use amqp_links::credit::Credit;
-use amqp_links::fate::Fate;
 use amqp_links::marks::Marks;
 
 /// The credit after the grant, or why it is refused.
@@ -46,23 +40,10 @@ fn granted(
 fn grant_flow(windows: &Windows, handle: u32, marks: &Marks, drain: bool, echo: bool) -> FlowBody
     ensures { (l : LinkView) → handle ≡ handle_of l.ours → result ≡ grant_flow windows.now (with_marks marks.now l) drain echo }
 {
-    let (count, credit) = match &marks.credit {
-        Credit::Sending(credit) => (credit.count(), credit.credit()),
-        Credit::Receiving(credit) => (credit.count(), credit.credit()),
-    };
-    FlowBody {
-        next_incoming_id: windows.next_incoming(),
-        incoming_window: windows.window(),
-        next_outgoing_id: windows.next_outgoing(),
-        outgoing_window: OUTGOING_WINDOW,
-        handle: Some(handle),
-        delivery_count: Some(count),
-        link_credit: Some(credit),
-        available: None,
-        drain: flag(drain),
-        echo: flag(echo),
-        properties: None,
-    }
+    let mut told = link_flow(windows, handle, marks);
+    told.drain = flag(drain);
+    told.echo = flag(echo);
+    told
 }
 
 impl Endpoint {
@@ -97,51 +78,18 @@ impl Endpoint {
         }
     }
 
-    /// The refusal that is due.
-    pub(crate) fn refuse_grant(
-        &self,
-        link: u32,
-        credit: u32,
-        drain: bool,
-        echo: bool,
-    ) -> Option<Refusal>
-        ensures { result ≡ result_err (grant_answer self.now link credit drain echo) }
-    {
-        match self.check_grant(link, credit, drain) {
-            Err(refusal) => Some(refusal),
-            Ok(on) => {
-                let told = grant_flow(&self.session.windows, on.handle, &on.marks, drain, echo);
-                sending_refusal(Some(Performative::Flow(told)), &[], self.session.max_frame)
-            }
-        }
-    }
-
     /// Gives credit to the peer. O(log n) for n links.
-    pub(crate) fn plan_grant(
+    pub(crate) fn draft_grant(
         &self,
         link: u32,
         credit: u32,
         drain: bool,
         echo: bool,
-    ) -> Result<Plan, Refusal>
-        ensures { Plans Refusal.NoMemory self.now (grant_answer self.now link credit drain echo) (next_grant self.now link credit drain) result }
+    ) -> Result<Draft, Refusal>
+        ensures { Drafts self.now (grant_answer self.now link credit drain echo) (next_grant self.now link credit drain) [] result }
     {
         let on = self.check_grant(link, credit, drain)?;
-        let mut session = self.session;
-        let told = grant_flow(&session.windows, on.handle, &on.marks, drain, echo);
-        session.windows.renew();
-        let fate = Fate::Marked {
-            key: on.key,
-            number: link,
-            marks: on.marks,
-        };
-        plan_sending(
-            self.alloc,
-            session,
-            fate,
-            Change::Stay,
-            Some(Performative::Flow(told)),
-            Given::Nothing,
-        )
+        let told = grant_flow(&self.session.windows, on.handle, &on.marks, drain, echo);
+        Ok(draft_flow(self.session, on.fate(link), told))
     }
 }

@@ -1,8 +1,8 @@
 //! Learn: the first thing that was told of a delivery on a link on which we send is given.
-ghost use Rattle.std.specs.Prelude.{◌≡◌, ◌<◌, ◌^◌, IfOk, MatchResult, OnErr};
+ghost use Rattle.std.specs.Prelude.{◌≡◌, ◌<◌, ◌^◌, IfOk, OnErr};
 ghost use Rattle.amqp_rules.specs.Learn.{learn_answer, learned_of, next_learn};
 ghost use Rattle.amqp_endpoint.specs.Doing.{Does, DoesOnce, Foretells, learn_plan};
-ghost use Rattle.amqp_endpoint.specs.Plan.{Checks, IsPlan, IsRefused};
+ghost use Rattle.amqp_endpoint.specs.Plan.{Checks, Makes};
 
 use crate::copying::copy_state;
 use crate::done::{Done, quiet_done, quiet_reply};
@@ -50,7 +50,7 @@ impl Endpoint {
 
     /// What was told first is made.
     fn make_learned(&self, link: u32) -> Result<(usize, Boxed<Learned>), Refusal>
-        ensures { MatchResult result (λ both. IsPlan self.now (learn_answer self.now link) (next_learn self.now link) (learn_plan self.now both.0 link both.1)) (λ e. IsRefused Refusal.NoMemory (learn_answer self.now link) e) }
+        ensures { Makes Refusal.NoMemory self.now (learn_answer self.now link) (next_learn self.now link) (λ both. learn_plan self.now both.0 link both.1) result }
     {
         let (key, told) = match self.check_learn(link) {
             Ok(both) => both,

@@ -1,22 +1,16 @@
 //! Offer: the peer is told how many messages are available (part 2, 2.6.7).
 ghost use Rattle.std.specs.Prelude.{◌≡◌, [], Err, MatchResult};
-ghost use Rattle.std.specs.Result.{result_err};
 ghost use Rattle.amqp_performatives.specs.declared.bodies.Role.TheVariants.{Sender};
-ghost use Rattle.amqp_endpoint.specs.Plan.{Plans};
 ghost use Rattle.amqp_endpoint.specs.Taking.{IsTaken};
 ghost use Rattle.amqp_rules.specs.Offer.{offered, offer_answer, next_offer};
 ghost use Rattle.amqp_rules.specs.OnLink.{attached_as};
+ghost use Rattle.amqp_endpoint.specs.Drafting.{Drafts};
 
 use crate::endpoint::Endpoint;
+use crate::endpoint::drafting::{Draft, draft_flow};
 use crate::endpoint::onlink::OnLink;
 use crate::endpoint::telling::standing_flow;
-use crate::plan::{Plan, plan_sending};
 use crate::refusal::Refusal;
-use crate::reply::Given;
-use crate::sending::sending_refusal;
-use amqp_deliveries::Change;
-use amqp_frames::Performative;
-use amqp_links::fate::Fate;
 
 impl Endpoint {
     /// The first refusal that is due, or the link as it will be.
@@ -45,39 +39,12 @@ impl Endpoint {
         })
     }
 
-    /// The refusal that is due.
-    pub(crate) fn refuse_offer(&self, link: u32, available: u32) -> Option<Refusal>
-        ensures { result ≡ result_err (offer_answer self.now link available) }
-    {
-        match self.check_offer(link, available) {
-            Err(refusal) => Some(refusal),
-            Ok(on) => {
-                let told = standing_flow(&self.session.windows, on.handle, &on.marks);
-                sending_refusal(Some(Performative::Flow(told)), &[], self.session.max_frame)
-            }
-        }
-    }
-
     /// How many messages are available. O(log n) for n links.
-    pub(crate) fn plan_offer(&self, link: u32, available: u32) -> Result<Plan, Refusal>
-        ensures { Plans Refusal.NoMemory self.now (offer_answer self.now link available) (next_offer self.now link available) result }
+    pub(crate) fn draft_offer(&self, link: u32, available: u32) -> Result<Draft, Refusal>
+        ensures { Drafts self.now (offer_answer self.now link available) (next_offer self.now link available) [] result }
     {
         let on = self.check_offer(link, available)?;
-        let mut session = self.session;
-        let told = standing_flow(&session.windows, on.handle, &on.marks);
-        session.windows.renew();
-        let fate = Fate::Marked {
-            key: on.key,
-            number: link,
-            marks: on.marks,
-        };
-        plan_sending(
-            self.alloc,
-            session,
-            fate,
-            Change::Stay,
-            Some(Performative::Flow(told)),
-            Given::Nothing,
-        )
+        let told = standing_flow(&self.session.windows, on.handle, &on.marks);
+        Ok(draft_flow(self.session, on.fate(link), told))
     }
 }

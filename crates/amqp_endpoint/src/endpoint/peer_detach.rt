@@ -2,7 +2,7 @@
 ghost use Rattle.std.specs.Prelude.{◌≡◌, Err, MatchResult};
 ghost use Rattle.amqp_rules.specs.PeerDetach.{detach_heard_answer, next_detach_heard};
 ghost use Rattle.amqp_rules.specs.Refusing.{no_memory};
-ghost use Rattle.amqp_endpoint.specs.Parting.{IsParting};
+ghost use Rattle.amqp_endpoint.specs.Answered.{IsParting};
 ghost use Rattle.amqp_endpoint.specs.Plan.{Plans};
 
 use crate::endpoint::Endpoint;

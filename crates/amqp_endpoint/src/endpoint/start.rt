@@ -1,9 +1,9 @@
 //! Start: a delivery begins, with its first transfer.
-ghost use Rattle.std.specs.Prelude.{◌≡◌, ◌<◌, ◌+◌, ◌^◌, ◌∷◌, [], Err, Some, ℕ, IfOk, MatchResult, OnErr, true, length, find};
+ghost use Rattle.std.specs.Prelude.{◌≡◌, ◌<◌, ◌+◌, ◌^◌, ◌∷◌, [], Err, Some, ℕ, IfOk, MatchResult, OnErr, length, find};
 ghost use Rattle.amqp_flow.specs.Credit.{delivery_begun};
 ghost use Rattle.amqp_flow.specs.Windows.{windows_sent};
 ghost use Rattle.amqp_endpoint.specs.Doing.{Does, Foretells};
-ghost use Rattle.amqp_endpoint.specs.Plan.{IsPlan, IsRefused};
+ghost use Rattle.amqp_endpoint.specs.Plan.{Makes};
 ghost use Rattle.amqp_endpoint.specs.Starting.{item_begun, second_on, start_plan};
 ghost use Rattle.amqp_endpoint.specs.Taking.{IsTaken};
 ghost use Rattle.std.specs.List.{list_any};
@@ -13,7 +13,7 @@ ghost use Rattle.amqp_links.specs.Credits.{credit_in, role_of};
 ghost use Rattle.amqp_links.specs.Marks.{with_marks};
 ghost use Rattle.amqp_rules.specs.Refusing.{first_refusal};
 ghost use Rattle.amqp_rules.specs.Start.{begin_delivery, mode_forbids, sending_after, start_body, start_refusals, start_answer, next_start};
-ghost use Rattle.amqp_rules.specs.View.{has_number, is_too_long, next_delivery, same_role};
+ghost use Rattle.amqp_rules.specs.View.{has_number, is_too_long, next_delivery};
 
 use crate::done::Done;
 use crate::endpoint::Endpoint;
@@ -24,6 +24,7 @@ use crate::refusal::Refusal;
 use crate::reply::{Given, Reply};
 use crate::sending::{Written, cut_sharing, sending_refusal};
 use amqp_deliveries::{HeldItem, Tables};
+use amqp_flow::receiver::ReceiverCredit;
 use amqp_flow::sender::SenderCredit;
 use amqp_frames::{Performative, Role, TransferBody};
 use amqp_links::credit::{Credit, same_role};
@@ -59,8 +60,7 @@ fn start_body(
     }))
 }
 
-/// The credit once a delivery has begun.
-fn begun(credit: SenderCredit) -> SenderCredit
+fn sender_begun(credit: SenderCredit) -> SenderCredit
     ensures { 0 < credit.credit → result ≡ delivery_begun credit }
 {
     let mut begun = credit;
@@ -70,19 +70,30 @@ fn begun(credit: SenderCredit) -> SenderCredit
     }
 }
 
-fn credit_begun(credit: &Credit) -> Credit
+fn receiver_begun(credit: ReceiverCredit) -> ReceiverCredit
+    ensures { 0 < credit.credit → result ≡ delivery_begun credit }
+{
+    let mut begun = credit;
+    match begun.begin() {
+        Ok(()) => begun,
+        Err(_) => credit,
+    }
+}
+
+/// The credit once a delivery has begun, at either end.
+pub(crate) fn credit_begun(credit: &Credit) -> Credit
     ensures role { role_of result ≡ role_of credit.now }
-    ensures credit { same_role Role.Sender (role_of credit.now) ≡ true → 0 < (credit_in credit.now).credit → credit_in result ≡ delivery_begun (credit_in credit.now) }
+    ensures credit { 0 < (credit_in credit.now).credit → credit_in result ≡ delivery_begun (credit_in credit.now) }
 {
     match credit {
-        Credit::Sending(credit) => Credit::Sending(begun(*credit)),
-        Credit::Receiving(credit) => Credit::Receiving(*credit),
+        Credit::Sending(credit) => Credit::Sending(sender_begun(*credit)),
+        Credit::Receiving(credit) => Credit::Receiving(receiver_begun(*credit)),
     }
 }
 
 /// The marks of a link once a delivery has begun.
 fn marks_begun(l: &Link, id: u32, size: u128, more: bool) -> Marks
-    ensures { same_role Role.Sender l.now.role ≡ true → 0 < l.now.credit.credit → with_marks result l.now ≡ begin_delivery id size more l.now }
+    ensures { 0 < l.now.credit.credit → with_marks result l.now ≡ begin_delivery id size more l.now }
 {
     let mut marks = l.marks();
     marks.credit = credit_begun(&marks.credit);
@@ -263,7 +274,7 @@ impl Endpoint {
         requires { self.old.steps < 2 ^ 30 }
         ensures same { self.new ≡ self.old }
         ensures window { IfOk result (λ s. 0 < self.old.windows.remote_incoming) }
-        ensures plan { MatchResult result (λ s. IsPlan self.old (start_answer self.old link tag.now format settled payload.now more) (next_start self.old link tag.now format settled payload.now more) (start_plan self.old link tag.now settled s)) (λ e. IsRefused Refusal.NoMemory (start_answer self.old link tag.now format settled payload.now more) e) }
+        ensures plan { Makes Refusal.NoMemory self.old (start_answer self.old link tag.now format settled payload.now more) (next_start self.old link tag.now format settled payload.now more) (start_plan self.old link tag.now settled) result }
     {
         let (on, second) = match self.check_start(link, tag, settled, payload, more) {
             Ok(both) => both,

@@ -14,6 +14,7 @@ use crate::plan::Plan;
 use crate::refusal::Refusal;
 use crate::violation::{Violation, ViolationKind};
 use amqp_frames::{Frame, Performative};
+use bytes::Bytes;
 
 fn is_end(body: &Option<Performative>) -> bool
     ensures { result ≡ is_end body.now }
@@ -63,8 +64,8 @@ impl Endpoint {
                 link,
                 payload,
                 more,
-            } => self.refuse_carry(*link, payload, *more),
-            Op::Abort { link } => self.refuse_abort(*link),
+            } => self.refuse_draft(self.draft_carry(*link, payload, *more), payload),
+            Op::Abort { link } => self.refuse_draft(self.draft_abort(*link), &[]),
             Op::Dispose {
                 role,
                 first,
@@ -86,14 +87,17 @@ impl Endpoint {
                 credit,
                 drain,
                 echo,
-            } => self.refuse_grant(*link, *credit, *drain, *echo),
-            Op::Offer { link, available } => self.refuse_offer(*link, *available),
-            Op::Drained { link } => self.refuse_drained(*link),
-            Op::Refresh { echo } => self.refuse_refresh(*echo),
+            } => self.refuse_draft(self.draft_grant(*link, *credit, *drain, *echo), &[]),
+            Op::Offer { link, available } => self.refuse_draft(
+                self.draft_offer(*link, *available),
+                &[],
+            ),
+            Op::Drained { link } => self.refuse_draft(self.draft_drained(*link), &[]),
+            Op::Refresh { echo } => self.refuse_draft(self.draft_refresh(*echo), &[]),
             Op::Take { link } => self.check_take(*link).err(),
             Op::Detach { link, error } => self.check_detach(*link, error).err(),
             Op::End { error } => self.refuse_end(error),
-            Op::Beat => self.refuse_beat(),
+            Op::Beat => self.refuse_draft(self.draft_beat(), &[]),
         }
     }
 
@@ -155,8 +159,8 @@ impl Endpoint {
                 link,
                 payload,
                 more,
-            } => self.plan_carry(*link, payload, *more),
-            Op::Abort { link } => self.plan_abort(*link),
+            } => self.plan_draft(self.draft_carry(*link, payload, *more), payload),
+            Op::Abort { link } => self.plan_draft(self.draft_abort(*link), &Bytes::new()),
             Op::Dispose {
                 role,
                 first,
@@ -177,13 +181,19 @@ impl Endpoint {
                 credit,
                 drain,
                 echo,
-            } => self.plan_grant(*link, *credit, *drain, *echo),
-            Op::Offer { link, available } => self.plan_offer(*link, *available),
-            Op::Drained { link } => self.plan_drained(*link),
-            Op::Refresh { echo } => self.plan_refresh(*echo),
+            } => self.plan_draft(
+                self.draft_grant(*link, *credit, *drain, *echo),
+                &Bytes::new(),
+            ),
+            Op::Offer { link, available } => self.plan_draft(
+                self.draft_offer(*link, *available),
+                &Bytes::new(),
+            ),
+            Op::Drained { link } => self.plan_draft(self.draft_drained(*link), &Bytes::new()),
+            Op::Refresh { echo } => self.plan_draft(self.draft_refresh(*echo), &Bytes::new()),
             Op::Detach { link, error } => self.plan_detach(*link, error),
             Op::End { error } => self.plan_end(error),
-            Op::Beat => self.plan_beat(),
+            Op::Beat => self.plan_draft(self.draft_beat(), &Bytes::new()),
             Op::Start { .. } | Op::Learn { .. } | Op::Take { .. } => unreachable!(),
         }
     }

@@ -1,8 +1,8 @@
 //! Take: the first delivery that waits on a link on which we receive is given.
-ghost use Rattle.std.specs.Prelude.{◌≡◌, ◌<◌, ◌^◌, IfOk, MatchResult, OnErr};
+ghost use Rattle.std.specs.Prelude.{◌≡◌, ◌<◌, ◌^◌, IfOk, OnErr};
 ghost use Rattle.amqp_rules.specs.Take.{take_answer, taken_of, next_take};
 ghost use Rattle.amqp_endpoint.specs.Doing.{Does, DoesOnce, Foretells, take_plan};
-ghost use Rattle.amqp_endpoint.specs.Plan.{Checks, IsPlan, IsRefused};
+ghost use Rattle.amqp_endpoint.specs.Plan.{Checks, Makes};
 
 use crate::done::{Done, quiet_done, quiet_reply};
 use crate::endpoint::Endpoint;
@@ -50,7 +50,7 @@ impl Endpoint {
 
     /// What waits first is made. O(1), besides the join of a payload that came in several transfers.
     fn make_taken(&self, link: u32) -> Result<(usize, Boxed<Taken>), Refusal>
-        ensures { MatchResult result (λ both. IsPlan self.now (take_answer self.now link) (next_take self.now link) (take_plan self.now both.0 link both.1)) (λ e. IsRefused Refusal.NoMemory (take_answer self.now link) e) }
+        ensures { Makes Refusal.NoMemory self.now (take_answer self.now link) (next_take self.now link) (λ both. take_plan self.now both.0 link both.1) result }
     {
         let (key, number, waiting) = match self.check_take(link) {
             Ok(first) => first,

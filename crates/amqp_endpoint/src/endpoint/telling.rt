@@ -2,7 +2,7 @@
 ghost use Rattle.std.specs.Prelude.{◌≡◌};
 ghost use Rattle.amqp_links.specs.Credits.{role_of};
 ghost use Rattle.amqp_links.specs.Marks.{with_marks};
-ghost use Rattle.amqp_rules.specs.Telling.{flag, session_flow, standing_flow};
+ghost use Rattle.amqp_rules.specs.Telling.{flag, link_flow, sender_flow, session_flow, standing_flow};
 ghost use Rattle.amqp_rules.specs.View.{LinkView, handle_of};
 
 use amqp_flow::windows::Windows;
@@ -42,36 +42,48 @@ pub(crate) fn session_flow(windows: &Windows) -> FlowBody
     }
 }
 
-/// The flow of the link with these marks, which we call by this handle.
+/// The flow of the link with these marks, which we call by this handle: its count and its credit.
+pub(crate) fn link_flow(windows: &Windows, handle: u32, marks: &Marks) -> FlowBody
+    ensures { (l : LinkView) → handle ≡ handle_of l.ours → result ≡ link_flow windows.now (with_marks marks.now l) }
+{
+    let (count, credit) = match &marks.credit {
+        Credit::Sending(credit) => (credit.count(), credit.credit()),
+        Credit::Receiving(credit) => (credit.count(), credit.credit()),
+    };
+    let mut told = session_flow(windows);
+    told.handle = Some(handle);
+    told.delivery_count = Some(count);
+    told.link_credit = Some(credit);
+    told
+}
+
+/// That of a link on which we send: what is available too.
+pub(crate) fn sender_flow(
+    windows: &Windows,
+    handle: u32,
+    marks: &Marks,
+    drain: Option<bool>,
+) -> FlowBody
+    ensures { (l : LinkView) → handle ≡ handle_of l.ours → result ≡ sender_flow windows.now (with_marks marks.now l) drain }
+{
+    let mut told = link_flow(windows, handle, marks);
+    told.available = Some(marks.available);
+    told.drain = drain;
+    told
+}
+
+/// That of a link as it stands.
 pub(crate) fn standing_flow(windows: &Windows, handle: u32, marks: &Marks) -> FlowBody
     ensures { (l : LinkView) → handle ≡ handle_of l.ours → result ≡ standing_flow windows.now (with_marks marks.now l) (role_of marks.now.credit) }
 {
     match &marks.credit {
-        Credit::Sending(credit) => FlowBody {
-            next_incoming_id: windows.next_incoming(),
-            incoming_window: windows.window(),
-            next_outgoing_id: windows.next_outgoing(),
-            outgoing_window: OUTGOING_WINDOW,
-            handle: Some(handle),
-            delivery_count: Some(credit.count()),
-            link_credit: Some(credit.credit()),
-            available: Some(marks.available),
-            drain: flag(credit.is_draining()),
-            echo: None,
-            properties: None,
-        },
-        Credit::Receiving(credit) => FlowBody {
-            next_incoming_id: windows.next_incoming(),
-            incoming_window: windows.window(),
-            next_outgoing_id: windows.next_outgoing(),
-            outgoing_window: OUTGOING_WINDOW,
-            handle: Some(handle),
-            delivery_count: Some(credit.count()),
-            link_credit: Some(credit.credit()),
-            available: None,
-            drain: flag(credit.is_draining()),
-            echo: None,
-            properties: None,
-        },
+        Credit::Sending(credit) => {
+            sender_flow(windows, handle, marks, flag(credit.is_draining()))
+        }
+        Credit::Receiving(credit) => {
+            let mut told = link_flow(windows, handle, marks);
+            told.drain = flag(credit.is_draining());
+            told
+        }
     }
 }

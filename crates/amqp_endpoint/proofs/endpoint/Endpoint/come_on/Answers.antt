@@ -6,11 +6,13 @@ use Rattle.amqp_endpoint.proofs.endpoint.Endpoint.come_on.Goals as goal
 pub arrive-requires-clause-met : goal.arrive-requires-clause-met
 arrive-requires-clause-met c =
     let v = view_of c.self.inside.steps c.self.inside.session c.self.inside.stores in
+    let may = rw (← c.self.view_is) at c.requires.may in
     rw (c.in-Ok.ensures.piece, c.in_ok-change.ensures)
-    (met-after c.self.inside.steps c.self.inside.session c.self.inside.stores (arriving_plan v c.args.b.now c.args.payload.now c.args.arriving.now) (rw (← c.self.view_is) at c.requires.steps) c.self.invariant (rw (← c.self.view_is) at c.requires.sound))
+    (met-after c.self.inside.steps c.self.inside.session c.self.inside.stores (arriving_plan v c.args.b.now c.args.payload.now c.args.arriving.now) may.steps c.self.invariant may.sound)
 
 pub invariant_of-self-2 : goal.invariant_of-self-2
 invariant_of-self-2 c =
     let v = view_of c.self.inside.steps c.self.inside.session c.self.inside.stores in
+    let may = rw (← c.self.view_is) at c.requires.may in
     rw (c.session_heard-self-inside.ensures, c.in-Ok-arrive.ensures.ok, c.in-Ok.ensures.piece, c.in_ok-change.ensures)
-    (kept-after c.self.inside.steps c.self.inside.session c.self.inside.stores (arriving_plan v c.args.b.now c.args.payload.now c.args.arriving.now) (rw (← c.self.view_is) at c.requires.steps) c.self.invariant (rw (← c.self.view_is) at c.requires.sound))
+    (kept-after c.self.inside.steps c.self.inside.session c.self.inside.stores (arriving_plan v c.args.b.now c.args.payload.now c.args.arriving.now) may.steps c.self.invariant may.sound)

@@ -1,4 +1,4 @@
-use Rattle.amqp_endpoint.specs.Saying.{said_in}
+use Rattle.amqp_endpoint.specs.Disposing.{said_in}
 use Rattle.amqp_endpoint.proofs.Disposing.{any_fixed_of}
 use Rattle.amqp_endpoint.proofs.endpoint.dispose.any_fixed.Goals as goal
 

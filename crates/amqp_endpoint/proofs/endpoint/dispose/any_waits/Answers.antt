@@ -1,4 +1,4 @@
-use Rattle.amqp_endpoint.specs.Saying.{said_in}
+use Rattle.amqp_endpoint.specs.Disposing.{said_in}
 use Rattle.amqp_endpoint.proofs.Disposing.{sender_waits, receiver_waits}
 use Rattle.amqp_endpoint.proofs.endpoint.dispose.any_waits.Goals as goal
 

@@ -1,4 +1,4 @@
-use Rattle.amqp_endpoint.specs.Saying.{said_in}
+use Rattle.amqp_endpoint.specs.Disposing.{said_in}
 use Rattle.amqp_endpoint.proofs.Disposing.{none_spoken}
 use Rattle.amqp_endpoint.proofs.endpoint.dispose.covers_none.Goals as goal
 

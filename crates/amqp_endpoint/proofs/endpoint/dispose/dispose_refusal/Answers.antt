@@ -1,5 +1,5 @@
 use Rattle.amqp_rules.specs.Dispose.{dispose_body}
-use Rattle.amqp_endpoint.specs.Saying.{said_in}
+use Rattle.amqp_endpoint.specs.Disposing.{said_in}
 use Rattle.amqp_endpoint.proofs.endpoint.dispose.dispose_refusal.Goals as goal
 
 pub returns : goal.returns

@@ -1,5 +1,5 @@
 use Rattle.amqp_events.specs.Tags.{is_tagged}
-use Rattle.amqp_endpoint.proofs.Rows.{any-of}
+use Rattle.amqp_endpoint.proofs.Plans.{any-of}
 use Rattle.amqp_endpoint.proofs.endpoint.start.holds_tag.Goals as goal
 
 pub returns : goal.returns

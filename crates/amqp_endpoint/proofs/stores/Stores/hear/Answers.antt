@@ -1,4 +1,4 @@
-use Rattle.amqp_endpoint.proofs.Hearing.{heard-told}
+use Rattle.amqp_endpoint.proofs.Heard.{heard-told}
 use Rattle.amqp_endpoint.proofs.stores.Stores.hear.Goals as goal
 
 pub returns-in-Ok-clause-ok : goal.returns-in-Ok-clause-ok

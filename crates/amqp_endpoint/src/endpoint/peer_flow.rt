@@ -1,10 +1,10 @@
 //! A flow that is heard.
-ghost use Rattle.std.specs.Prelude.{◌≡◌, true, false, cond, is_some, None, Some, MatchOption, MatchResult};
+ghost use Rattle.std.specs.Prelude.{◌≡◌, true, false, cond, is_some, Some, MatchOption, MatchResult};
 ghost use Rattle.std.specs.Result.{result_err};
 ghost use Rattle.amqp_flow.specs.Windows.{windows_renewed};
 ghost use Rattle.amqp_links.specs.Links.{IsFirst};
 ghost use Rattle.amqp_links.specs.Marks.{with_marks};
-ghost use Rattle.amqp_endpoint.specs.Flowing.{credit_ahead, echo_plan, session_after, sends_echo, session_ahead, windows_told_by, IsCreditAfter};
+ghost use Rattle.amqp_endpoint.specs.Flowing.{credit_ahead, echo_plan, session_after, sends_echo, session_ahead, windows_told_by, IsCreditAfter, IsStill};
 ghost use Rattle.amqp_endpoint.specs.Plan.{Checks, Plans};
 ghost use Rattle.amqp_rules.specs.Flow.{
   session_part,
@@ -191,31 +191,10 @@ fn flow_in_return(windows: &Windows, l: &Link, marks: &Marks) -> FlowBody
 }
 
 impl Endpoint {
-    /// A flow of the session alone.
-    fn check_session_flow(&self, b: &FlowBody) -> Result<Flowing, Violation>
+    /// A flow of the session alone, or of a link that we have left: all links stay as they are.
+    fn check_still_flow(&self, b: &FlowBody) -> Result<Flowing, Violation>
         requires takes { takes_frames self.now.session ≡ true }
-        requires names { b.now.handle ≡ None }
-        ensures { Checks self.now (flow_answer self.now b.now) (next_flow self.now b.now) echo_plan result }
-    {
-        let Some(session) = heard_session(b, self.session) else {
-            return Err(Violation::unlinked(ViolationKind::CountAhead));
-        };
-        let echo = sends_echo(&session, b);
-        let body = session_flow(&session.windows);
-        Ok(Flowing {
-            session,
-            fate: Fate::Stay,
-            echo,
-            body,
-        })
-    }
-
-    /// A flow of a link that we have left: the link stays as it is.
-    fn check_passed_flow(&self, b: &FlowBody, handle: u32, l: &Link) -> Result<Flowing, Violation>
-        requires takes { takes_frames self.now.session ≡ true }
-        requires names { b.now.handle ≡ Some handle }
-        requires called { IsFirst (has_peer_handle handle) self.now.links l.now }
-        requires left { l.now.left ≡ true }
+        requires still { IsStill self.now b.now }
         ensures { Checks self.now (flow_answer self.now b.now) (next_flow self.now b.now) echo_plan result }
     {
         let Some(session) = heard_session(b, self.session) else {
@@ -274,13 +253,13 @@ impl Endpoint {
             return Err(Violation::unlinked(ViolationKind::OutOfSession));
         }
         let Some(handle) = b.handle else {
-            return self.check_session_flow(b);
+            return self.check_still_flow(b);
         };
         let Some(found) = self.stores.links.by_peer_handle(handle) else {
             return Err(Violation::unlinked(ViolationKind::BadHandle));
         };
         if found.link.has_left() {
-            self.check_passed_flow(b, handle, found.link)
+            self.check_still_flow(b)
         } else {
             self.check_link_flow(b, handle, found.key, found.link)
         }

@@ -1,9 +1,0 @@
-use Rattle.amqp_endpoint.proofs.Carried.{plan_aborted}
-use Rattle.amqp_endpoint.proofs.endpoint.Endpoint.plan_abort.Goals as goal
-
-pub returns : goal.returns
-returns c =
-    let t = rw (← c.self.view_is) at c.in_ok-aborted.ensures.taken in
-    rw (← c.self.view_is)
-    (plan_aborted c.self.inside.steps c.self.inside.session c.self.inside.stores c.args.link c.in_ok-aborted.aborted c.later_body.result c.plan_sending.result c.self.invariant t c.later_body.ensures
-    (rw c.sent.ensures at c.plan_sending.ensures))

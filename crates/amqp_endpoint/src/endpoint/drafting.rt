@@ -1,0 +1,98 @@
+//! A step that sends a frame, as it is drafted: before the frame is measured, or written.
+ghost use Rattle.std.specs.Prelude.{◌≡◌, Result, List, ℕ};
+ghost use Rattle.std.specs.Result.{result_err};
+ghost use Rattle.amqp_endpoint.specs.Drafting.{Drafts, flow_draft};
+ghost use Rattle.amqp_endpoint.specs.Plan.{Plans};
+ghost use Rattle.amqp_rules.specs.View.{View};
+
+use crate::endpoint::Endpoint;
+use crate::plan::{Plan, Session};
+use crate::refusal::Refusal;
+use crate::reply::{Given, Reply};
+use crate::sending::{sending_refusal, write_sharing};
+use amqp_deliveries::Change;
+use amqp_frames::{FlowBody, Performative};
+use amqp_links::fate::Fate;
+use bytes::Bytes;
+
+/// A step that tells the application nothing and sends a frame: what it leaves, and the frame's body, which owns no memory.
+#[derive(Drop)]
+pub(crate) struct Draft {
+    pub(crate) session: Session,
+    pub(crate) fate: Fate,
+    pub(crate) change: Change,
+    pub(crate) body: Option<Performative>,
+}
+
+/// A step that sends a flow, which renews our window.
+pub(crate) fn draft_flow(mut session: Session, fate: Fate, told: FlowBody) -> Draft
+    ensures { result ≡ flow_draft session fate told }
+{
+    session.windows.renew();
+    Draft {
+        session,
+        fate,
+        change: Change::Stay,
+        body: Some(Performative::Flow(told)),
+    }
+}
+
+impl Endpoint {
+    /// The refusal that is due to a step that was drafted so, whose frame has this payload.
+    pub(crate) fn refuse_draft(
+        &self,
+        draft: Result<Draft, Refusal>,
+        payload: &[u8],
+    ) -> Option<Refusal>
+        ensures { (answer : Result Reply Refusal) (after : View) → Drafts self.now answer after payload.now draft → result ≡ result_err answer }
+    {
+        match draft {
+            Err(refusal) => Some(refusal),
+            Ok(draft) => {
+                let Draft {
+                    session: _,
+                    fate,
+                    change,
+                    body,
+                } = draft;
+                drop(change);
+                drop(fate);
+                sending_refusal(body, payload, self.session.max_frame)
+            }
+        }
+    }
+
+    /// The plan of a step that was drafted so, whose frame has this payload.
+    pub(crate) fn plan_draft(
+        &self,
+        draft: Result<Draft, Refusal>,
+        payload: &Bytes,
+    ) -> Result<Plan, Refusal>
+        ensures { (answer : Result Reply Refusal) (after : View) → Drafts self.now answer after payload.now draft → Plans Refusal.NoMemory self.now answer after result }
+    {
+        let draft = match draft {
+            Ok(draft) => draft,
+            Err(refusal) => return Err(refusal),
+        };
+        let Draft {
+            session,
+            fate,
+            change,
+            body,
+        } = draft;
+        match write_sharing(self.alloc, body, payload, self.session.max_frame) {
+            Ok(sent) => Ok(Plan {
+                session,
+                fate,
+                change,
+                sent: Some(sent),
+                given: Given::Nothing,
+            }),
+            Err(refusal) => {
+                drop(change);
+                drop(fate);
+                Err(refusal)
+            }
+        }
+    }
+}
