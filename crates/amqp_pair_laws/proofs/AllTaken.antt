@@ -25,7 +25,7 @@ use Rattle.amqp_pair_laws.proofs.TagFree.{transfers-taken}
 -- what is sent is of the session
 is-spoken : (v after : View) (heard' : Option Performative) (op : Option Op) (reply : Reply) (f : Frame) → Sending v after heard' op reply → frame_among reply.sent ≡ Some f → is_spoken f.body ≡ true
 is-spoken v after heard' op reply f (silent q) sent = absurd (cc (q, sent))
-is-spoken v after heard' op reply f (transfers t payload deaf mapped room named is) sent = ap is_spoken (body-of reply.sent (heard.Transfer t) payload f is sent)
+is-spoken v after heard' op reply f (transfers t payload deaf mapped room named carries' is) sent = ap is_spoken (body-of reply.sent (heard.Transfer t) payload f is sent)
 is-spoken v after heard' op reply f (flows w t mapped open' begun numbers is) sent = ap is_spoken (body-of reply.sent (heard.Flow w) [] f is sent)
 is-spoken v after heard' op reply f (begins w deaf is-begin unsent open' takes comes is) sent = ap is_spoken (body-of reply.sent (heard.Begin w) [] f is sent)
 is-spoken v after heard' op reply f (others p payload t w beside is) sent = ap is_spoken (body-of reply.sent p payload f is sent) ∙ beside.spoken

@@ -57,7 +57,7 @@ was-attach v (Heard f) reply h is = absurd (cc (is))
 
 attach-asked : (v after : View) (hears : Option Performative) (op : Option Op) (reply : Reply) (f : Frame) → Sending v after hears op reply → frame_among reply.sent ≡ Some f → is_attach f.body ≡ true → is_own_attach op ≡ true
 attach-asked v after hears op reply f (silent q) sent is = absurd (cc (q, sent))
-attach-asked v after hears op reply f (transfers t payload deaf mapped room named one) sent is = let b = ap is_attach (body-of reply.sent (heard.Transfer t) payload f one sent) in absurd (cc (b, is))
+attach-asked v after hears op reply f (transfers t payload deaf mapped room named carries' one) sent is = let b = ap is_attach (body-of reply.sent (heard.Transfer t) payload f one sent) in absurd (cc (b, is))
 attach-asked v after hears op reply f (flows w t mapped open' begun numbers one) sent is = let b = ap is_attach (body-of reply.sent (heard.Flow w) [] f one sent) in absurd (cc (b, is))
 attach-asked v after hears op reply f (begins w deaf is-begin unsent open' takes comes one) sent is = let b = ap is_attach (body-of reply.sent (heard.Begin w) [] f one sent) in absurd (cc (b, is))
 attach-asked v after hears op reply f (others p payload t w beside one) sent is = let b = ap is_attach (body-of reply.sent p payload f one sent) in beside.attaches (sym b ∙ is)

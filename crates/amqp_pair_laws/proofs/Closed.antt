@@ -209,7 +209,7 @@ closed-known ca cb n a b t = lag.exact sends hears IsFair ClosedAgree closed-kep
 
 disposed-by : (v after : View) (heard' : Option Performative) (op : Option Op) (reply : Reply) (g : Frame) (d : DispositionBody) → Sending v after heard' op reply → frame_among reply.sent ≡ Some g → g.body ≡ Some (heard.Disposition d) → IsOf op d
 disposed-by v after heard' op reply g d (silent q) sent body = absurd (cc (q, sent))
-disposed-by v after heard' op reply g d (transfers t payload deaf mapped room named is) sent body = let k = body-of reply.sent (heard.Transfer t) payload g is sent in absurd (cc (k, body))
+disposed-by v after heard' op reply g d (transfers t payload deaf mapped room named carries' is) sent body = let k = body-of reply.sent (heard.Transfer t) payload g is sent in absurd (cc (k, body))
 disposed-by v after heard' op reply g d (flows w t mapped open' begun numbers is) sent body = let k = body-of reply.sent (heard.Flow w) [] g is sent in absurd (cc (k, body))
 disposed-by v after heard' op reply g d (begins' w deaf is-begin unsent open' takes comes is) sent body = let k = body-of reply.sent (heard.Begin w) [] g is sent in absurd (cc (k, body))
 disposed-by v after heard' op reply g d (others p payload t w beside is) sent body = let k = body-of reply.sent p payload g is sent in beside.says d (sym k ∙ body)

@@ -107,7 +107,7 @@ flow-open w m h = by m.left h
     by true h = absurd (cc (h))
     by false h = refl
 
-transfer-open : (t : TransferBody) (payload : List ℕ) (m : LinkView) → m.left ≡ false → heard_on t payload m ≡ received_on t payload m
+pub transfer-open : (t : TransferBody) (payload : List ℕ) (m : LinkView) → m.left ≡ false → heard_on t payload m ≡ received_on t payload m
 transfer-open t payload m h = by m.left h
   where
     by : (b : Bool) → b ≡ false → cond b m (received_on t payload m) ≡ received_on t payload m
@@ -215,11 +215,11 @@ module _ (ca cb : Config) (n : ℕ) (e : Entry) (a : List Entry) (e' : Entry) (b
       by (hearing j h first p numbers s theirs early (inl aside)) grows = pass-aside aside (λ m x. hearing-agrees role l l' N m K j first p numbers s same-ours y.small x)
       by (hearing j h first p numbers s theirs early (inr told)) grows = pass-flow told s grows
 
-kept-left-none : (left' : Bool) (o : Option EndView) → o ≡ None → cond left' None o ≡ None
+pub kept-left-none : (left' : Bool) (o : Option EndView) → o ≡ None → cond left' None o ≡ None
 kept-left-none true o h = refl
 kept-left-none false o h = h
 
-kept-left-some : (left' : Bool) (o : Option EndView) → left' ≡ false → cond left' None o ≡ o
+pub kept-left-some : (left' : Bool) (o : Option EndView) → left' ≡ false → cond left' None o ≡ o
 kept-left-some true o h = absurd (cc (h))
 kept-left-some false o h = refl
 

@@ -108,7 +108,7 @@ apart-by : (role : Role) (name : List ℕ) (v after' : View) (hears : Option Per
     → is_own_attach op ≡ false → is_own_detach op || is_detach hears ≡ false → (o : Option Frame) → frame_among reply.sent ≡ o → IsApart role name v o
 apart-by role name v after' hears op reply s na nd None is = tt
 apart-by role name v after' hears op reply (silent q) na nd (Some f) is = absurd (cc (q, is))
-apart-by role name v after' hears op reply (transfers t payload deaf mapped room named one) na nd (Some f) is =
+apart-by role name v after' hears op reply (transfers t payload deaf mapped room named carries' one) na nd (Some f) is =
     subst (λ (o : Option Performative). IsApartIn role name v o) (sym (body-of reply.sent (heard.Transfer t) payload f one is)) tt
 apart-by role name v after' hears op reply (flows w t mapped open' begun numbers one) na nd (Some f) is =
     subst (λ (o : Option Performative). IsApartIn role name v o) (sym (body-of reply.sent (heard.Flow w) [] f one is)) tt

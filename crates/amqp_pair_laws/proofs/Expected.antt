@@ -133,7 +133,7 @@ NoId _ = Unit {0}
 
 pub later-none : (v after : View) (heard' : Option Performative) (op : Option Op) (reply : Reply) (f : Frame) → Sending v after heard' op reply → is_start op ≡ false → frame_among reply.sent ≡ Some f → NoId f.body
 later-none v after heard' op reply f (silent q) other sent = absurd (cc (q, sent))
-later-none v after heard' op reply f (transfers t payload deaf mapped room named one) other sent = subst (λ (o : Option Performative). NoId o) (sym (body-of reply.sent (heard.Transfer t) payload f one sent)) (named other)
+later-none v after heard' op reply f (transfers t payload deaf mapped room named carries' one) other sent = subst (λ (o : Option Performative). NoId o) (sym (body-of reply.sent (heard.Transfer t) payload f one sent)) (named other)
 later-none v after heard' op reply f (flows w t mapped open' begun numbers one) other sent = subst (λ (o : Option Performative). NoId o) (sym (body-of reply.sent (heard.Flow w) [] f one sent)) tt
 later-none v after heard' op reply f (begins' w deaf is-begin unsent open' takes comes one) other sent = subst (λ (o : Option Performative). NoId o) (sym (body-of reply.sent (heard.Begin w) [] f one sent)) tt
 later-none v after heard' op reply f (others p payload t w beside one) other sent = subst (λ (o : Option Performative). NoId o) (sym (body-of reply.sent p payload f one sent)) (by p t)

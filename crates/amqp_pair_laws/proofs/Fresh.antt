@@ -53,7 +53,7 @@ starts-sent v (Heard f) reply h is = absurd (cc (is))
 
 others-sent : (v after : View) (heard' : Option Performative) (op : Option Op) (reply : Reply) → Sending v after heard' op reply → is_start op ≡ false → id_in (transfer_among reply.sent) ≡ None
 others-sent v after heard' op reply (silent q) other = ap id_in (none-sent reply.sent q)
-others-sent v after heard' op reply (transfers t payload deaf mapped room named is) other = let none = named other in rw (is, none) refl
+others-sent v after heard' op reply (transfers t payload deaf mapped room named carries' is) other = let none = named other in rw (is, none) refl
 others-sent v after heard' op reply (flows w t mapped open' begun numbers is) other = rw is refl
 others-sent v after heard' op reply (begins w deaf is-begin unsent open' takes comes is) other = rw is refl
 others-sent v after heard' op reply (others p payload t w beside is) other = rw (is, t) refl

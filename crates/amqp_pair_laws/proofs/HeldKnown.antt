@@ -78,12 +78,12 @@ HeldAgree ca cb a b =
 -- # The sender's link, after the step
 
 -- where it is there, and not left
-record Ours (va : View) (name : List ℕ) : Type 0 where
-  link' : LinkView
-  found : find (has_name Sender name) va.links ≡ Some link'
-  unleft : link'.left ≡ false
+pub record Ours (va : View) (name : List ℕ) : Type 0 where
+  pub link' : LinkView
+  pub found : find (has_name Sender name) va.links ≡ Some link'
+  pub unleft : link'.left ≡ false
 
-ours-there : (ca cb : Config) (n : ℕ) (a b : List Entry) → Tight ca cb n a b → Lives b → (name : List ℕ) (y : LinkView) → link (Receiver, name) cb b ≡ Some y → is_attached y ≡ true → Ours (at ca a) name
+pub ours-there : (ca cb : Config) (n : ℕ) (a b : List Entry) → Tight ca cb n a b → Lives b → (name : List ℕ) (y : LinkView) → link (Receiver, name) cb b ≡ Some y → is_attached y ≡ true → Ours (at ca a) name
 ours-there ca cb n a b t lives name y found attached =
     let slot = slots-known ca cb n a b t lives Sender name in
     let some : is_some (kept (slot_of Sender name (at ca a).links)) ≡ true = ap (λ (o : Option EndView). is_some o) (slot.asked ∙ ap (λ o. (shape o).theirs) found) ∙ (attached-ends y attached).1.0 in
@@ -163,7 +163,7 @@ told-apart ca cb n e a b f d u i w t m lb there same is body role settled inside
     let yes : is_inside u.id (disposition_of d).first (disposition_of d).last ≡ true = ap (λ n. is_inside n (disposition_of d).first (disposition_of d).last) (sym same) ∙ inside in
     absurd (cc (yes, out))
 
-one-sound : (c : Config) (past : List Entry) → AllFair c past → IsSound (at c past)
+pub one-sound : (c : Config) (past : List Entry) → AllFair c past → IsSound (at c past)
 one-sound c past fair = at-is-sound c past (replayed-by c past fair) (few-by c past fair)
 
 -- # One end alone

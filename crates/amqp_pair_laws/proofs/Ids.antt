@@ -54,7 +54,7 @@ ids-pass : (ca cb : Config) (e : Entry) (a : List Entry) (e' : Entry) (b : List 
     → Sending (at ca a) (next (at ca a) e.step) (body_heard e.step) (own_in e.step) e.reply → frame_among e.reply.sent ≡ Some f → body_heard e'.step ≡ f.body
     → ids_heard (live b) ≡ ids_sent (live a) → ids_heard (e' ∷ live b) ≡ ids_sent (e ∷ live a)
 ids-pass ca cb e a e' b f (silent q) sent hb k = absurd (cc (q, sent))
-ids-pass ca cb e a e' b f (transfers t payload deaf mapped room named is) sent hb k =
+ids-pass ca cb e a e' b f (transfers t payload deaf mapped room named carries' is) sent hb k =
     let body = hb ∙ body-of e.reply.sent (heard.Transfer t) payload f is sent in
     ids-both (live a) (live b) e e' (Some (t, payload)) (rw is refl) (rw body refl) k
 ids-pass ca cb e a e' b f (flows w t mapped open' begun numbers is) sent hb k =

@@ -50,3 +50,9 @@ pub mod Attached
 pub mod HeldKnown
 pub mod TagFree
 pub mod AllTaken
+-- What waits to be taken, and what was taken.
+pub mod ReadySteps
+pub mod Unused
+pub mod TakenKnown
+pub mod TakenPass
+pub mod TakenFront

@@ -236,7 +236,7 @@ flow-known ca cb b f x w body la lb = by w.handle refl
 flow-next : (ca cb : Config) (b : List Entry) (f : Frame) (x : Next ca cb b f) → Sending (at ca x.before) (next (at ca x.before) x.entry.step) (body_heard x.entry.step) (own_in x.entry.step) x.entry.reply
     → (w : FlowBody) → f.body ≡ Some (heard.Flow w) → IsOk (heard_answer (at cb b) f)
 flow-next ca cb b f x (silent q) w body = let sent = x.sent in absurd (cc (q, sent))
-flow-next ca cb b f x (transfers t payload deaf mapped room named is) w body = let k = body-of x.entry.reply.sent (heard.Transfer t) payload f is x.sent in absurd (cc (k, body))
+flow-next ca cb b f x (transfers t payload deaf mapped room named carries' is) w body = let k = body-of x.entry.reply.sent (heard.Transfer t) payload f is x.sent in absurd (cc (k, body))
 flow-next ca cb b f x (flows u t mapped open' begun numbers is) w body =
     let k = body-of x.entry.reply.sent (heard.Flow u) [] f is x.sent in
     let e : ◌≡◌ {A = Option Performative} (Some (heard.Flow u)) (Some (heard.Flow w)) = sym k ∙ body in

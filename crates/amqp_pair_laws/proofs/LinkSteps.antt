@@ -145,7 +145,7 @@ added-there P (x ∷ xs) y m h =
     (λ (p : P x ≡ false). let f = rw p at h in rw p (added-there P xs y m f))
 
 -- another link is changed
-changed-apart : (P test : LinkView → Bool) (change : LinkView → LinkView) (xs : List LinkView) (m : LinkView) → Sees P → KeepsKeys change → find P xs ≡ Some m → test m ≡ false → find P (change_first test change xs) ≡ Some m
+pub changed-apart : (P test : LinkView → Bool) (change : LinkView → LinkView) (xs : List LinkView) (m : LinkView) → Sees P → KeepsKeys change → find P xs ≡ Some m → test m ≡ false → find P (change_first test change xs) ≡ Some m
 changed-apart P test change [] m s k h other = absurd (cc (h))
 changed-apart P test change (x ∷ xs) m s k h other =
     let same = s.sees change k x in

@@ -9,7 +9,7 @@ abbrev pub In : {A : Type 0} → A → List A → Type 0
 In x [] = ⊥
 In x (y ∷ ys) = (x ≡ y) ⊎ In x ys
 
-in-append : {A : Type 0} (x : A) (xs ys : List A) → In x (xs ++ ys) → In x xs ⊎ In x ys
+pub in-append : {A : Type 0} (x : A) (xs ys : List A) → In x (xs ++ ys) → In x xs ⊎ In x ys
 in-append x [] ys h = inr h
 in-append x (y ∷ xs) ys (inl e) = inl (inl e)
 in-append x (y ∷ xs) ys (inr h) = by (in-append x xs ys h)

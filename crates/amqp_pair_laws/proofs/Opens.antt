@@ -81,7 +81,7 @@ heard-begun s h = let k = and-both s.begin_sent (takes_frames s) h in (and-both 
 none-before : (v after : View) (heard' : Option Performative) (op : Option Op) (reply : Reply) → Sending v after heard' op reply → v.session.begin_heard ≡ false
     → length (filter_map (λ (s : Sent). transfer_in s.frame.body) reply.sent) ≡ 0
 none-before v after heard' op reply (silent q) h = (sends-none reply.sent q).transfers
-none-before v after heard' op reply (transfers t payload deaf mapped room named sent) h = let k = heard-begun v.session mapped in absurd (cc (h, k))
+none-before v after heard' op reply (transfers t payload deaf mapped room named carries' sent) h = let k = heard-begun v.session mapped in absurd (cc (h, k))
 none-before v after heard' op reply (flows b t mapped open' begun numbers sent) h = rw sent refl
 none-before v after heard' op reply (begins' b deaf is-begin unsent open' takes comes sent) h = rw sent refl
 none-before v after heard' op reply (others p payload t w beside sent) h = rw (sent, t) refl
@@ -168,7 +168,7 @@ pass-by : (ca cb : Config) (e : Entry) (a : List Entry) (e' : Entry) (b : List E
     → is_over (session_at (live b)) ≡ false → is_over (session_at (e' ∷ live b)) ≡ false
     → frame_among e.reply.sent ≡ Some f → body_heard e'.step ≡ f.body → Other ca cb e a b → Knows ca cb (live a) (live b) → Knows ca cb (e ∷ live a) (e' ∷ live b)
 pass-by ca cb e a e' b f (silent q) l go rb fb sb ans lives lives' sent hb other k = absurd (cc (q, sent))
-pass-by ca cb e a e' b f (transfers t payload deaf mapped room named is) l go rb fb sb ans lives lives' sent hb other k =
+pass-by ca cb e a e' b f (transfers t payload deaf mapped room named carries' is) l go rb fb sb ans lives lives' sent hb other k =
     let body = hb ∙ body-of e.reply.sent (heard.Transfer t) payload f is sent in
     let one : length (transfers_sent e) ≡ 1 = rw is refl in
     let mute : has_windows e.reply.sent ≡ false = rw is refl in
@@ -231,7 +231,7 @@ windows-known ca cb n a b t = lag.exact sends hears IsFair Agree known-kept ca c
 pub room-there : (v after : View) (heard' : Option Performative) (op : Option Op) (reply : Reply) (f : Frame) (t : TransferBody) → Sending v after heard' op reply → frame_among reply.sent ≡ Some f → f.body ≡ Some (heard.Transfer t)
     → (is_mapped v.session ≡ true) × ((v.windows.remote_incoming == 0) ≡ false)
 room-there v after heard' op reply f t (silent q) sent is = absurd (cc (q, sent))
-room-there v after heard' op reply f t (transfers b payload deaf mapped room named one) sent is = (mapped, room)
+room-there v after heard' op reply f t (transfers b payload deaf mapped room named carries' one) sent is = (mapped, room)
 room-there v after heard' op reply f t (flows b n mapped open' begun numbers one) sent is = let k = body-of reply.sent (heard.Flow b) [] f one sent in absurd (cc (k, is))
 room-there v after heard' op reply f t (begins' b deaf is-begin unsent open' takes comes one) sent is = let k = body-of reply.sent (heard.Begin b) [] f one sent in absurd (cc (k, is))
 room-there v after heard' op reply f t (others p payload none w beside one) sent is =

@@ -130,7 +130,7 @@ OverAgree ca cb a b = is_over (session_at (live a)) ≡ true → is_over (sessio
 sender-over : (c : Config) (past : List Entry) (e : Entry) (f : Frame) → Sending (at c past) (next (at c past) e.step) (body_heard e.step) (own_in e.step) e.reply → at c (e ∷ past) ≡ next (at c past) e.step
     → frame_among e.reply.sent ≡ Some f → is_end f.body ≡ true → is_over (session_at (live (e ∷ past))) ≡ true
 sender-over c past e f (silent q) l sent is = absurd (cc (q, sent))
-sender-over c past e f (transfers t payload deaf mapped room named one) l sent is = let b = ap is_end (body-of e.reply.sent (heard.Transfer t) payload f one sent) in absurd (cc (b, is))
+sender-over c past e f (transfers t payload deaf mapped room named carries' one) l sent is = let b = ap is_end (body-of e.reply.sent (heard.Transfer t) payload f one sent) in absurd (cc (b, is))
 sender-over c past e f (flows w t mapped open' begun numbers one) l sent is = let b = ap is_end (body-of e.reply.sent (heard.Flow w) [] f one sent) in absurd (cc (b, is))
 sender-over c past e f (begins' w deaf is-begin' unsent open' takes comes one) l sent is = let b = ap is_end (body-of e.reply.sent (heard.Begin w) [] f one sent) in absurd (cc (b, is))
 sender-over c past e f (others p payload t w beside one) l sent is =

@@ -165,7 +165,7 @@ phases-pass : (ca cb : Config) (e : Entry) (a : List Entry) (e' : Entry) (b : Li
     → at ca (e ∷ a) ≡ next (at ca a) e.step → live (e ∷ a) ≡ e ∷ live a → IsReplayed cb b → frame_among e.reply.sent ≡ Some f → body_heard e'.step ≡ f.body
     → PhasesAgree ca cb a b → PhasesAgree ca cb (e ∷ a) (e' ∷ b)
 phases-pass ca cb e a e' b f (silent q) ans l go rb sent hb k = absurd (cc (q, sent))
-phases-pass ca cb e a e' b f (transfers t payload deaf mapped room named is) ans l go rb sent hb k =
+phases-pass ca cb e a e' b f (transfers t payload deaf mapped room named carries' is) ans l go rb sent hb k =
     let body = body-of e.reply.sent (heard.Transfer t) payload f is sent in
     let none : begin_in f.body ≡ None = ap begin_in body in
     let no' = no-begin (at ca a) e.step e.reply ans (λ w same. other-frame e.reply.sent w f sent none same) in

@@ -83,6 +83,13 @@ abbrev pub is_own_detach : Option Op → Bool
 is_own_detach (Some (Detach link error)) = true
 is_own_detach _ = false
 
+-- an operation that sends a transfer
+abbrev pub is_carrier : Option Op → Bool
+is_carrier (Some (Start link tag format settled payload more)) = true
+is_carrier (Some (Carry link payload more)) = true
+is_carrier (Some (Abort link)) = true
+is_carrier _ = false
+
 -- the disposition that an operation tells
 abbrev pub IsOf : Option Op → DispositionBody → Type 0
 IsOf (Some (Dispose role first last settled state)) d = (d.role ≡ role) × ((d.first ≡ first) × (((disposition_of d).last ≡ last) × ((disposition_of d).settled ≡ settled)))
@@ -108,7 +115,7 @@ pub record Beside (v after : View) (hears : Option Performative) (op : Option Op
 
 pub data Sending (v : View) (after : View) (hears : Option Performative) (op : Option Op) (reply : Reply) : Type 0 where
   silent : frame_among reply.sent ≡ None → Sending v after hears op reply
-  transfers : (t : TransferBody) (payload : List ℕ) → hears ≡ None → is_mapped v.session ≡ true → (v.windows.remote_incoming == 0) ≡ false → (is_start op ≡ false → t.delivery_id ≡ None)
+  transfers : (t : TransferBody) (payload : List ℕ) → hears ≡ None → is_mapped v.session ≡ true → (v.windows.remote_incoming == 0) ≡ false → (is_start op ≡ false → t.delivery_id ≡ None) → is_carrier op ≡ true
       → reply.sent ≡ sent_of (Some (heard.Transfer t)) payload ∷ [] → Sending v after hears op reply
   flows : (b : FlowBody) → transfer_in hears ≡ None → is_mapped v.session ≡ true → is_over after.session ≡ false → after.session.begin_heard ≡ true → TellsNumbers v after.windows b
       → reply.sent ≡ sent_of (Some (heard.Flow b)) [] ∷ [] → Sending v after hears op reply
@@ -184,16 +191,16 @@ own-sending v (Start link tag format settled payload more) reply h =
     let id = next_delivery v in
     let o = on-link-ok v link (λ l. sends v.max_frame (start_refusals v l tag settled payload) (start_body (handle_of l.ours) id tag format settled more) payload (given.Delivery id)) reply h in
     let s = sends-ok v.max_frame (start_refusals v o.on tag settled payload) (start_body (handle_of o.on.ours) id tag format settled more) payload (given.Delivery id) reply o.said in
-    transfers _ payload refl o.mapped s.none_holds.1.1.1.1.1.1.0 (λ h. absurd (cc (h))) (sent-by _ reply s.replies)
+    transfers _ payload refl o.mapped s.none_holds.1.1.1.1.1.1.0 (λ h. absurd (cc (h))) refl (sent-by _ reply s.replies)
 own-sending v (Carry link payload more) reply h =
     let o = on-link-ok v link (λ l. sends v.max_frame (carry_refusals v l payload) (later_body (handle_of l.ours) (flag more) None) payload given.Nothing) reply h in
     let s = sends-ok v.max_frame (carry_refusals v o.on payload) (later_body (handle_of o.on.ours) (flag more) None) payload given.Nothing reply o.said in
-    transfers _ payload refl o.mapped s.none_holds.1.1.1.0 (λ h. refl) (sent-by _ reply s.replies)
+    transfers _ payload refl o.mapped s.none_holds.1.1.1.0 (λ h. refl) refl (sent-by _ reply s.replies)
 own-sending v (Abort link) reply h =
     let ended = ended_by (sent_by_own v (own.Abort link)) No_event v in
     let o = on-link-ok v link (λ l. sends_ending v.max_frame (abort_refusals v l) (later_body (handle_of l.ours) None (Some true)) ended given.Nothing) reply h in
     let s = sends-ending-ok v.max_frame (abort_refusals v o.on) (later_body (handle_of o.on.ours) None (Some true)) ended given.Nothing reply o.said in
-    transfers _ [] refl o.mapped s.none_holds.1.1.1.0 (λ h. refl) (sent-by _ reply s.replies)
+    transfers _ [] refl o.mapped s.none_holds.1.1.1.0 (λ h. refl) refl (sent-by _ reply s.replies)
 own-sending v (Dispose role first last settled state) reply h = dispose-sending v role (record { first = first; last = last; settled = settled; state = state }) _ reply h
 own-sending v (Learn link) reply h =
     let say : LinkView → Result Reply Refusal = λ l. unless (not (same_role Sender l.role)) refusal.WrongRole (learn_first l.told) in

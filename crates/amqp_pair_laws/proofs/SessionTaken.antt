@@ -29,7 +29,7 @@ IsOfSession _ = ⊥
 session-taken : (ca cb : Config) (b : List Entry) (f : Frame) (x : Next ca cb b f) → Sending (at ca x.before) (next (at ca x.before) x.entry.step) (body_heard x.entry.step) (own_in x.entry.step) x.entry.reply
     → IsOfSession f.body → IsOk (heard_answer (at cb b) f)
 session-taken ca cb b f x (silent q) of = let sent = x.sent in absurd (cc (q, sent))
-session-taken ca cb b f x (transfers t payload deaf mapped room named is) of =
+session-taken ca cb b f x (transfers t payload deaf mapped room named carries' is) of =
     let body = body-of x.entry.reply.sent (heard.Transfer t) payload f is x.sent in
     absurd (subst (λ (o : Option Performative). IsOfSession o) body of)
 session-taken ca cb b f x (flows w t mapped open' begun numbers is) of =

@@ -8,3 +8,7 @@ pub mod Premise
 pub mod World
 -- frames that the other end takes
 pub mod Taken
+-- what passes from one application to the other
+pub mod Passing
+-- what is taken was sent
+pub mod Takes

@@ -5,6 +5,8 @@
 //! | clause | law |
 //! |---|---|
 //! | `taken` | the next frame is no violation for the end that hears it |
+//! | `sent` | what was taken on an attached link is a front of the deliveries that were sent complete on the link whose attach was heard |
+//! | `all` | and where the end that takes has heard all that the other sent, what it took and what waits are all of these |
 //! | `window` | a transfer that comes next finds the incoming window open |
 //! | `link` | and its link, on which the end that hears it receives |
 //! | `credit` | and, where it begins a delivery on a link that was not left, credit |
@@ -13,7 +15,7 @@
 //! | `ids` | and then it has heard first transfers of the same ids as the other sent, in the same order |
 //! | `expected` | and the id that it expects next, if any, is that of the other's next delivery |
 //!
-//! Not stated here, and not proved: what is taken and learnt.
+//! Not stated here, and not proved: what was taken on links that are left or gone, and what is learnt.
 #![tactic(auto)]
 
 pub mod laws;

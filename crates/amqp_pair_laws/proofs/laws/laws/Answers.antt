@@ -1,3 +1,4 @@
+use Rattle.amqp_pair_laws.proofs.TakenFront.{takes-all, takes-sent}
 use Rattle.amqp_pair_laws.proofs.AllTaken.{next-taken}
 use Rattle.amqp_pair_laws.proofs.Opens.{window-is-open}
 use Rattle.amqp_pair_laws.proofs.Phases.{phases-known}
@@ -9,6 +10,12 @@ use Rattle.amqp_pair_laws.proofs.laws.laws.Goals as goal
 
 pub returns-clause-taken : goal.returns-clause-taken
 returns-clause-taken t = λ ca cb n a b f w waits. next-taken ca cb n a b f w waits
+
+pub returns-clause-sent : goal.returns-clause-sent
+returns-clause-sent t = λ ca cb n a b name y w found attached. takes-sent ca cb n a b name y w found attached
+
+pub returns-clause-all : goal.returns-clause-all
+returns-clause-all t = λ ca cb n a b name x y w lives fx ours unleft fy unleft'. takes-all ca cb n a b name x y w lives fx ours unleft fy unleft'
 
 pub returns-clause-window : goal.returns-clause-window
 returns-clause-window t = λ ca cb n a b f b' w waits is lives. window-is-open ca cb n a b f b' w waits is lives
