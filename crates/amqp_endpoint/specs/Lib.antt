@@ -16,3 +16,4 @@ pub mod Doing
 pub mod Written
 pub mod Arriving
 pub mod Needing
+pub mod Left

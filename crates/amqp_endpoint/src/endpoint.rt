@@ -25,6 +25,7 @@ mod end;
 mod flow;
 mod grant;
 mod learn;
+mod left;
 mod offer;
 mod onlink;
 mod opened;

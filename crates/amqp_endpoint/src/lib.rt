@@ -36,4 +36,5 @@ pub mod plan;
 mod sending;
 mod stores;
 
+pub use amqp_links::left;
 pub use amqp_rules::{config, op, refusal, reply, status, violation};
