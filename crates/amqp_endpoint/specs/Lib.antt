@@ -11,3 +11,4 @@ pub mod Doing
 pub mod Written
 pub mod Arriving
 pub mod Drafting
+pub mod Left

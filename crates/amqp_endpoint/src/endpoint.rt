@@ -26,6 +26,7 @@ mod drained;
 mod end;
 mod grant;
 mod learn;
+mod left;
 mod offer;
 mod onlink;
 mod opened;

@@ -22,13 +22,11 @@
 //! | `plan` | a step as it is planned |
 //! | `stores` | the links and the unsettled deliveries, and what a step makes of both |
 //! | `sending` | frames as they are sent |
-//! | `copying` | copies of what may be left out |
 //! | `cutting` | octets of short frames, cut out of shared blocks |
 //! | `done` | what a step gives that was done |
 //! | `endpoint` | the endpoint, and one module for each kind of step |
 #![tactic(auto)]
 
-mod copying;
 mod cutting;
 pub mod done;
 pub mod endpoint;
@@ -36,4 +34,5 @@ pub mod plan;
 mod sending;
 mod stores;
 
+pub use amqp_links::left;
 pub use amqp_rules::{config, op, refusal, reply, status, violation};

@@ -12,7 +12,6 @@ ghost use Rattle.amqp_flow.specs.Windows.{windows_received};
 ghost use Rattle.amqp_links.specs.Marks.{with_marks};
 ghost use Rattle.amqp_rules.specs.Deliveries.{item_of, transferred};
 
-use crate::copying::copy_state;
 use crate::done::{Done, quiet_done};
 use crate::endpoint::Endpoint;
 use crate::endpoint::start::credit_begun;
@@ -24,6 +23,7 @@ use amqp_frames::{DeliveryState, Role, TransferBody};
 use amqp_links::arrival::Piece;
 use amqp_links::link::Link;
 use amqp_links::marks::Marks;
+use amqp_rules::copying::copy_state;
 use amqp_types::{Items, Tag};
 use bytes::Bytes;
 use std::alloc::{AllocError, Global};

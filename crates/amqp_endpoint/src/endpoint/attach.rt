@@ -10,7 +10,6 @@ ghost use Rattle.amqp_rules.specs.View.{is_sender};
 ghost use Rattle.amqp_endpoint.specs.Attaching.{IsMeeting, Meets, attached_fate, wanted_of};
 ghost use Rattle.amqp_endpoint.specs.Plan.{Plans};
 
-use crate::copying::copy_terminus;
 use crate::endpoint::Endpoint;
 use crate::plan::Plan;
 use crate::refusal::Refusal;
@@ -22,6 +21,7 @@ use amqp_links::credit::Credit;
 use amqp_links::end::End;
 use amqp_links::fate::Fate;
 use amqp_links::marks::Marks;
+use amqp_rules::copying::copy_value;
 use amqp_types::{Boxed, Text, Value};
 use bytes::Bytes;
 use std::alloc::{AllocError, Global};
@@ -103,8 +103,8 @@ fn attach_body(
     ensures { IfOk result (λ b. b ≡ own_attach (wanted_of wanted.now) handle) }
 {
     let name = wanted.name.clone()?;
-    let source = copy_terminus(wanted.source)?;
-    let target = copy_terminus(wanted.target)?;
+    let source = copy_value(wanted.source)?;
+    let target = copy_value(wanted.target)?;
     Boxed::new(
         alloc,
         AttachBody {

@@ -5,7 +5,6 @@ ghost use Rattle.amqp_rules.specs.Sending.{frame_refused};
 ghost use Rattle.amqp_endpoint.specs.Taking.{IsLeft};
 ghost use Rattle.amqp_endpoint.specs.Plan.{Plans};
 
-use crate::copying::copy_error;
 use crate::endpoint::Endpoint;
 use crate::plan::Plan;
 use crate::refusal::Refusal;
@@ -14,6 +13,7 @@ use crate::sending::{measured_refusal, write};
 use amqp_deliveries::Change;
 use amqp_frames::{AmqpError, DetachBody, Performative, measure_detach};
 use amqp_links::fate::Fate;
+use amqp_rules::copying::copy_error;
 use amqp_types::Boxed;
 use bytes::Bytes;
 

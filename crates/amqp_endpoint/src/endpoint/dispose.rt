@@ -13,7 +13,6 @@ ghost use Rattle.amqp_rules.specs.Refusing.{first_refusal};
 ghost use Rattle.amqp_rules.specs.Sending.{frame_refused};
 ghost use Rattle.amqp_endpoint.specs.Plan.{Plans};
 
-use crate::copying::copy_state;
 use crate::endpoint::Endpoint;
 use crate::endpoint::telling::flag;
 use crate::plan::Plan;
@@ -24,6 +23,7 @@ use amqp_deliveries::{Change, Disposition, Held, Span};
 use amqp_flow::serial::Serial;
 use amqp_frames::{DeliveryState, DispositionBody, Performative, Role, measure_disposition};
 use amqp_links::fate::Fate;
+use amqp_rules::copying::copy_state;
 use bytes::Bytes;
 use std::alloc::AllocError;
 

@@ -4,7 +4,6 @@ ghost use Rattle.std.specs.Result.{result_err};
 ghost use Rattle.amqp_rules.specs.End.{end_answer, next_end};
 ghost use Rattle.amqp_endpoint.specs.Plan.{Plans};
 
-use crate::copying::copy_error;
 use crate::endpoint::Endpoint;
 use crate::plan::{Plan, plan_sending};
 use crate::refusal::Refusal;
@@ -13,6 +12,7 @@ use crate::sending::measured_refusal;
 use amqp_deliveries::Change;
 use amqp_frames::{AmqpError, EndBody, Performative, measure_end};
 use amqp_links::fate::Fate;
+use amqp_rules::copying::copy_error;
 use amqp_types::Boxed;
 
 impl Endpoint {

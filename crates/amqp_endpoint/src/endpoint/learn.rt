@@ -4,7 +4,6 @@ ghost use Rattle.amqp_rules.specs.Learn.{learn_answer, learned_of, next_learn};
 ghost use Rattle.amqp_endpoint.specs.Doing.{Does, DoesOnce, Foretells, learn_plan};
 ghost use Rattle.amqp_endpoint.specs.Plan.{Checks, Makes};
 
-use crate::copying::copy_state;
 use crate::done::{Done, quiet_done, quiet_reply};
 use crate::endpoint::Endpoint;
 use crate::refusal::Refusal;
@@ -12,6 +11,7 @@ use crate::reply::{Given, Learned, Reply};
 use amqp_deliveries::Telling;
 use amqp_frames::Role;
 use amqp_links::credit::same_role;
+use amqp_rules::copying::copy_state;
 use amqp_types::Boxed;
 use bytes::Bytes;
 use std::alloc::AllocError;

@@ -7,7 +7,6 @@ ghost use Rattle.amqp_rules.specs.Refusing.{no_memory};
 ghost use Rattle.amqp_rules.specs.View.{opposite};
 ghost use Rattle.amqp_endpoint.specs.Plan.{Plans};
 
-use crate::copying::copy_state;
 use crate::endpoint::Endpoint;
 use crate::endpoint::dispose::is_backwards;
 use crate::plan::{Plan, plan_quiet};
@@ -17,6 +16,7 @@ use amqp_deliveries::{Change, Disposition};
 use amqp_frames::DispositionBody;
 use amqp_links::credit::opposite;
 use amqp_links::fate::Fate;
+use amqp_rules::copying::copy_state;
 use std::alloc::AllocError;
 
 /// What it says. An absent last is the first, an absent settled is false.
