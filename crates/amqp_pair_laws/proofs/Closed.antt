@@ -161,7 +161,7 @@ closed-ahead ca cb n e a b w m deaf k lives u there =
     by (inl s) lb = closed-stays cb e b lb u s (k lb)
     by (inr is) lb = absurd (own-begins (at cb b) e.step u deaf is)
 
-wire-small : (n : ℕ) → wire n < 2 ^ 32
+pub wire-small : (n : ℕ) → wire n < 2 ^ 32
 wire-small n = omega arith
 
 pub heard-body' : (v : View) (step : Step) (f : Frame) → frame_in step ≡ Some f → received_by v step ≡ received_by_body v f.body
@@ -207,7 +207,7 @@ closed-known ca cb n a b t = lag.exact sends hears IsFair ClosedAgree closed-kep
 
 -- # A disposition on its way back
 
-disposed-by : (v after : View) (heard' : Option Performative) (op : Option Op) (reply : Reply) (g : Frame) (d : DispositionBody) → Sending v after heard' op reply → frame_among reply.sent ≡ Some g → g.body ≡ Some (heard.Disposition d) → IsOf op d
+pub disposed-by : (v after : View) (heard' : Option Performative) (op : Option Op) (reply : Reply) (g : Frame) (d : DispositionBody) → Sending v after heard' op reply → frame_among reply.sent ≡ Some g → g.body ≡ Some (heard.Disposition d) → IsOf op d
 disposed-by v after heard' op reply g d (silent q) sent body = absurd (cc (q, sent))
 disposed-by v after heard' op reply g d (transfers t payload deaf mapped room named carries' is) sent body = let k = body-of reply.sent (heard.Transfer t) payload g is sent in absurd (cc (k, body))
 disposed-by v after heard' op reply g d (flows w t mapped open' begun numbers is) sent body = let k = body-of reply.sent (heard.Flow w) [] g is sent in absurd (cc (k, body))
@@ -216,7 +216,7 @@ disposed-by v after heard' op reply g d (others p payload t w beside is) sent bo
 
 outside-of : (step : Step) (d : DispositionBody) (id : ℕ) → IsOf (own_in step) d → d.role ≡ Receiver → (disposition_of d).settled ≡ true → IsOutside step id → is_inside id (disposition_of d).first (disposition_of d).last ≡ false
 outside-of (Own (own.Dispose role first last settled state)) d id of r s outside =
-    ap (λ n. is_inside id n (disposition_of d).last) of.1.0 ∙ ap (λ n. is_inside id first n) of.1.1.0 ∙ by role settled of.0 of.1.1.1 outside
+    ap (λ n. is_inside id n (disposition_of d).last) of.1.0 ∙ ap (λ n. is_inside id first n) of.1.1.0 ∙ by role settled of.0 of.1.1.1.0 outside
   where
     by : (role : Role) (settled : Bool) → d.role ≡ role → (disposition_of d).settled ≡ settled → IsOutside (Own (own.Dispose role first last settled state)) id → is_inside id first last ≡ false
     by Receiver true e f h = h

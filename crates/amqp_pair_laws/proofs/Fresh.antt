@@ -133,7 +133,7 @@ abbrev pub AllOutside : List Entry → ℕ → Type 0
 AllOutside [] id = Unit {0}
 AllOutside (e ∷ past) id = IsOutside e.step id × AllOutside past id
 
-among-earlier : (o : Option ℕ) (ids : List ℕ) (id : ℕ) → is_among (cons_option o ids) id ≡ false → is_among ids id ≡ false
+pub among-earlier : (o : Option ℕ) (ids : List ℕ) (id : ℕ) → is_among (cons_option o ids) id ≡ false → is_among ids id ≡ false
 among-earlier None ids id h = h
 among-earlier (Some j) ids id h = by (j == id) h
   where

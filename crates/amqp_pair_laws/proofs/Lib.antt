@@ -56,3 +56,5 @@ pub mod Unused
 pub mod TakenKnown
 pub mod TakenPass
 pub mod TakenFront
+-- What was heard of deliveries was said of them.
+pub mod SaidKnown

@@ -2,7 +2,8 @@
 use Rattle.std.proofs.Common.{◌≡◌, ◌⊎◌, inl, inr, ◌++◌, Bool, true, false, not, Option, Some, None, List, [], ◌∷◌, refl, sym, ap, subst, filter, map}
 use Rattle.amqp_events.specs.Event.{Event, Item}
 use Rattle.amqp_events.specs.Told.{SentItem, added_sent, next_sent, next_sent_held}
-use Rattle.amqp_events.specs.Unsettled.{added, begins, ends, next_held, said_to}
+use Rattle.amqp_events.specs.Since.{or_earlier}
+use Rattle.amqp_events.specs.Unsettled.{added, begins, ends, next_held, said_to, says_remote}
 use Rattle.amqp_rules.proofs.Listed.{by-bool}
 
 abbrev pub In : {A : Type 0} → A → List A → Type 0
@@ -117,29 +118,30 @@ sent-begun e items i is = in-second (record { item = i; told = false }) (map (ne
     by (Some j) h = let one : j ≡ i = cc h in inl (rw one refl)
 
 -- one of ours that was there before
-pub record Was (items : List SentItem) (s : SentItem) : Type 0 where
+pub record Was (e : Event) (items : List SentItem) (s : SentItem) : Type 0 where
   pub before : SentItem
   pub there : In before items
   pub same : IsSame before.item s.item
+  pub remote : s.item.remote ≡ or_earlier (says_remote before.item e) before.item.remote
 
-was-more : (t : SentItem) (items : List SentItem) (s : SentItem) → Was items s → Was (t ∷ items) s
-was-more t items s w = record { before = w.before; there = inr w.there; same = w.same }
+was-more : (e : Event) (t : SentItem) (items : List SentItem) (s : SentItem) → Was e items s → Was e (t ∷ items) s
+was-more e t items s w = record { before = w.before; there = inr w.there; same = w.same; remote = w.remote }
 
-sent-was : (e : Event) (items : List SentItem) (s : SentItem) → In s (map (next_sent e) (filter (λ s. not (ends e s.item)) items)) → Was items s
+sent-was : (e : Event) (items : List SentItem) (s : SentItem) → In s (map (next_sent e) (filter (λ s. not (ends e s.item)) items)) → Was e items s
 sent-was e [] s h = absurd h
 sent-was e (t ∷ items) s h =
     by-bool (not (ends e t.item))
     (λ (b : not (ends e t.item) ≡ true).
     let k : (s ≡ next_sent e t) ⊎ In s (map (next_sent e) (filter (λ s. not (ends e s.item)) items)) = (let k = rw b at h in k) in
     by (sent-was e items s) k)
-    (λ (b : not (ends e t.item) ≡ false). let k = rw b at h in was-more t items s (sent-was e items s k))
+    (λ (b : not (ends e t.item) ≡ false). let k = rw b at h in was-more e t items s (sent-was e items s k))
   where
-    by : (In s (map (next_sent e) (filter (λ s. not (ends e s.item)) items)) → Was items s) → (s ≡ next_sent e t) ⊎ In s (map (next_sent e) (filter (λ s. not (ends e s.item)) items)) → Was (t ∷ items) s
-    by later (inl is) = record { before = t; there = inl refl; same = subst (λ (s : SentItem). IsSame t.item s.item) (sym is) (record { id = refl; link = refl; tag = refl }) }
-    by later (inr rest) = was-more t items s (later rest)
+    by : (In s (map (next_sent e) (filter (λ s. not (ends e s.item)) items)) → Was e items s) → (s ≡ next_sent e t) ⊎ In s (map (next_sent e) (filter (λ s. not (ends e s.item)) items)) → Was e (t ∷ items) s
+    by later (inl is) = record { before = t; there = inl refl; same = subst (λ (s : SentItem). IsSame t.item s.item) (sym is) (record { id = refl; link = refl; tag = refl }); remote = ap (λ (s : SentItem). s.item.remote) is }
+    by later (inr rest) = was-more e t items s (later rest)
 
 -- one of ours was there before, or began
-pub sent-before : (e : Event) (items : List SentItem) (s : SentItem) → In s (next_sent_held e items) → Was items s ⊎ (begins e ≡ Some s.item)
+pub sent-before : (e : Event) (items : List SentItem) (s : SentItem) → In s (next_sent_held e items) → Was e items s ⊎ (begins e ≡ Some s.item)
 sent-before e items s h = by (in-append s (map (next_sent e) (filter (λ s. not (ends e s.item)) items)) (added_sent (begins e)) h)
   where
     now : (o : Option Item) → In s (added_sent o) → o ≡ Some s.item
@@ -147,12 +149,18 @@ sent-before e items s h = by (in-append s (map (next_sent e) (filter (λ s. not 
     now (Some i) (inl is) = ap (λ (t : SentItem). Some t.item) (sym is)
     now (Some i) (inr h) = absurd h
 
-    by : In s (map (next_sent e) (filter (λ s. not (ends e s.item)) items)) ⊎ In s (added_sent (begins e)) → Was items s ⊎ (begins e ≡ Some s.item)
+    by : In s (map (next_sent e) (filter (λ s. not (ends e s.item)) items)) ⊎ In s (added_sent (begins e)) → Was e items s ⊎ (begins e ≡ Some s.item)
     by (inl k) = inl (sent-was e items s k)
     by (inr k) = inr (now (begins e) k)
 
-pub was-there : (items : List SentItem) (s : SentItem) → In s items → Was items s
-was-there items s h = record { before = s; there = h; same = record { id = refl; link = refl; tag = refl } }
+pub was-there : (e : Event) (items : List SentItem) (s : SentItem) → says_remote s.item e ≡ None → In s items → Was e items s
+was-there e items s none h =
+    record {
+      before = s;
+      there = h;
+      same = record { id = refl; link = refl; tag = refl };
+      remote = ap (λ o. or_earlier o s.item.remote) (sym none);
+    }
 
 -- without an event
 pub stays-there : (s : SentItem) (items : List SentItem) → In s items → Stays s items

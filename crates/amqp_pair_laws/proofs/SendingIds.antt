@@ -74,7 +74,7 @@ held-serial c (e ∷ past) fair lives s there =
     let h = held-step (at c past) e.step e.reply fair.1.answers lp in
     by (held-serial c past fair.0 lp) (h.ours s (subst (λ (v : View). In s v.sent) o.goes_on there))
   where
-    by : HeldSerial c past → Was (at c past).sent s ⊎ (begins (sent_by (at c past) e.step) ≡ Some s.item) → IsSerial c (started (live (e ∷ past))) s.item.id
+    by : HeldSerial c past → Was (sent_by (at c past) e.step) (at c past).sent s ⊎ (begins (sent_by (at c past) e.step) ≡ Some s.item) → IsSerial c (started (live (e ∷ past))) s.item.id
     by before (inl w) = serial-later c e past s.item.id lives (subst (λ (id : ℕ). IsSerial c (started (live past)) id) (sym w.same.id) (before w.before w.there))
     by before (inr is) =
         let b = begins-ours (at c past) e.step s.item is in
@@ -97,7 +97,7 @@ ours-later c e past l x b d fair lives same number k =
       on = λ s there is. by s (h.ours s (subst (λ (v : View). In s v.sent) o.goes_on there)) (is ∙ same);
     }
   where
-    by : (s : SentItem) → Was (at c past).sent s ⊎ (begins (sent_by (at c past) e.step) ≡ Some s.item) → s.item.id ≡ b.id → s.item.link ≡ x.number
+    by : (s : SentItem) → Was (sent_by (at c past) e.step) (at c past).sent s ⊎ (begins (sent_by (at c past) e.step) ≡ Some s.item) → s.item.id ≡ b.id → s.item.link ≡ x.number
     by s (inl w) is = w.same.link ∙ k.on w.before w.there (sym w.same.id ∙ is) ∙ sym number
     by s (inr now) is =
         let y = begins-ours (at c past) e.step s.item now in
@@ -115,7 +115,7 @@ ours-now c e past f l x d fair lives is sent y one id number =
       on = λ s there same. by s lp (h.ours s (subst (λ (v : View). In s v.sent) o.goes_on there)) (same ∙ id);
     }
   where
-    by : (s : SentItem) → Lives past → Was (at c past).sent s ⊎ (begins (sent_by (at c past) e.step) ≡ Some s.item) → s.item.id ≡ next_delivery (at c past) → s.item.link ≡ x.number
+    by : (s : SentItem) → Lives past → Was (sent_by (at c past) e.step) (at c past).sent s ⊎ (begins (sent_by (at c past) e.step) ≡ Some s.item) → s.item.id ≡ next_delivery (at c past) → s.item.link ≡ x.number
     by s lp (inl w) same =
         absurd (serial-apart c (started (live past)) w.before.item.id (started-few c past fair.0) (held-serial c past fair.0 lp w.before w.there) (sym w.same.id ∙ same))
     by s lp (inr now) same =

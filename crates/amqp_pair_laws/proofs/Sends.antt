@@ -92,7 +92,7 @@ is_carrier _ = false
 
 -- the disposition that an operation tells
 abbrev pub IsOf : Option Op → DispositionBody → Type 0
-IsOf (Some (Dispose role first last settled state)) d = (d.role ≡ role) × ((d.first ≡ first) × (((disposition_of d).last ≡ last) × ((disposition_of d).settled ≡ settled)))
+IsOf (Some (Dispose role first last settled state)) d = (d.role ≡ role) × ((d.first ≡ first) × (((disposition_of d).last ≡ last) × (((disposition_of d).settled ≡ settled) × (d.state ≡ state))))
 IsOf _ d = ⊥
 
 -- a body of a session's frame
@@ -168,7 +168,7 @@ said-of : (role : Role) (d : Disposition) (e : DispositionBody) → dispose_body
 said-of role d e h =
     let body : DispositionBody = record { role = role; first = d.first; last = Some d.last; settled = flag d.settled; state = d.state; batchable = None } in
     let same : body ≡ e = cc h in
-    subst (λ (e : DispositionBody). IsOf (Some (own.Dispose role d.first d.last d.settled d.state)) e) same (refl, (refl, (refl, back d.settled)))
+    subst (λ (e : DispositionBody). IsOf (Some (own.Dispose role d.first d.last d.settled d.state)) e) same (refl, (refl, (refl, (back d.settled, refl))))
   where
     back : (b : Bool) → unwrap_or (flag b) false ≡ b
     back true = refl

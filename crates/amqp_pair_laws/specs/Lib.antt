@@ -12,3 +12,5 @@ pub mod Taken
 pub mod Passing
 -- what is taken was sent
 pub mod Takes
+-- the states that were said and heard
+pub mod States

@@ -7,6 +7,7 @@
 //! | `taken` | the next frame is no violation for the end that hears it |
 //! | `sent` | what was taken on an attached link is a front of the deliveries that were sent complete on the link whose attach was heard |
 //! | `all` | and where the end that takes has heard all that the other sent, what it took and what waits are all of these |
+//! | `states` | and of each unsettled delivery that an end sent, the last state that it heard is then the last one that the other end gave |
 //! | `window` | a transfer that comes next finds the incoming window open |
 //! | `link` | and its link, on which the end that hears it receives |
 //! | `credit` | and, where it begins a delivery on a link that was not left, credit |

@@ -1,3 +1,4 @@
+use Rattle.amqp_pair_laws.proofs.SaidKnown.{hears-said}
 use Rattle.amqp_pair_laws.proofs.TakenFront.{takes-all, takes-sent}
 use Rattle.amqp_pair_laws.proofs.AllTaken.{next-taken}
 use Rattle.amqp_pair_laws.proofs.Opens.{window-is-open}
@@ -16,6 +17,9 @@ returns-clause-sent t = λ ca cb n a b name y w found attached. takes-sent ca cb
 
 pub returns-clause-all : goal.returns-clause-all
 returns-clause-all t = λ ca cb n a b name x y w lives fx ours unleft fy unleft'. takes-all ca cb n a b name x y w lives fx ours unleft fy unleft'
+
+pub returns-clause-states : goal.returns-clause-states
+returns-clause-states t = λ ca cb n a b w lives. hears-said ca cb n a b w lives
 
 pub returns-clause-window : goal.returns-clause-window
 returns-clause-window t = λ ca cb n a b f b' w waits is lives. window-is-open ca cb n a b f b' w waits is lives
