@@ -1,6 +1,7 @@
 //! What no clause says: octets of known frames, and each call once. A frame is let go in the helper that makes it: a test holds octets and answers alone.
 
 use amqp_frames::*;
+use amqp_halves::{Found, find_performative};
 use amqp_types::{Boxed, Items, Text, Value};
 use bytes::Bytes;
 use std::alloc::{AllocError, Global};
@@ -496,6 +497,40 @@ fn is_judged_where_it_is_cut(alloc: Global, at_the_cut: [u8; 2], is_bad: bool) -
 fn a_long_performative_is_judged_where_it_is_cut(rt: HostRuntime) {
     assert!(rt; is_judged_where_it_is_cut(rt.alloc(), [0xc3, 0xa9], false));
     assert!(rt; is_judged_where_it_is_cut(rt.alloc(), [0xc3, 0x61], true));
+}
+
+/// Whether the performative in front of the octets is found wherever they are cut.
+fn is_found_anywhere(octets: &[u8], used: usize, is_transfer: bool) -> bool {
+    for at in 0..=octets.len() {
+        let (front, back) = octets.split_at(at.min(octets.len()));
+        if find_performative(front, back) != Some(Found { used, is_transfer }) {
+            return false;
+        }
+    }
+    true
+}
+
+/// The same of the body of the frame that these octets are; a transfer has seven octets of payload.
+fn is_body_found(frame: &[u8]) -> bool {
+    let (_, body) = frame.split_at(frame.len().min(8));
+    let is_transfer = body.get(2) == Some(&0x14);
+    let payload = if is_transfer { 7 } else { 0 };
+    body.is_empty() || is_found_anywhere(body, body.len().saturating_sub(payload), is_transfer)
+}
+
+/// Each performative with all its fields; an open whose container-id has a character of two octets; and one whose container-id is cut short.
+#[test]
+fn a_performative_in_two_places_is_found(rt: HostRuntime) -> Result<(), Fail> {
+    let alloc = rt.alloc();
+    for text in EACH {
+        let frame = octets(alloc, text)?;
+        assert!(rt; is_body_found(frame.as_slice()));
+    }
+    let open = octets(alloc, "005310c00701 a10461c3a962")?;
+    assert!(rt; is_found_anywhere(open.as_slice(), 12, false));
+    let short = octets(alloc, "005310c00701 a10461c3a9")?;
+    assert!(rt; find_performative(&[], short.as_slice()).is_none());
+    Ok(())
 }
 
 /// What is written for the frame that these octets are in pieces.
