@@ -62,7 +62,6 @@ where
     let beginning = Beginning {
         role: Role::Receiver,
         credit: options.credit,
-        keep: options.keep,
     };
     let reader = Reader {
         alloc,

@@ -64,7 +64,6 @@ where
     let beginning = Beginning {
         role: Role::Sender,
         credit: 0,
-        keep: messages.keep(),
     };
     let reader = Reader {
         alloc,
@@ -76,7 +75,7 @@ where
     let writer = Writer { alloc, end, stream };
     let hand = Hand {
         pass,
-        receipts: messages.receipts(alloc),
+        receipts: Vec::new(alloc),
     };
     let ((reading, read), ((writer, written), (hand, sent))) = run_threads(
         rt, &shared, reader, writer, hand, messages, &gate,
@@ -86,7 +85,7 @@ where
     let done = sent.map_err(PairFault::Send)?;
     let Hand { pass, receipts } = hand;
     let closed = end_sender(alloc, shared, reading, pass, writer)?;
-    let stand = messages.stand(closed.conn.logged(), &receipts);
+    let stand = messages.stand(closed.conn.logged(), receipts.as_slice());
     if !stand.map_err(PairFault::Send)? {
         return Err(PairFault::Receipt);
     }

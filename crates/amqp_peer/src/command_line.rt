@@ -95,8 +95,7 @@ fn pair<'a>(alloc: Global) -> Result<Command<'a>, AllocError> {
             "The first transfer id and delivery id",
             0,
             u32::MAX,
-        )?)?
-        .arg(options::keep(alloc)?)
+        )?)
 }
 
 /// An option that has to be there: a number between these.
@@ -124,7 +123,6 @@ fn pair_options(options: &ArgMatches<'_>) -> Options {
         credit: options.get_one::<u32>("credit").unwrap_or(1),
         size: options.get_one::<u32>("size").unwrap_or(0),
         first_id: options.get_one::<u32>("first-id").unwrap_or(0),
-        keep: options.get_one::<u32>("keep"),
     }
 }
 

@@ -145,7 +145,6 @@ fn pair_settings(rt: HostRuntime) -> Result<(), Fail> {
         credit: 1000,
         size: 0,
         first_id: 4294967295,
-        keep: None,
     };
     assert_eq!(rt; request, Request::Pair(options));
     Ok(())
