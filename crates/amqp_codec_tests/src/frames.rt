@@ -14,7 +14,7 @@ const T: &str = "0000001b0200000000 5314c0070443 43a00100 43005375a0026869";
 
 /// A frame of each performative with all its fields, and of each delivery state; those that own memory too. A flow without properties, and an
 /// empty frame.
-const EACH: [&str; 16] = [
+pub(crate) const EACH: [&str; 16] = [
     T,
     "0000003702000000005310c02a0aa10161a10162700001000060000070000003e8a302656ea302656ea30178a30179c10602a301615201",
     "0000002c02000000005311c01f0860000043700000080070000008005207a30178a30179c10602a301615201",
@@ -34,7 +34,7 @@ const EACH: [&str; 16] = [
 ];
 
 /// The octets that the text writes, past its spaces; as many as fit.
-fn octets(alloc: Global, text: &str) -> Result<Vec<u8>, AllocError> {
+pub(crate) fn octets(alloc: Global, text: &str) -> Result<Vec<u8>, AllocError> {
     let mut octets = Vec::new(alloc);
     let mut high: Option<u8> = None;
     for letter in text.as_bytes() {

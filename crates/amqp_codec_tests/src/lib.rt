@@ -10,6 +10,7 @@
 //! | `frames` | frames written and read, however they are cut |
 //! | `deliveries` | unsettled deliveries, and deliveries that are cut over transfers |
 //! | `messages` | messages, their sections and fields; the ends of a link |
+//! | `growth` | each growth of memory that these calls ask for, refused in turn |
 #![tactic(auto)]
 
 #[cfg(test)]
@@ -20,6 +21,8 @@ mod deliveries;
 mod flow;
 #[cfg(test)]
 mod frames;
+#[cfg(test)]
+mod growth;
 #[cfg(test)]
 mod messages;
 #[cfg(test)]

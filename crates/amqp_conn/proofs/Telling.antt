@@ -7,7 +7,7 @@ use Rattle.amqp_laws.specs.declared.entry.Entry.{Entry}
 use Rattle.amqp_conn.specs.declared.fed.Fed.{Fed}
 use Rattle.amqp_conn.specs.declared.fault.ConnFault.{ConnFault}
 use Rattle.amqp_conn.specs.declared.fault.ConnFault.TheVariants as fault
-use Rattle.amqp_conn.specs.Connection.{Core, Connection}
+use Rattle.amqp_conn.specs.Connection.{Connection}
 use Rattle.amqp_conn.specs.Treating.{ending}
 use Rattle.amqp_conn.specs.Feeding.{AddsEntry, Feeds}
 use Rattle.amqp_conn.specs.Pumping.{AddsAll, Adds, given_by, Tells}

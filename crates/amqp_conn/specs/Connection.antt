@@ -13,6 +13,8 @@ pub record Core : Type 0 where
   pub config : Config
   pub phase : Phase
   pub log : Log
+  -- what the links of an ended connection have was put behind what links left before
+  pub gathered : Bool
 
 pub record Connection : Type 0 where
   pub core : Core

@@ -8,3 +8,4 @@ pub mod Pumping
 pub mod Turning
 pub mod Writes
 pub mod Numbers
+pub mod Leaving

@@ -1,5 +1,5 @@
 -- What a connection itself sends (part 2, 2.2, 2.4.1 and 2.4.3): a header, an open and a close.
-use Rattle.std.specs.Prelude.{ℕ, Option, None, Some, List, [], ◌∷◌, codes}
+use Rattle.std.specs.Prelude.{ℕ, false, Option, None, Some, List, [], ◌∷◌, codes}
 use Rattle.amqp_performatives.specs.declared.error.AmqpError.{AmqpError}
 use Rattle.amqp_performatives.specs.declared.bodies.OpenBody.{OpenBody}
 use Rattle.amqp_performatives.specs.declared.performative.Performative.TheVariants.{Open, Close}
@@ -75,4 +75,4 @@ session_of c = record { first_id = c.first_id; window = c.window; journal_limit 
 
 -- at first: our header goes out
 abbrev pub new_core : Config → Core
-new_core s = sending header (record { config = s; phase = phase.AwaitHeader; log = new_log (session_of s) })
+new_core s = sending header (record { config = s; phase = phase.AwaitHeader; log = new_log (session_of s); gathered = false })

@@ -1,9 +1,10 @@
 //! A connection, as a program drives it (part 2, 2.2 and 2.4).
-ghost use Rattle.std.specs.Prelude.{◌≡◌, ◌≢◌, ◌≤◌, [], Some, None, IfSome, MatchResult, IsTrue, slice_get, length, drop};
+ghost use Rattle.std.specs.Prelude.{◌≡◌, ◌≢◌, ◌≤◌, [], Some, None, IfSome, IfOk, OnOk, OnErr, MatchResult, IsTrue, slice_get, length, drop};
 ghost use Rattle.amqp_journal.specs.Units.{units, waiting};
 ghost use Rattle.amqp_conn.specs.Connection.{IsQuiet, connection, reads_frames, in_phase};
 ghost use Rattle.amqp_conn.specs.Octets.{new_core};
 ghost use Rattle.amqp_conn.specs.Feeding.{Feeds, MovesOn};
+ghost use Rattle.amqp_conn.specs.Leaving.{Gives, GivesOf, left_of, but_left};
 ghost use Rattle.amqp_conn.specs.Calling.{IsFit, IsStartFault, Does, Closes, popped, forgotten};
 
 use crate::config::Config;
@@ -14,7 +15,8 @@ use crate::header::{fill, read_header};
 use crate::phase::Phase;
 use crate::refused::{CloseRefusal, StartFault};
 use crate::treating::{Machine, nothing};
-use amqp_frames::{AmqpError, Framer};
+use amqp_frames::{AmqpError, Framer, Role};
+use amqp_journal::left::Left;
 use amqp_journal::logged::Logged;
 use amqp_journal::unit::Unit;
 use amqp_rules::op::Op;
@@ -22,7 +24,7 @@ use amqp_rules::refusal::Refusal;
 use amqp_rules::reply::Given;
 use amqp_types::Boxed;
 use bytes::Bytes;
-use std::alloc::Global;
+use std::alloc::{AllocError, Global};
 use std::marker::Model;
 
 /// One end of a connection. It reads octets as they come and puts out units; it has no socket, no clock and no thread.
@@ -107,6 +109,47 @@ impl Conn {
         ensures none { result ≡ None → (waiting self.old.core.log ≡ []) × (self.new ≡ self.old) }
     {
         self.machine.pop_unit()
+    }
+
+    /// The first of what is left, in order: what links had ready and told when a detach or an end made them gone, and, once the phase is `Closed`, what
+    /// the links had then. Each is given once. It works in every phase, is no step, and changes nothing else that a reader shows.
+    ///
+    /// # Errors
+    ///
+    /// Want of memory, of the first call after the connection has ended alone; nothing has changed.
+    pub fn pop_left(&mut self) -> Result<Option<Left>, AllocError>
+        ensures gives { IfOk result (λ given. Gives self.old.core given self.new.core) }
+        ensures unread { self.new.unread ≡ self.old.unread }
+        ensures err { OnErr result (self.new ≡ self.old) }
+    {
+        self.machine.pop_left()
+    }
+
+    /// The first that the link of this number left, a delivery of a receiver or an outcome of a sender, as `pop_left`. O(n) for n things that are left.
+    ///
+    /// # Errors
+    ///
+    /// Those of `pop_left`.
+    pub fn pop_left_by(&mut self, role: Role, link: u32) -> Result<Option<Left>, AllocError>
+        ensures gives { IfOk result (λ given. GivesOf role link self.old.core given self.new.core) }
+        ensures unread { self.new.unread ≡ self.old.unread }
+        ensures err { OnErr result (self.new ≡ self.old) }
+    {
+        self.machine.pop_left_by(role, link)
+    }
+
+    /// How many things are left, to be popped one by one.
+    ///
+    /// # Errors
+    ///
+    /// Those of `pop_left`.
+    pub fn left_len(&mut self) -> Result<usize, AllocError>
+        ensures len { IfOk result (λ n. n ≡ length (left_of self.old.core)) }
+        ensures still { OnOk result ((left_of self.new.core ≡ left_of self.old.core) × (but_left self.new.core ≡ but_left self.old.core)) }
+        ensures unread { self.new.unread ≡ self.old.unread }
+        ensures err { OnErr result (self.new ≡ self.old) }
+    {
+        self.machine.left_len()
     }
 
     /// Forgets the journal's entries so far, as `Logged::forget`, with the payloads that nobody else holds. Phase,

@@ -78,7 +78,9 @@
 //! | `lost()` | nothing more | the octets ended first: nothing is known of what the peer has taken |
 //!
 //! Units that wait at the end still go out, the last close behind them. An input that ended in another phase than `Closed` was cut off. The journal,
-//! the unsettled deliveries and the units stay readable (`logged`): from them a program tells what was settled and what was not.
+//! the unsettled deliveries and the units stay readable (`logged`): from them a program tells what was settled and what was not. Deliveries that were
+//! ready and not taken, and outcomes that were told and not learnt, are left, as where a detach or an end took their link away before: `pop_left` gives
+//! each once, in every phase.
 //!
 //! # Errors
 //!
@@ -120,6 +122,7 @@ mod treating;
 mod writing;
 
 pub use amqp_frames::{AmqpError, DeliveryState, FrameFault, Role};
+pub use amqp_journal::left::Left;
 pub use amqp_journal::logged::Logged;
 pub use amqp_journal::unit::Unit;
 pub use amqp_rules::op::Op;

@@ -117,6 +117,13 @@ pub fn detach(link: u32) -> Op
     Op::Detach { link, error: None }
 }
 
+/// Puts the link aside (part 2, 2.6.4): what is unsettled on it is given.
+pub fn suspend(link: u32) -> Op
+    ensures { result ≡ Op.Suspend link }
+{
+    Op::Suspend { link }
+}
+
 /// Ends the session without an error (part 2, 2.5.2).
 pub fn end() -> Op
     ensures { result ≡ Op.End None }

@@ -1,15 +1,17 @@
 //! A connection but the octets that it has not read: what a whole frame does to it (part 2, 2.4).
-ghost use Rattle.std.specs.Prelude.{◌≡◌, ◌≢◌, ◌⊎◌, [], Some, None, Ok, Err, OnOk, OnErr, IfOk, IfErr, IfSome, IsSome, MatchResult, slice_get, true, false};
+ghost use Rattle.std.specs.Prelude.{◌≡◌, ◌≢◌, ◌⊎◌, [], ◌∷◌, Some, None, Ok, Err, OnOk, OnErr, IfOk, IfErr, IfSome, IfNone, IsSome, MatchResult, slice_get, length, find, true, false};
 ghost use Rattle.amqp_rules.specs.Refusing.{no_memory};
 ghost use Rattle.amqp_rules.specs.ViolationAnswer.{violation_answer, error_of};
 ghost use Rattle.amqp_frames.specs.Measuring.{IsMeasureOf};
 ghost use Rattle.amqp_rules.specs.Limits.{IsWithinLimits};
 ghost use Rattle.amqp_rules.specs.Sending.{octets_of};
-ghost use Rattle.amqp_journal.specs.Log.{IsRefusal, heard_due, popping, forgetting};
+ghost use Rattle.amqp_journal.specs.Log.{IsRefusal, heard_due, popping, forgetting, is_left_by};
+ghost use Rattle.amqp_rules.specs.View.{remove_first};
 ghost use Rattle.amqp_journal.specs.Units.{units, waiting};
 ghost use Rattle.amqp_conn.specs.Calling.{IsFit, IsStartFault, Does, Closes, peer_max};
 ghost use Rattle.amqp_conn.specs.Octets.{open_frame, close_frame, condition, last_words, session_of, new_core};
 ghost use Rattle.amqp_conn.specs.Connection.{in_phase, sending};
+ghost use Rattle.amqp_conn.specs.Leaving.{Gives, GivesOf, is_ungathered, gathering, left_of, but_left};
 ghost use Rattle.amqp_conn.specs.Treating.{greeted, sending_last, fault_of, run, await_open, await_close, hearing, answering};
 ghost use Rattle.amqp_conn.specs.Treats.{Treats, TreatsAs, EndsWith};
 
@@ -19,7 +21,8 @@ use crate::fed::Fed;
 use crate::phase::Phase;
 use crate::refused::{CloseRefusal, StartFault};
 use crate::writing::{HEADER, close_octets, last_close, measure_ours, open_octets, plain_close};
-use amqp_frames::{AmqpError, Frame, FrameRefusal, Measured, Performative};
+use amqp_frames::{AmqpError, Frame, FrameRefusal, Measured, Performative, Role};
+use amqp_journal::left::Left;
 use amqp_journal::logged::Logged;
 use amqp_journal::unit::Unit;
 use amqp_rules::op::Op;
@@ -40,6 +43,8 @@ pub struct Machine {
     opening: Bytes,
     phase: Phase,
     logged: Logged,
+    /// What the links of the ended connection have was put behind what was left before.
+    gathered: bool,
 }
 
 impl Model for Machine {
@@ -54,7 +59,7 @@ impl Model for Machine {
 
     ghost coded = { Prim.hlevel (codes, value.the_row.coded) };
 
-    ghost view = { λ c. record { config = c.config; phase = c.phase; log = c.logged } };
+    ghost view = { λ c. record { config = c.config; phase = c.phase; log = c.logged; gathered = c.gathered } };
 
     ghost invariant = { λ c. c.opening ≡ octets_of (open_frame c.config) };
 }
@@ -116,6 +121,7 @@ fn start(alloc: Global, config: Config, measured: Measured) -> Result<Machine, A
         opening,
         phase: Phase::AwaitHeader,
         logged,
+        gathered: false,
     })
 }
 
@@ -192,6 +198,79 @@ impl Machine {
         ensures none { result ≡ None → (waiting self.old.log ≡ []) × (self.new ≡ self.old) }
     {
         self.logged.pop_unit()
+    }
+
+    /// The connection has ended, and its links still have what they had.
+    fn is_ungathered(&self) -> bool
+        ensures { result ≡ is_ungathered self.now }
+    {
+        match self.phase {
+            Phase::Closed => !self.gathered,
+            Phase::AwaitHeader | Phase::AwaitOpen | Phase::Running | Phase::Closing => false,
+        }
+    }
+
+    /// What the links of a connection have that has ended goes behind what was left before, once.
+    fn gather(&mut self) -> Result<(), AllocError>
+        ensures ok { OnOk result (self.new ≡ gathering self.old) }
+        ensures err { OnErr result (self.new ≡ self.old) }
+    {
+        if !self.is_ungathered() {
+            return Ok(());
+        }
+        self.logged.leave()?;
+        self.gathered = true;
+        Ok(())
+    }
+
+    /// The first of what was left, where the links were asked.
+    fn next_left(&mut self) -> Option<Left>
+        ensures some { IfSome result (λ x. self.old ≡ record self.new { log = record self.new.log { left = x ∷ self.new.log.left } }) }
+        ensures none { IfNone result ((self.old.log.left ≡ []) × (self.new ≡ self.old)) }
+    {
+        self.logged.pop_left()
+    }
+
+    /// The first that the link of this number left, where the links were asked.
+    fn next_left_by(&mut self, role: Role, link: u32) -> Option<Left>
+        ensures some { IfSome result (λ x. (find (is_left_by role link) self.old.log.left ≡ Some x) × (self.new ≡ record self.old { log = record self.old.log { left = remove_first (is_left_by role link) self.old.log.left } })) }
+        ensures none { IfNone result ((find (is_left_by role link) self.old.log.left ≡ None) × (self.new ≡ self.old)) }
+    {
+        self.logged.pop_left_by(role, link)
+    }
+
+    /// The first of what is left.
+    pub fn pop_left(&mut self) -> Result<Option<Left>, AllocError>
+        ensures gives { IfOk result (λ given. Gives self.old given self.new) }
+        ensures err { OnErr result (self.new ≡ self.old) }
+    {
+        match self.gather() {
+            Ok(()) => Ok(self.next_left()),
+            Err(error) => Err(error),
+        }
+    }
+
+    /// The first that the link of this number left, of a receiver or of a sender.
+    pub fn pop_left_by(&mut self, role: Role, link: u32) -> Result<Option<Left>, AllocError>
+        ensures gives { IfOk result (λ given. GivesOf role link self.old given self.new) }
+        ensures err { OnErr result (self.new ≡ self.old) }
+    {
+        match self.gather() {
+            Ok(()) => Ok(self.next_left_by(role, link)),
+            Err(error) => Err(error),
+        }
+    }
+
+    /// How many things are left.
+    pub fn left_len(&mut self) -> Result<usize, AllocError>
+        ensures len { IfOk result (λ n. n ≡ length (left_of self.old)) }
+        ensures still { OnOk result ((left_of self.new ≡ left_of self.old) × (but_left self.new ≡ but_left self.old)) }
+        ensures err { OnErr result (self.new ≡ self.old) }
+    {
+        match self.gather() {
+            Ok(()) => Ok(self.logged.left_len()),
+            Err(error) => Err(error),
+        }
     }
 
     /// Where the connection stands.

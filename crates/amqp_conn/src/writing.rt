@@ -13,6 +13,7 @@ use amqp_frames::{
     AmqpError, CloseBody, Frame, FrameFault, FrameRefusal, Measured, OpenBody, Performative,
     measure_open, write_frame, write_measured,
 };
+use amqp_performatives::copying::copy_text;
 use amqp_types::{Boxed, Text};
 use bytes::Bytes;
 use std::alloc::{AllocError, Global};
@@ -30,20 +31,11 @@ fn write(alloc: Global, frame: &Frame, max: u32) -> Result<Bytes, FrameRefusal>
     write_frame(alloc, frame, max)
 }
 
-fn copy_name(name: &Option<Text>) -> Result<Option<Text>, AllocError>
-    ensures { IfOk result (λ copy. copy ≡ name.now) }
-{
-    match name {
-        None => Ok(None),
-        Some(text) => Ok(Some(text.clone()?)),
-    }
-}
-
 fn open_body(alloc: Global, config: &Config) -> Result<Boxed<OpenBody>, AllocError>
     ensures { IfOk result (λ body. body ≡ open_body config.now) }
 {
     let container_id = config.container_id.clone()?;
-    let hostname = copy_name(&config.hostname)?;
+    let hostname = copy_text(&config.hostname)?;
     Boxed::new(
         alloc,
         OpenBody {

@@ -4,6 +4,7 @@ ghost use Rattle.amqp_events.specs.Told.{has_outcome, telling};
 
 use crate::item::HeldItem;
 use amqp_performatives::DeliveryState;
+use amqp_performatives::copying::copy_state;
 use amqp_types::Tag;
 use std::alloc::AllocError;
 use std::marker::Model;
@@ -58,16 +59,6 @@ impl Model for Telling {
     ghost coded = { Prim.hlevel (codes, value.the_row.coded) };
 
     ghost view = { λ t. record { id = t.id; link = t.link; tag = t.tag; state = t.state; by = record { first = t.first; last = t.last; settled = t.settled; state = cond t.gives t.state None } } };
-}
-
-/// A copy of a state, where there is one.
-fn copy_state(state: &Option<DeliveryState>) -> Result<Option<DeliveryState>, AllocError>
-    ensures { IfOk result (λ copy. copy ≡ state.now) }
-{
-    match state {
-        None => Ok(None),
-        Some(state) => Ok(Some(state.clone()?)),
-    }
 }
 
 impl Disposition {

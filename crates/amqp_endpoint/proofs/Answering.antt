@@ -26,7 +26,8 @@ use Rattle.amqp_performatives.specs.declared.performative.Performative.{Performa
 use Rattle.amqp_links.specs.declared.fate.Fate.TheVariants as fate
 use Rattle.amqp_rules.specs.declared.reply.Given.TheVariants as given
 use Rattle.amqp_rules.specs.Detach.{detach_body}
-use Rattle.amqp_rules.specs.PeerDetach.{detach_heard_answer, next_detach_heard}
+use Rattle.amqp_rules.specs.declared.reply.Given.{Given}
+use Rattle.amqp_rules.specs.PeerDetach.{detach_heard_answer, next_detach_heard, parting}
 use Rattle.amqp_deliveries.specs.declared.change.Change.TheVariants.{Leaves}
 use Rattle.amqp_endpoint.specs.declared.endpoint.peer_detach.Parting.{Parting}
 
@@ -88,17 +89,18 @@ plan-gone steps s st b p k t a =
     }
 
 -- and one that is
-pub plan-gone-told : (steps : ℕ) (s : Session) (st : StoresView) (b : DetachBody) (p : Parting) (r : Result Plan Violation) → IsKept steps s st → IsParting (view_of steps s st) b p → p.attached ≡ true
+pub plan-gone-told : (steps : ℕ) (s : Session) (st : StoresView) (b : DetachBody) (p : Parting) (g : Given) (r : Result Plan Violation) → IsKept steps s st → IsParting (view_of steps s st) b p → p.attached ≡ true
+    → g ≡ parting (view_of steps s st) b p.link.now
     → MatchResult r
-    (λ plan. plan ≡ sending_plan s (fate.Gone p.key p.number) (Leaves p.number) (gone_body b p) [] (given.Gone p.number))
+    (λ plan. plan ≡ sending_plan s (fate.Gone p.key p.number) (Leaves p.number) (gone_body b p) [] g)
     (λ e. e ≡ no_memory)
     → Plans no_memory (view_of steps s st) (detach_heard_answer (view_of steps s st) b) (next_detach_heard (view_of steps s st) b) r
-plan-gone-told steps s st b p (Ok plan) k t a r =
+plan-gone-told steps s st b p g (Ok plan) k t a tells r =
     let q : is_attached t.on ≡ true = sym t.attached ∙ a in
-    rw (r, t.number, t.handle)
+    rw (r, tells, t.link, t.number, t.handle)
     record {
       due = rw (t.takes, t.first.found, q) refl;
       leaves = rw (t.first.found, t.first.removed) refl;
       sound = record { fit = tt; short = tt; counted = counted-still steps s s st (Leaves t.on.number) tt k refl refl refl refl; alone = tt };
     }
-plan-gone-told steps s st b p (Err e) k t a r = inr (rw (t.takes, t.first.found) refl, r)
+plan-gone-told steps s st b p g (Err e) k t a tells r = inr (rw (t.takes, t.first.found) refl, r)

@@ -19,6 +19,7 @@ pub record IsAnswered (v : View) (b : AttachBody) (a : Answered) : Type 0 where
 -- frames are taken, and this is the link that the peer leaves
 pub record IsParting (v : View) (b : DetachBody) (p : Parting) : Type 0 where
   pub on : LinkView
+  pub link : p.link.now ≡ on
   pub takes : takes_frames v.session ≡ true
   pub first : IsFirst (has_peer_handle b.handle) v.links on
   pub number : p.number ≡ on.number

@@ -34,6 +34,13 @@ pub record IsAborted (v : View) (link : ℕ) (a : Aborted) : Type 0 where
 abbrev pub grant_rows : CreditView → ℕ → List (Bool × Refusal)
 grant_rows c credit = (nat_lt 2147483647 credit, BadCredit) ∷ (nat_lt credit c.credit, CreditRecedes) ∷ (has_open_drain c, Draining) ∷ []
 
+-- the session is mapped, this is the link, it is attached, and a detach that does not close it can be sent
+pub record IsPutAside (v : View) (link : ℕ) (on : LinkView) : Type 0 where
+  pub mapped : is_mapped v.session ≡ true
+  pub found : find (has_number link) v.links ≡ Some on
+  pub attached : is_attached on ≡ true
+  pub written : frame_refused v.max_frame (detach_body (handle_of on.ours) None None) [] ≡ None
+
 -- the session is mapped, the link is there and attached, and a detach of it can be sent
 pub record IsLeft (v : View) (link : ℕ) (error : Option AmqpError) (w : Leaving) : Type 0 where
   pub on : LinkView

@@ -41,6 +41,7 @@ mod readers;
 mod refresh;
 mod start;
 mod steps;
+mod suspend;
 mod take;
 mod telling;
 

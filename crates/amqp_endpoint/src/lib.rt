@@ -15,6 +15,7 @@
 //! | abort | O(log n + log u) |
 //! | dispose, the peer's disposition, of k deliveries | O(log u + k), and O(log n) for each that the peer tells of; those beside them on the shorter side move where deliveries end |
 //! | detach, of either end | O(log n + u) |
+//! | suspend, and a detach of the peer's that does not close | O(log n + u), and O(log r) for each that is ready or put aside, for r ready ones |
 //! | end, of either end | O(n + u) |
 //!
 //! | module | what it has |

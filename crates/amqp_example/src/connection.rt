@@ -137,7 +137,12 @@ fn tell<R: Print>(rt: &R, name: &str, given: &Given) -> anyhow::Result<()> {
             let (id, settled) = (learned.id, learned.settled);
             Ok(println!(rt; "{name}: delivery {id} is settled: {settled}")?)
         }
-        Given::Nothing | Given::Link(_) | Given::Gone(_) | Given::Delivery(_) => Ok(()),
+        Given::Nothing
+        | Given::Link(_)
+        | Given::Gone(_)
+        | Given::Delivery(_)
+        | Given::Suspended(_)
+        | Given::Parted(_, _) => Ok(()),
     }
 }
 

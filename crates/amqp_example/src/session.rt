@@ -107,6 +107,10 @@ impl End {
             Given::Offered(link) => Ok(println!(rt; "{name}: link {link} is offered")?),
             Given::Attached(link) => Ok(println!(rt; "{name}: link {link} is attached")?),
             Given::Gone(link) => Ok(println!(rt; "{name}: link {link} is gone")?),
+            Given::Suspended(_) => Ok(println!(rt; "{name}: a link is put aside")?),
+            Given::Parted(link, _) => Ok(println!(rt;
+                "{name}: link {link} is put aside by the peer"
+            )?),
             Given::Delivery(id) => Ok(println!(rt; "{name}: delivery {id} begins")?),
             Given::Ready(_, id) => Ok(println!(rt; "{name}: delivery {id} is ready")?),
             Given::Taken(taken) => {

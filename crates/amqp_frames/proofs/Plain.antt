@@ -16,8 +16,8 @@ use Rattle.amqp_frames.proofs.Measuring.{is_there}
 use Rattle.amqp_types.specs.declared.class.Run.TheVariants as Run
 use Rattle.amqp_performatives.specs.Bodies.{state, role, boolean, optional}
 use Rattle.amqp_performatives.specs.declared.bodies.Role.{Role}
-use Rattle.amqp_frames.specs.declared.append.BareState.{BareState}
-use Rattle.amqp_frames.specs.declared.append.BareState.TheVariants as bare
+use Rattle.amqp_frames.specs.declared.append.PlainState.{PlainState}
+use Rattle.amqp_frames.specs.declared.append.PlainState.TheVariants as bare
 use Rattle.amqp_frames.specs.Plain.{state_of, bare_octets}
 use Rattle.amqp_types.specs.Datum.{octets}
 use Rattle.std.proofs.lemmas.Bool.{eqb-true, eqb-false, ltb-true, ltb-false, lt-ltb, ne_eqb}
@@ -124,7 +124,7 @@ binary_shown os l = let e : ltb (length os) 256 ≡ true = lt-ltb _ _ (omega ari
 bare_shown : (code : ℕ) → 0 < code → code < 256 → part_form None (composite_datum code none) ≡ Some (0x00 ∷ 0x53 ∷ code ∷ 0x45 ∷ [])
 bare_shown code some small = composite_form code none some small
 
-pub state_shown : (b : BareState) → IsShown (optional state (state_of b)) (bare_octets b)
+pub state_shown : (b : PlainState) → IsShown (optional state (state_of b)) (bare_octets b)
 state_shown bare.Absent = tt
 state_shown bare.Accepted = (bare_shown 0x24 (omega arith) (omega arith), omega arith)
 state_shown bare.Released = (bare_shown 0x26 (omega arith) (omega arith), omega arith)

@@ -6,8 +6,8 @@ use Rattle.amqp_types.specs.Canon.{part_form}
 use Rattle.amqp_performatives.specs.Part.{Part, Fields, absent, value, composite, no_field, field, canonical}
 use Rattle.amqp_performatives.specs.declared.state.DeliveryState.{DeliveryState}
 use Rattle.amqp_performatives.specs.declared.state.DeliveryState.TheVariants as state
-use Rattle.amqp_frames.specs.declared.append.BareState.{BareState}
-use Rattle.amqp_frames.specs.declared.append.BareState.TheVariants as bare
+use Rattle.amqp_frames.specs.declared.append.PlainState.{PlainState}
+use Rattle.amqp_frames.specs.declared.append.PlainState.TheVariants as bare
 use Rattle.amqp_frames.specs.declared.fault.FrameRefusal.{FrameRefusal}
 use Rattle.amqp_frames.specs.declared.fault.FrameRefusal.TheVariants as refusal
 
@@ -49,12 +49,12 @@ abbrev pub binary_octets : List ℕ → List ℕ
 binary_octets os = 0xa0 ∷ length os ∷ os
 
 -- a state without fields: a described list of none
-abbrev pub bare_octets : BareState → Option (List ℕ)
+abbrev pub bare_octets : PlainState → Option (List ℕ)
 bare_octets bare.Absent = None
 bare_octets bare.Accepted = Some (0x00 ∷ 0x53 ∷ 0x24 ∷ 0x45 ∷ [])
 bare_octets bare.Released = Some (0x00 ∷ 0x53 ∷ 0x26 ∷ 0x45 ∷ [])
 
-abbrev pub state_of : BareState → Option DeliveryState
+abbrev pub state_of : PlainState → Option DeliveryState
 state_of bare.Absent = None
 state_of bare.Accepted = Some state.Accepted
 state_of bare.Released = Some state.Released

@@ -30,20 +30,20 @@ struct Envelope<'a> {
 
 /// A state without fields, or none.
 #[derive(Clone, Copy)]
-pub(crate) enum BareState {
+pub(crate) enum PlainState {
     Absent,
     Accepted,
     Released,
 }
 
 #[inline]
-fn bare_state(state: &Option<DeliveryState>) -> Option<BareState>
+fn bare_state(state: &Option<DeliveryState>) -> Option<PlainState>
     ensures { IfSome result (λ b. state.now ≡ state_of b) }
 {
     match state {
-        None => Some(BareState::Absent),
-        Some(DeliveryState::Accepted) => Some(BareState::Accepted),
-        Some(DeliveryState::Released) => Some(BareState::Released),
+        None => Some(PlainState::Absent),
+        Some(DeliveryState::Accepted) => Some(PlainState::Accepted),
+        Some(DeliveryState::Released) => Some(PlainState::Released),
         _ => None,
     }
 }
@@ -208,14 +208,14 @@ fn tag(head: &mut [u8; ROOM], spot: Spot, number: usize, tag: &Option<Tag>) -> S
 
 /// A state without fields, where it is there, as the field of this number.
 #[inline(always)]
-fn state(head: &mut [u8; ROOM], spot: Spot, number: usize, state: BareState) -> Spot
+fn state(head: &mut [u8; ROOM], spot: Spot, number: usize, state: PlainState) -> Spot
     requires { spot.at + 4 ≤ 96 }
     ensures bound { result.at ≤ spot.at + 4 }
     ensures holds { (front : List ℕ) (os : List (Option (List ℕ))) → Holds front head.old spot.at spot.end spot.count os → number ≡ length os + 1 → Holds front head.new result.at result.end result.count (os ++ bare_octets state ∷ []) }
 {
     match state {
-        BareState::Absent => absent(head, spot),
-        BareState::Accepted => {
+        PlainState::Absent => absent(head, spot),
+        PlainState::Accepted => {
             let at = put(
                 head,
                 spot.at,
@@ -227,7 +227,7 @@ fn state(head: &mut [u8; ROOM], spot: Spot, number: usize, state: BareState) -> 
                 count: number,
             }
         }
-        BareState::Released => {
+        PlainState::Released => {
             let at = put(
                 head,
                 spot.at,
@@ -251,7 +251,7 @@ const START: Spot = Spot {
 
 /// A transfer's fields, from the fifteenth place on: where they end, and how many are shown.
 #[inline(never)]
-fn put_transfer(body: &TransferBody, reached: BareState, head: &mut [u8; ROOM]) -> (usize, usize)
+fn put_transfer(body: &TransferBody, reached: PlainState, head: &mut [u8; ROOM]) -> (usize, usize)
     requires bare { body.now.state ≡ state_of reached }
     ensures bound { (14 ≤ result.0) × (result.0 ≤ 96) × (result.1 ≤ 11) }
     ensures some { 0 < result.1 }
@@ -297,7 +297,7 @@ fn put_flow(body: &FlowBody, head: &mut [u8; ROOM]) -> (usize, usize)
 #[inline(never)]
 fn put_disposition(
     body: &DispositionBody,
-    reached: BareState,
+    reached: PlainState,
     head: &mut [u8; ROOM],
 ) -> (usize, usize)
     requires bare { body.now.state ≡ state_of reached }
@@ -386,7 +386,7 @@ fn append_plain(
 fn append_transfer(
     envelope: &Envelope<'_>,
     body: &TransferBody,
-    reached: BareState,
+    reached: PlainState,
     out: &mut Vec<u8>,
 ) -> Result<(), FrameRefusal>
     requires { body.now.state ≡ state_of reached }
@@ -415,7 +415,7 @@ fn append_flow(
 fn append_disposition(
     envelope: &Envelope<'_>,
     body: &DispositionBody,
-    reached: BareState,
+    reached: PlainState,
     out: &mut Vec<u8>,
 ) -> Result<(), FrameRefusal>
     requires { body.now.state ≡ state_of reached }

@@ -1,5 +1,5 @@
 -- What is due where the journal is not full, and what a plan makes of it.
-use Rattle.std.proofs.Common.{◌≡◌, ◌<◌, ◌≤◌, ℕ, Bool, true, false, cond, Option, Result, Ok, Err, List, length, refl, sym, ap, ◌∙◌, subst, arith, inl, inr, ◌⊎◌, ⊎_elim, nat_le}
+use Rattle.std.proofs.Common.{◌≡◌, ◌<◌, ◌≤◌, ℕ, true, false, Option, Result, Ok, Err, List, length, refl, sym, ap, ◌∙◌, subst, arith, inl, inr, ◌⊎◌, nat_le}
 use Rattle.std.specs.Prelude.{IsOk, unwrap_or}
 use Rattle.std.specs.Result.{result_err}
 use Rattle.std.proofs.lemmas.Bool.Decides.{nat_tests}
@@ -21,8 +21,6 @@ use Rattle.amqp_endpoint.specs.Plan.{IsRefused}
 use Rattle.amqp_laws.specs.Lawful.{Answers, next}
 use Rattle.amqp_laws.specs.declared.entry.Step.{Step}
 use Rattle.amqp_laws.specs.declared.entry.Step.TheVariants.{Own, Heard}
-use Rattle.amqp_laws.specs.Past.{past}
-use Rattle.amqp_laws.specs.At.{at}
 use Rattle.amqp_journal.specs.Log.{Log, opened_due, own_due, heard_due, logging, Appends, Extends, IsRefusal}
 use Rattle.amqp_journal.specs.Kept.{IsKept}
 

@@ -1,17 +1,23 @@
 -- What holds at all times goes on with a step, with what is put and with what is popped.
-use Rattle.std.proofs.Common.{◌≡◌, ◌<◌, ◌≤◌, ℕ, ◌+◌, ◌^◌, zero, suc, Option, Some, None, List, [], ◌∷◌, ◌++◌, length, map, drop, reverse, refl, sym, ap, ◌∙◌, subst, arith, length-append, append-nil, append_assoc}
-use Rattle.std.specs.Prelude.{option_to_list, slice_get}
+use Rattle.std.proofs.Common.{◌≡◌, ◌<◌, ◌≤◌, ℕ, ◌+◌, ◌^◌, zero, suc, Option, Some, None, List, [], ◌∷◌, ◌++◌, length, map, drop, refl, sym, ap, ◌∙◌, subst, arith, length-append, append-nil, append_assoc}
+use Rattle.std.specs.Prelude.{OnOk, Result, Ok, Err, option_to_list, slice_get}
 use Rattle.std.proofs.lemmas.List.{reverse-append, length-reverse, drop-append-le}
+use Rattle.amqp_frames.specs.declared.frame.Frame.{Frame}
 use Rattle.amqp_rules.specs.declared.config.Config.{Config}
+use Rattle.amqp_rules.specs.declared.op.Op.{Op}
 use Rattle.amqp_rules.specs.declared.reply.Reply.{Reply}
 use Rattle.amqp_rules.specs.Limits.{IsWithinLimits}
 use Rattle.amqp_rules.specs.View.{View, initial}
 use Rattle.amqp_laws.specs.declared.entry.Entry.{Entry}
 use Rattle.amqp_laws.specs.declared.entry.Step.{Step}
+use Rattle.amqp_laws.specs.declared.entry.Step.TheVariants.{Opened, Own, Heard}
 use Rattle.amqp_laws.specs.Past.{past}
 use Rattle.amqp_laws.specs.At.{at}
 use Rattle.amqp_laws.specs.Lawful.{IsLawful, Answers, GoesOn, next}
-use Rattle.amqp_journal.specs.Log.{Log, new_log, logging, putting, popping, forgetting}
+use Rattle.amqp_links.specs.declared.left.Left.{Left}
+use Rattle.amqp_journal.specs.Log.{Log, new_log, logging, putting, popping, forgetting, leaving, left_at, left_by, left_on_links}
+use Rattle.amqp_links.specs.Left.{left_on_all}
+use Rattle.amqp_endpoint.specs.Left.{left_by_own, left_by_heard}
 use Rattle.amqp_journal.specs.Units.{units, octets_sent}
 use Rattle.amqp_journal.specs.Kept.{IsKept}
 use Rattle.amqp_journal.proofs.UnitLaws.{logged-behind, put-behind, logged-within, put-within}
@@ -125,38 +131,46 @@ steps-are l endpoint queue k = ap (λ (v : View). v.steps) k.is_at ∙ length-re
 
 -- # The same of parts that were changed one by one: the entries that were forgotten, and those after them
 
-abbrev pub log_of : Config → List Entry → List Entry → List (ℕ × List ℕ) → ℕ → Log
-log_of c gone journal put popped = record { config = c; journal = gone ++ journal; forgotten = length gone; put = put; popped = popped }
+abbrev pub log_of : Config → List Entry → List Entry → List (ℕ × List ℕ) → ℕ → List Left → Log
+log_of c gone journal put popped left = record { config = c; journal = gone ++ journal; forgotten = length gone; put = put; popped = popped; left = left }
 
-pub kept-step : (c : Config) (gone before after : List Entry) (put : List (ℕ × List ℕ)) (popped : ℕ) (endpoint later : View) (queue queued : List (List ℕ)) (step : Step) (reply : Reply) (unit : Option (List ℕ))
-    → GoesOnAlong c → IsKept (log_of c gone before put popped) endpoint queue → length (gone ++ before) < c.journal_limit → Answers (at c (past (gone ++ before))) step reply
+-- it holds whatever was left
+pub kept-leaving : (l : Log) (left : List Left) (endpoint : View) (queue : List (List ℕ)) → IsKept l endpoint queue → IsKept (record l { left = left }) endpoint queue
+kept-leaving l left endpoint queue k =
+    record { limits = k.limits; lawful = k.lawful; is_at = k.is_at; queued = k.queued; within = k.within; some = k.some; few = k.few; forgot = k.forgot }
+
+pub kept-step : (c : Config) (gone before after : List Entry) (put : List (ℕ × List ℕ)) (popped : ℕ) (left later_left : List Left) (endpoint later : View) (queue queued : List (List ℕ)) (step : Step) (reply : Reply) (unit : Option (List ℕ))
+    → GoesOnAlong c → IsKept (log_of c gone before put popped left) endpoint queue → length (gone ++ before) < c.journal_limit → Answers (at c (past (gone ++ before))) step reply
     → later ≡ next (at c (past (gone ++ before))) step → option_to_list unit ≡ map (λ s. s.bytes) reply.sent → after ≡ before ++ record { step = step; reply = reply } ∷ [] → queued ≡ queue ++ option_to_list unit
-    → IsKept (log_of c gone after put popped) later queued
-kept-step c gone before after put popped endpoint later queue queued step reply unit goes k room a n u j q =
-    let l : Log = log_of c gone before put popped in
+    → IsKept (log_of c gone after put popped later_left) later queued
+kept-step c gone before after put popped left later_left endpoint later queue queued step reply unit goes k room a n u j q =
+    let l : Log = log_of c gone before put popped left in
     let e : Entry = record { step = step; reply = reply } in
-    let here : IsKept (logging l step reply) later (queue ++ option_to_list unit) = kept-logged l endpoint later queue step reply unit goes k room a n u in
+    let logged : IsKept (logging l step reply) later (queue ++ option_to_list unit) = kept-logged l endpoint later queue step reply unit goes k room a n u in
+    let here : IsKept (record (logging l step reply) { left = later_left }) later (queue ++ option_to_list unit) = kept-leaving (logging l step reply) later_left later (queue ++ option_to_list unit) logged in
     let all : gone ++ after ≡ (gone ++ before) ++ e ∷ [] = ap (λ (x : List Entry). gone ++ x) j ∙ sym (append_assoc gone before (e ∷ [])) in
-    let P : List (List ℕ) → Type 0 = λ x. IsKept (log_of c gone after put popped) later x in
-    let Q : List Entry → Type 0 = λ x. IsKept (record { config = c; journal = x; forgotten = length gone; put = put; popped = popped }) later (queue ++ option_to_list unit) in
+    let P : List (List ℕ) → Type 0 = λ x. IsKept (log_of c gone after put popped later_left) later x in
+    let Q : List Entry → Type 0 = λ x. IsKept (record { config = c; journal = x; forgotten = length gone; put = put; popped = popped; left = later_left }) later (queue ++ option_to_list unit) in
     subst P (sym q) (subst Q (sym all) here)
 
 -- the log of the parts after a step is the one that the step makes
-pub logged-parts : (l : Log) (c : Config) (gone before after : List Entry) (put : List (ℕ × List ℕ)) (popped : ℕ) (step : Step) (reply : Reply) → log_of c gone before put popped ≡ l
-    → after ≡ before ++ record { step = step; reply = reply } ∷ [] → log_of c gone after put popped ≡ logging l step reply
-logged-parts l c gone before after put popped step reply is j =
+pub logged-parts : (l : Log) (c : Config) (gone before after : List Entry) (put : List (ℕ × List ℕ)) (popped : ℕ) (left later_left : List Left) (step : Step) (reply : Reply) → log_of c gone before put popped left ≡ l
+    → after ≡ before ++ record { step = step; reply = reply } ∷ [] → later_left ≡ left ++ left_by c (gone ++ before) step → log_of c gone after put popped later_left ≡ logging l step reply
+logged-parts l c gone before after put popped left later_left step reply is j m =
     let e : Entry = record { step = step; reply = reply } in
     let all : gone ++ after ≡ (gone ++ before) ++ e ∷ [] = ap (λ (x : List Entry). gone ++ x) j ∙ sym (append_assoc gone before (e ∷ [])) in
-    let here : log_of c gone after put popped ≡ logging (log_of c gone before put popped) step reply = ap (λ (x : List Entry). record { config = c; journal = x; forgotten = length gone; put = put; popped = popped }) all in
+    let here : log_of c gone after put popped later_left ≡ logging (log_of c gone before put popped left) step reply =
+    λ i. record { config = c; journal = all i; forgotten = length gone; put = put; popped = popped; left = m i }
+    in
     here ∙ ap (λ (x : Log). logging x step reply) is
 
-pub kept-put-parts : (c : Config) (gone journal : List Entry) (before after : List (ℕ × List ℕ)) (popped place : ℕ) (endpoint : View) (queue queued : List (List ℕ)) (octets : List ℕ)
-    → IsKept (log_of c gone journal before popped) endpoint queue → place ≡ length (gone ++ journal) → after ≡ before ++ (place, octets) ∷ [] → queued ≡ queue ++ octets ∷ []
-    → IsKept (log_of c gone journal after popped) endpoint queued
-kept-put-parts c gone journal before after popped place endpoint queue queued octets k h p q =
-    let l : Log = log_of c gone journal before popped in
-    let P : List (List ℕ) → Type 0 = λ x. IsKept (log_of c gone journal after popped) endpoint x in
-    let Q : List (ℕ × List ℕ) → Type 0 = λ x. IsKept (record { config = c; journal = gone ++ journal; forgotten = length gone; put = x; popped = popped }) endpoint (queue ++ octets ∷ []) in
+pub kept-put-parts : (c : Config) (gone journal : List Entry) (before after : List (ℕ × List ℕ)) (popped place : ℕ) (left : List Left) (endpoint : View) (queue queued : List (List ℕ)) (octets : List ℕ)
+    → IsKept (log_of c gone journal before popped left) endpoint queue → place ≡ length (gone ++ journal) → after ≡ before ++ (place, octets) ∷ [] → queued ≡ queue ++ octets ∷ []
+    → IsKept (log_of c gone journal after popped left) endpoint queued
+kept-put-parts c gone journal before after popped place left endpoint queue queued octets k h p q =
+    let l : Log = log_of c gone journal before popped left in
+    let P : List (List ℕ) → Type 0 = λ x. IsKept (log_of c gone journal after popped left) endpoint x in
+    let Q : List (ℕ × List ℕ) → Type 0 = λ x. IsKept (record { config = c; journal = gone ++ journal; forgotten = length gone; put = x; popped = popped; left = left }) endpoint (queue ++ octets ∷ []) in
     let here : after ≡ before ++ (length (gone ++ journal), octets) ∷ [] = p ∙ ap (λ n. before ++ (n, octets) ∷ []) h in
     subst P (sym q) (subst Q (sym here) (kept-put l endpoint queue octets k))
 
@@ -164,11 +178,43 @@ kept-put-parts c gone journal before after popped place endpoint queue queued oc
 all-gone : (gone journal after left : List Entry) → after ≡ gone ++ journal → left ≡ [] → after ++ left ≡ gone ++ journal
 all-gone gone journal after left a e = ap (λ (x : List Entry). after ++ x) e ∙ append-nil after ∙ a
 
-pub forgetting-is : (c : Config) (gone journal after left : List Entry) (put : List (ℕ × List ℕ)) (popped : ℕ) → after ≡ gone ++ journal → left ≡ []
-    → log_of c after left put popped ≡ forgetting (log_of c gone journal put popped)
-forgetting-is c gone journal after left put popped a e =
-    λ i. record { config = c; journal = all-gone gone journal after left a e i; forgotten = length (a i); put = put; popped = popped }
+pub forgetting-is : (c : Config) (gone journal after rest : List Entry) (put : List (ℕ × List ℕ)) (popped : ℕ) (left : List Left) → after ≡ gone ++ journal → rest ≡ []
+    → log_of c after rest put popped left ≡ forgetting (log_of c gone journal put popped left)
+forgetting-is c gone journal after rest put popped left a e =
+    λ i. record { config = c; journal = all-gone gone journal after rest a e i; forgotten = length (a i); put = put; popped = popped; left = left }
 
 pub kept-forgotten : (l : Log) (endpoint : View) (queue : List (List ℕ)) → IsKept l endpoint queue → IsKept (forgetting l) endpoint queue
 kept-forgotten l endpoint queue k =
     record { limits = k.limits; lawful = k.lawful; is_at = k.is_at; queued = k.queued; within = k.within; some = k.some; few = k.few; forgot = omega arith }
+
+-- # What was left
+
+-- by a step of the endpoint
+pub own-leaves : (c : Config) (journal : List Entry) (v : View) (op : Op) (step : Step) (before after : List Left) → v ≡ at c (past journal) → step ≡ Own op → after ≡ before ++ left_by_own v op
+    → after ≡ before ++ left_by c journal step
+unfolding left_by
+own-leaves c journal v op step before after is same h = h ∙ (λ i. before ++ left_at (is i) (sym same i))
+
+pub heard-leaves : (c : Config) (journal : List Entry) (v : View) (f : Frame) (step : Step) (before after : List Left) → v ≡ at c (past journal) → step ≡ Heard f
+    → after ≡ before ++ left_by_heard v f.body → after ≡ before ++ left_by c journal step
+unfolding left_by
+heard-leaves c journal v f step before after is same h = h ∙ (λ i. before ++ left_at (is i) (sym same i))
+
+pub opened-leaves : (c : Config) (journal : List Entry) (max : ℕ) (left : List Left) → left ≡ left ++ left_by c journal (Opened max)
+unfolding left_by
+opened-leaves c journal max left = sym (append-nil left)
+
+-- all that the links have
+pub links-leave : (l : Log) (v : View) (queue : List (List ℕ)) (after : List Left) → IsKept l v queue → after ≡ l.left ++ left_on_all v.links → after ≡ l.left ++ left_on_links l.config l.journal
+unfolding left_on_links
+links-leave l v queue after k h = h ∙ ap (λ (x : View). l.left ++ left_on_all x.links) k.is_at
+
+-- all that the links have is left
+pub leaving-parts : (l : Log) (c : Config) (gone journal : List Entry) (put : List (ℕ × List ℕ)) (popped : ℕ) (left later : List Left) (v : View) (queue : List (List ℕ)) → log_of c gone journal put popped left ≡ l
+    → IsKept (log_of c gone journal put popped left) v queue → later ≡ left ++ left_on_all v.links → log_of c gone journal put popped later ≡ leaving l
+leaving-parts l c gone journal put popped left later v queue is k h =
+    (λ i. log_of c gone journal put popped (links-leave (log_of c gone journal put popped left) v queue later k h i)) ∙ ap leaving is
+
+pub on-ok : {X E : Type 0} {P Q : Type 0} (r : Result X E) → (P → Q) → OnOk r P → OnOk r Q
+on-ok (Ok x) f p = f p
+on-ok (Err e) f p = tt

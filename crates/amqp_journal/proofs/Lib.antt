@@ -1,3 +1,5 @@
 pub mod UnitLaws
 pub mod Keeping
 pub mod Due
+pub mod Placing
+pub mod Standing

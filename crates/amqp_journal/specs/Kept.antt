@@ -1,6 +1,5 @@
 -- What holds of an endpoint with its journal at all times.
 use Rattle.std.specs.Prelude.{ℕ, ◌≡◌, ◌≤◌, ◌+◌, List, length, drop}
-use Rattle.amqp_rules.specs.declared.config.Config.{Config}
 use Rattle.amqp_rules.specs.Limits.{IsWithinLimits}
 use Rattle.amqp_rules.specs.View.{View}
 use Rattle.amqp_laws.specs.Past.{past}

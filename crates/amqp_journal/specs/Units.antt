@@ -1,5 +1,5 @@
 -- Units: what goes out to the peer, in the order of the journal. Each is the octets of one frame, or octets that were put (a connection's header, open and close).
-use Rattle.std.specs.Prelude.{ℕ, ◌≡◌, ◌≤◌, ◌+◌, ◌==◌, nat_le, Bool, Option, None, Some, List, [], ◌∷◌, ◌++◌, length, map, drop, cond, slice_get, option_map}
+use Rattle.std.specs.Prelude.{ℕ, ◌≡◌, ◌≤◌, ◌+◌, ◌==◌, nat_le, Option, None, Some, List, [], ◌∷◌, ◌++◌, map, drop, cond, slice_get}
 use Rattle.amqp_rules.specs.declared.op.Op.{Op}
 use Rattle.amqp_rules.specs.declared.reply.Given.{Given}
 use Rattle.amqp_rules.specs.declared.reply.Given.TheVariants as given
@@ -48,6 +48,8 @@ given_link (given.Gone k) = Some k
 given_link (given.Ready k id) = Some k
 given_link (given.Taken t) = Some t.link
 given_link (given.Learned t) = Some t.link
+given_link (given.Parted k s) = Some k
+given_link (given.Suspended s) = None
 given_link (given.Delivery id) = None
 given_link given.Nothing = None
 
@@ -60,6 +62,8 @@ given_id (given.Link k) = None
 given_id (given.Offered k) = None
 given_id (given.Attached k) = None
 given_id (given.Gone k) = None
+given_id (given.Suspended s) = None
+given_id (given.Parted k s) = None
 given_id given.Nothing = None
 
 -- the entry at this place is that operation's, and its answer names this link and this delivery

@@ -1,25 +1,28 @@
 //! An endpoint with the journal of its steps and the units that wait.
-ghost use Rattle.std.specs.Prelude.{ℕ, List, ◌≡◌, ◌≢◌, ◌<◌, ◌≤◌, ◌^◌, ◌⊎◌, ◌+◌, ◌++◌, ◌∷◌, ◌↔◌, length, [], drop, map, vec_len, vec_capacity, option_to_list, Option, Some, None, Ok, IsTrue, IfErr, IfSome, OnOk, OnErr, IfOk, slice_get};
+ghost use Rattle.std.specs.Prelude.{ℕ, List, ◌≡◌, ◌≢◌, ◌<◌, ◌≤◌, ◌^◌, ◌⊎◌, ◌+◌, ◌++◌, ◌∷◌, ◌↔◌, length, [], drop, take, find, remove, map, vec_len, vec_capacity, option_to_list, Option, Some, None, Ok, IsTrue, IfErr, IfSome, IfNone, OnOk, OnErr, IfOk, slice_get};
 ghost use Rattle.std.specs.VecDeque.{deque_len, deque_capacity};
 ghost use Rattle.amqp_rules.specs.declared.config.Config.{Config};
 ghost use Rattle.amqp_rules.specs.Limits.{IsWithinLimits};
 ghost use Rattle.amqp_rules.specs.Refusing.{no_memory};
 ghost use Rattle.amqp_rules.specs.Opened.{no_reply};
+ghost use Rattle.amqp_rules.specs.View.{remove_first};
 ghost use Rattle.amqp_endpoint.specs.Plan.{IsRefused};
+ghost use Rattle.amqp_endpoint.specs.Left.{left_by_own, left_by_heard};
 ghost use Rattle.amqp_rules.specs.Answer.{own_answer, heard_answer};
 ghost use Rattle.amqp_laws.specs.Past.{past};
 ghost use Rattle.amqp_laws.specs.At.{at};
 ghost use Rattle.amqp_laws.specs.Lawful.{IsLawful, NeverWithoutCredit};
 ghost use Rattle.amqp_laws.specs.DeliveryLaws.{AreLeft, NeverTwice, SendsSerials};
 ghost use Rattle.amqp_laws.specs.declared.entry.Step.TheVariants as step;
-ghost use Rattle.amqp_journal.specs.Log.{Log, Appends, Extends, IsRefusal, opened_due, own_due, heard_due, new_log, logging, putting, popping, forgetting};
+ghost use Rattle.amqp_journal.specs.Log.{Log, Appends, Extends, IsRefusal, opened_due, own_due, heard_due, new_log, logging, putting, popping, forgetting, leaving, is_left_by};
 ghost use Rattle.amqp_journal.specs.Units.{units, waiting, Stands, PutWithin, given_link, given_id};
 
 use crate::receipt::{Receipt, id_of, link_of};
 use crate::unit::Unit;
 use amqp_endpoint::done::Done;
 use amqp_endpoint::endpoint::Endpoint;
-use amqp_frames::Frame;
+use amqp_endpoint::left::Left;
+use amqp_frames::{Frame, Role};
 use amqp_history::history::History;
 use amqp_laws::entry::{Entry, Step};
 use amqp_laws::laws::laws;
@@ -39,6 +42,8 @@ use std::marker::Model;
 /// The journal is lawful: each entry has the reply that is due after the entries before it; and the endpoint is what the journal makes it.
 /// So it is of the whole journal, whether its older entries are kept or forgotten (`forget`).
 /// The units that wait are those of the journal, with what was put among them, without those that were popped.
+///
+/// What a step would lose of a link that it makes gone stays to be popped: deliveries that were ready, and outcomes that were told.
 #[derive(Drop)]
 pub struct Logged {
     config: Config,
@@ -51,6 +56,8 @@ pub struct Logged {
     put: Vec<(u64, Bytes)>,
     waiting: VecDeque<Bytes>,
     popped: u64,
+    /// What links left that are gone.
+    left: VecDeque<Left>,
 }
 
 impl Model for Logged {
@@ -64,9 +71,9 @@ impl Model for Logged {
 
     ghost coded = { Prim.hlevel (codes, value.the_row.coded) };
 
-    ghost view = { λ l. record { config = l.config; journal = l.gone.items ++ l.journal.items; forgotten = length l.gone.items; put = l.put.items; popped = l.popped } };
+    ghost view = { λ l. record { config = l.config; journal = l.gone.items ++ l.journal.items; forgotten = length l.gone.items; put = l.put.items; popped = l.popped; left = l.left.items } };
 
-    ghost invariant = { λ l. IsKept (record { config = l.config; journal = l.gone.items ++ l.journal.items; forgotten = length l.gone.items; put = l.put.items; popped = l.popped }) l.endpoint l.waiting.items };
+    ghost invariant = { λ l. IsKept (record { config = l.config; journal = l.gone.items ++ l.journal.items; forgotten = length l.gone.items; put = l.put.items; popped = l.popped; left = l.left.items }) l.endpoint l.waiting.items };
 }
 
 impl Logged {
@@ -84,6 +91,7 @@ impl Logged {
             put: Vec::new(alloc),
             waiting: VecDeque::new(alloc),
             popped: 0,
+            left: VecDeque::new(alloc),
         }
     }
 
@@ -169,7 +177,14 @@ impl Logged {
         if self.endpoint.steps() >= self.config.journal_limit {
             return Err(Refusal::JournalFull);
         }
-        let own = match room_for_own(&mut self.journal, &mut self.waiting, op) {
+        let kept = self.left.len();
+        let own = match room_for_own(
+            &mut self.journal,
+            &mut self.waiting,
+            &mut self.left,
+            &self.endpoint,
+            op,
+        ) {
             Ok(own) => own,
             Err(_) => return Err(own_refused(&self.endpoint, op)),
         };
@@ -187,6 +202,7 @@ impl Logged {
             }
             Err(refusal) => {
                 drop(own);
+                self.left.truncate(kept);
                 Err(refusal)
             }
         }
@@ -204,7 +220,14 @@ impl Logged {
             drop(op);
             return Err(Refusal::JournalFull);
         }
-        match room_for_one(&mut self.journal, &mut self.waiting) {
+        let kept = self.left.len();
+        match room_to_do(
+            &mut self.journal,
+            &mut self.waiting,
+            &mut self.left,
+            &self.endpoint,
+            &op,
+        ) {
             Ok(()) => {}
             Err(_) => {
                 let refusal = own_refused(&self.endpoint, &op);
@@ -225,6 +248,7 @@ impl Logged {
             }
             Err(refusal) => {
                 drop(op);
+                self.left.truncate(kept);
                 Err(refusal)
             }
         }
@@ -240,7 +264,14 @@ impl Logged {
         if self.endpoint.steps() >= self.config.journal_limit {
             return Err(Violation::unlinked(ViolationKind::JournalFull));
         }
-        let heard = match room_for_heard(&mut self.journal, &mut self.waiting, frame) {
+        let kept = self.left.len();
+        let heard = match room_for_heard(
+            &mut self.journal,
+            &mut self.waiting,
+            &mut self.left,
+            &self.endpoint,
+            frame,
+        ) {
             Ok(heard) => heard,
             Err(_) => return Err(heard_refused(&self.endpoint, frame)),
         };
@@ -258,6 +289,7 @@ impl Logged {
             }
             Err(violation) => {
                 drop(heard);
+                self.left.truncate(kept);
                 Err(violation)
             }
         }
@@ -273,7 +305,14 @@ impl Logged {
             drop(frame);
             return Err(Violation::unlinked(ViolationKind::JournalFull));
         }
-        match room_for_one(&mut self.journal, &mut self.waiting) {
+        let kept = self.left.len();
+        match room_to_hear(
+            &mut self.journal,
+            &mut self.waiting,
+            &mut self.left,
+            &self.endpoint,
+            frame.get(),
+        ) {
             Ok(()) => {}
             Err(_) => {
                 let violation = heard_refused(&self.endpoint, frame.get());
@@ -298,6 +337,7 @@ impl Logged {
             }
             Err(violation) => {
                 drop(frame);
+                self.left.truncate(kept);
                 Err(violation)
             }
         }
@@ -325,6 +365,40 @@ impl Logged {
         let number = self.popped;
         self.popped = number + 1;
         Some(Unit { number, bytes })
+    }
+
+    /// The first of what was left by links that are gone, and not popped. It is no step, and takes no memory.
+    pub fn pop_left(&mut self) -> Option<Left>
+        ensures some { IfSome result (λ x. self.old ≡ record self.new { left = x ∷ self.new.left }) }
+        ensures none { IfNone result ((self.old.left ≡ []) × (self.new ≡ self.old)) }
+    {
+        self.left.pop_front()
+    }
+
+    /// The first that the link of this number left: a delivery of a receiver, an outcome of a sender. It is no step, and takes no memory; O(n) for n
+    /// things that were left.
+    pub fn pop_left_by(&mut self, role: Role, link: u32) -> Option<Left>
+        ensures some { IfSome result (λ x. (find (is_left_by role link) self.old.left ≡ Some x) × (self.new ≡ record self.old { left = remove_first (is_left_by role link) self.old.left })) }
+        ensures none { IfNone result ((find (is_left_by role link) self.old.left ≡ None) × (self.new ≡ self.old)) }
+    {
+        let place = place_of(&self.left, role, link)?;
+        self.left.remove(place)
+    }
+
+    /// How many things were left by links that are gone, and not popped.
+    pub fn left_len(&self) -> usize
+        ensures { result ≡ length self.now.left }
+    {
+        self.left.len()
+    }
+
+    /// Puts what all links have ready and told behind what was left. It is no step: the links keep theirs, so it is for a session that does none
+    /// any more, and once.
+    pub fn leave(&mut self) -> Result<(), AllocError>
+        ensures ok { OnOk result (self.new ≡ leaving self.old) }
+        ensures err { OnErr result (self.new ≡ self.old) }
+    {
+        self.endpoint.leave_all(&mut self.left)
     }
 
     /// The entry at the receipt's place was not forgotten, is this operation's, and gave this link and this
@@ -397,10 +471,50 @@ fn room_for_one(journal: &mut Vec<Entry>, waiting: &mut VecDeque<Bytes>) -> Resu
     waiting.reserve(1)
 }
 
-/// Room for one entry and one unit more, and the step with its copy of the operation.
+/// Room for one entry and one unit more; and what the operation leaves is behind what was left.
+fn room_to_do(
+    journal: &mut Vec<Entry>,
+    waiting: &mut VecDeque<Bytes>,
+    left: &mut VecDeque<Left>,
+    endpoint: &Endpoint,
+    op: &Op,
+) -> Result<(), AllocError>
+    ensures journal { journal.new.items ≡ journal.old.items }
+    ensures waiting { waiting.new.items ≡ waiting.old.items }
+    ensures room { OnOk result (vec_len journal.new < vec_capacity journal.new) }
+    ensures place { OnOk result (deque_len waiting.new < deque_capacity waiting.new) }
+    ensures left { OnOk result (left.new.items ≡ left.old.items ++ left_by_own endpoint.now op.now) }
+    ensures still { OnErr result (left.new.items ≡ left.old.items) }
+{
+    room_for_one(journal, waiting)?;
+    endpoint.leave_by_own(op, left)
+}
+
+/// The same for a frame that is heard.
+fn room_to_hear(
+    journal: &mut Vec<Entry>,
+    waiting: &mut VecDeque<Bytes>,
+    left: &mut VecDeque<Left>,
+    endpoint: &Endpoint,
+    frame: &Frame,
+) -> Result<(), AllocError>
+    ensures journal { journal.new.items ≡ journal.old.items }
+    ensures waiting { waiting.new.items ≡ waiting.old.items }
+    ensures room { OnOk result (vec_len journal.new < vec_capacity journal.new) }
+    ensures place { OnOk result (deque_len waiting.new < deque_capacity waiting.new) }
+    ensures left { OnOk result (left.new.items ≡ left.old.items ++ left_by_heard endpoint.now frame.now.body) }
+    ensures still { OnErr result (left.new.items ≡ left.old.items) }
+{
+    room_for_one(journal, waiting)?;
+    endpoint.leave_by_heard(frame, left)
+}
+
+/// The same as `room_to_do`, and the step with its copy of the operation.
 fn room_for_own(
     journal: &mut Vec<Entry>,
     waiting: &mut VecDeque<Bytes>,
+    left: &mut VecDeque<Left>,
+    endpoint: &Endpoint,
     op: &Op,
 ) -> Result<Step, AllocError>
     ensures journal { journal.new.items ≡ journal.old.items }
@@ -408,17 +522,27 @@ fn room_for_own(
     ensures room { OnOk result (vec_len journal.new < vec_capacity journal.new) }
     ensures place { OnOk result (deque_len waiting.new < deque_capacity waiting.new) }
     ensures step { IfOk result (λ s. s ≡ step.Own op.now) }
+    ensures left { OnOk result (left.new.items ≡ left.old.items ++ left_by_own endpoint.now op.now) }
+    ensures still { OnErr result (left.new.items ≡ left.old.items) }
 {
     journal.reserve(1)?;
     waiting.reserve(1)?;
     let copy = op.clone()?;
-    Ok(Step::Own(copy))
+    match endpoint.leave_by_own(op, left) {
+        Ok(()) => Ok(Step::Own(copy)),
+        Err(error) => {
+            drop(copy);
+            Err(error)
+        }
+    }
 }
 
 /// The same for a frame that is heard.
 fn room_for_heard(
     journal: &mut Vec<Entry>,
     waiting: &mut VecDeque<Bytes>,
+    left: &mut VecDeque<Left>,
+    endpoint: &Endpoint,
     frame: &Frame,
 ) -> Result<Step, AllocError>
     ensures journal { journal.new.items ≡ journal.old.items }
@@ -426,11 +550,19 @@ fn room_for_heard(
     ensures room { OnOk result (vec_len journal.new < vec_capacity journal.new) }
     ensures place { OnOk result (deque_len waiting.new < deque_capacity waiting.new) }
     ensures step { IfOk result (λ s. s ≡ step.Heard frame.now) }
+    ensures left { OnOk result (left.new.items ≡ left.old.items ++ left_by_heard endpoint.now frame.now.body) }
+    ensures still { OnErr result (left.new.items ≡ left.old.items) }
 {
     journal.reserve(1)?;
     waiting.reserve(1)?;
     let copy = boxed(*journal.allocator(), frame)?;
-    Ok(Step::Heard(copy))
+    match endpoint.leave_by_heard(frame, left) {
+        Ok(()) => Ok(Step::Heard(copy)),
+        Err(error) => {
+            drop(copy);
+            Err(error)
+        }
+    }
 }
 
 /// Room for what is put, in its list and in the queue.
@@ -455,6 +587,37 @@ fn queue(waiting: &mut VecDeque<Bytes>, unit: Option<Bytes>)
     if let Some(bytes) = unit {
         waiting.push_back_reserved(bytes);
     }
+}
+
+/// It is a delivery, of a receiver, or an outcome, of a sender, that the link of this number left.
+fn is_left_by(left: &Left, role: Role, link: u32) -> bool
+    ensures { result ≡ is_left_by role link left.now }
+{
+    match role {
+        Role::Receiver => match left {
+            Left::Delivery(_, taken) => taken.get().link == link,
+            Left::Outcome(_, _) => false,
+        },
+        Role::Sender => match left {
+            Left::Delivery(_, _) => false,
+            Left::Outcome(_, learned) => learned.get().link == link,
+        },
+    }
+}
+
+/// The place of the first such thing.
+fn place_of(left: &VecDeque<Left>, role: Role, link: u32) -> Option<usize>
+    ensures found { IfSome result (λ i. find (is_left_by role link) left.now.items ≡ slice_get left.now.items i) }
+    ensures removed { IfSome result (λ i. remove left.now.items i ≡ remove_first (is_left_by role link) left.now.items) }
+    ensures within { IfSome result (λ i. i < deque_len left.now) }
+    ensures none { IfNone result (find (is_left_by role link) left.now.items ≡ None) }
+{
+    for place in 0..left.len() {
+        if is_left_by(&left[place], role, link) {
+            return Some(place);
+        }
+    }
+    None
 }
 
 /// The entry is this operation's, and gave this link and this delivery.

@@ -35,10 +35,11 @@ pub(crate) fn link_of(given: &Given) -> Option<u32>
         | Given::Offered(link)
         | Given::Attached(link)
         | Given::Gone(link)
-        | Given::Ready(link, _) => Some(*link),
+        | Given::Ready(link, _)
+        | Given::Parted(link, _) => Some(*link),
         Given::Taken(taken) => Some(taken.get().link),
         Given::Learned(learned) => Some(learned.get().link),
-        Given::Delivery(_) | Given::Nothing => None,
+        Given::Delivery(_) | Given::Suspended(_) | Given::Nothing => None,
     }
 }
 
@@ -50,7 +51,12 @@ pub(crate) fn id_of(given: &Given) -> Option<u32>
         Given::Delivery(id) | Given::Ready(_, id) => Some(*id),
         Given::Taken(taken) => Some(taken.get().id),
         Given::Learned(learned) => Some(learned.get().id),
-        Given::Link(_) | Given::Offered(_) | Given::Attached(_) | Given::Gone(_) | Given::Nothing =>
-            None,
+        Given::Link(_)
+        | Given::Offered(_)
+        | Given::Attached(_)
+        | Given::Gone(_)
+        | Given::Suspended(_)
+        | Given::Parted(_, _)
+        | Given::Nothing => None,
     }
 }

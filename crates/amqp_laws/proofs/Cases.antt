@@ -602,7 +602,7 @@ random_050 : short_lines_of (record { first_id = 1; window = 2048; journal_limit
     ∷ ask_link 4
     ∷ ask_held Sender
     ∷ ask_held Receiver ∷ [])
-    ≡ (held ([]) ∷ held ([]) ∷ link None ∷ link (Some (record { role = Sender; phase = phase.Attached; count = 4294967295; credit = 1; drain = true; mid = false; ready = 0 })) ∷ link (Some (record { role = Sender; phase = phase.Offered; count = 0; credit = 5; drain = false; mid = false; ready = 0 })) ∷ link (Some (record { role = Receiver; phase = phase.Attached; count = 0; credit = 10; drain = false; mid = false; ready = 0 })) ∷ link None ∷ windows (record { next_in = (Some 1); incoming = 2048; next_out = 1; remote_in = 2048; remote_out = 0; next_delivery = 1 }) ∷ held ([]) ∷ ok given.Nothing ([]) ([]) ∷ ok given.Nothing ([]) ([] ∷ []) ∷ ok given.Nothing ([]) ([] ∷ []) ∷ ok (given.Link 3) ([]) ([] ∷ []) ∷ violated 6 ∷ ok (given.Offered 3) ([]) ([]) ∷ ok given.Nothing ([]) ([] ∷ []) ∷ ok given.Nothing ([]) ([] ∷ []) ∷ violated 5 ∷ ok (given.Offered 2) ([]) ([]) ∷ ok given.Nothing ([]) ([] ∷ []) ∷ violated 4 ∷ ok given.Nothing ([]) ([]) ∷ ok (given.Link 1) ([]) ([] ∷ []) ∷ ok given.Nothing ([]) ([] ∷ []) ∷ ok (given.Offered 1) ([]) ([]) ∷ violated 2 ∷ ok (given.Gone 0) ([]) ([] ∷ []) ∷ ok given.Nothing ([]) ([] ∷ []) ∷ ok given.Nothing ([]) ([] ∷ []) ∷ ok (given.Link 0) ([]) ([] ∷ []) ∷ ok given.Nothing ([]) ([] ∷ []) ∷ ok (given.Offered 0) ([]) ([]) ∷ ok given.Nothing ([]) ([]) ∷ ok given.Nothing ([]) ([] ∷ []) ∷ ok given.Nothing ([]) ([]) ∷ [])
+    ≡ (held ([]) ∷ held ([]) ∷ link None ∷ link (Some (record { role = Sender; phase = phase.Attached; count = 4294967295; credit = 1; drain = true; mid = false; ready = 0 })) ∷ link (Some (record { role = Sender; phase = phase.Offered; count = 0; credit = 5; drain = false; mid = false; ready = 0 })) ∷ link (Some (record { role = Receiver; phase = phase.Attached; count = 0; credit = 10; drain = false; mid = false; ready = 0 })) ∷ link None ∷ windows (record { next_in = (Some 1); incoming = 2048; next_out = 1; remote_in = 2048; remote_out = 0; next_delivery = 1 }) ∷ held ([]) ∷ ok given.Nothing ([]) ([]) ∷ ok given.Nothing ([]) ([] ∷ []) ∷ ok given.Nothing ([]) ([] ∷ []) ∷ ok (given.Link 3) ([]) ([] ∷ []) ∷ violated 6 ∷ ok (given.Offered 3) ([]) ([]) ∷ ok given.Nothing ([]) ([] ∷ []) ∷ ok given.Nothing ([]) ([] ∷ []) ∷ violated 5 ∷ ok (given.Offered 2) ([]) ([]) ∷ ok given.Nothing ([]) ([] ∷ []) ∷ violated 4 ∷ ok given.Nothing ([]) ([]) ∷ ok (given.Link 1) ([]) ([] ∷ []) ∷ ok given.Nothing ([]) ([] ∷ []) ∷ ok (given.Offered 1) ([]) ([]) ∷ violated 2 ∷ ok (given.Parted 0 (record { name = (113 ∷ []); role = Receiver; items = ([]) })) ([]) ([] ∷ []) ∷ ok given.Nothing ([]) ([] ∷ []) ∷ ok given.Nothing ([]) ([] ∷ []) ∷ ok (given.Link 0) ([]) ([] ∷ []) ∷ ok given.Nothing ([]) ([] ∷ []) ∷ ok (given.Offered 0) ([]) ([]) ∷ ok given.Nothing ([]) ([]) ∷ ok given.Nothing ([]) ([] ∷ []) ∷ ok given.Nothing ([]) ([]) ∷ [])
 unfolding octets_of frame_refused canon spelled class_of is_utf8 chars encode
 random_050 = refl
 
@@ -868,7 +868,7 @@ random_089 : short_lines_of (record { first_id = 0; window = 2048; journal_limit
     ∷ ask_link 4
     ∷ ask_held Sender
     ∷ ask_held Receiver ∷ [])
-    ≡ (held ([]) ∷ held ([]) ∷ link None ∷ link (Some (record { role = Sender; phase = phase.Attached; count = 0; credit = 2147483648; drain = false; mid = false; ready = 0 })) ∷ link None ∷ link (Some (record { role = Sender; phase = phase.Attached; count = 4294967295; credit = 3; drain = true; mid = false; ready = 0 })) ∷ link (Some (record { role = Receiver; phase = phase.Attached; count = 6; credit = 99; drain = true; mid = false; ready = 1 })) ∷ windows (record { next_in = (Some 0); incoming = 2048; next_out = 0; remote_in = 3; remote_out = 0; next_delivery = 0 }) ∷ windows (record { next_in = (Some 0); incoming = 2048; next_out = 0; remote_in = 3; remote_out = 0; next_delivery = 0 }) ∷ ok given.Nothing ([]) ([]) ∷ violated 5 ∷ refused 8 ∷ refused 14 ∷ ok given.Nothing ([]) ([] ∷ []) ∷ ok (given.Link 3) ([]) ([] ∷ []) ∷ ok (given.Offered 3) ([]) ([]) ∷ ok (given.Ready 0 17) ([]) ([]) ∷ violated 13 ∷ violated 13 ∷ violated 13 ∷ violated 13 ∷ ok given.Nothing ([]) ([] ∷ []) ∷ ok given.Nothing ([]) ([]) ∷ refused 19 ∷ link (Some (record { role = Receiver; phase = phase.Attached; count = 5; credit = 100; drain = true; mid = false; ready = 0 })) ∷ ok given.Nothing ([]) ([]) ∷ violated 13 ∷ violated 6 ∷ violated 3 ∷ violated 5 ∷ ok (given.Gone 2) ([]) ([] ∷ []) ∷ refused 14 ∷ violated 8 ∷ ok given.Nothing ([]) ([]) ∷ ok (given.Link 2) ([]) ([] ∷ []) ∷ ok (given.Offered 2) ([]) ([]) ∷ ok given.Nothing ([]) ([]) ∷ ok (given.Attached 1) ([]) ([]) ∷ ok (given.Link 1) ([]) ([] ∷ []) ∷ ok given.Nothing ([]) ([] ∷ []) ∷ ok (given.Link 0) ([]) ([] ∷ []) ∷ ok (given.Offered 0) ([]) ([]) ∷ ok given.Nothing ([]) ([]) ∷ ok given.Nothing ([]) ([] ∷ []) ∷ ok given.Nothing ([]) ([]) ∷ [])
+    ≡ (held ([]) ∷ held ([]) ∷ link None ∷ link (Some (record { role = Sender; phase = phase.Attached; count = 0; credit = 2147483648; drain = false; mid = false; ready = 0 })) ∷ link None ∷ link (Some (record { role = Sender; phase = phase.Attached; count = 4294967295; credit = 3; drain = true; mid = false; ready = 0 })) ∷ link (Some (record { role = Receiver; phase = phase.Attached; count = 6; credit = 99; drain = true; mid = false; ready = 1 })) ∷ windows (record { next_in = (Some 0); incoming = 2048; next_out = 0; remote_in = 3; remote_out = 0; next_delivery = 0 }) ∷ windows (record { next_in = (Some 0); incoming = 2048; next_out = 0; remote_in = 3; remote_out = 0; next_delivery = 0 }) ∷ ok given.Nothing ([]) ([]) ∷ violated 5 ∷ refused 8 ∷ refused 14 ∷ ok given.Nothing ([]) ([] ∷ []) ∷ ok (given.Link 3) ([]) ([] ∷ []) ∷ ok (given.Offered 3) ([]) ([]) ∷ ok (given.Ready 0 17) ([]) ([]) ∷ violated 13 ∷ violated 13 ∷ violated 13 ∷ violated 13 ∷ ok given.Nothing ([]) ([] ∷ []) ∷ ok given.Nothing ([]) ([]) ∷ refused 19 ∷ link (Some (record { role = Receiver; phase = phase.Attached; count = 5; credit = 100; drain = true; mid = false; ready = 0 })) ∷ ok given.Nothing ([]) ([]) ∷ violated 13 ∷ violated 6 ∷ violated 3 ∷ violated 5 ∷ ok (given.Parted 2 (record { name = (122 ∷ []); role = Sender; items = ([]) })) ([]) ([] ∷ []) ∷ refused 14 ∷ violated 8 ∷ ok given.Nothing ([]) ([]) ∷ ok (given.Link 2) ([]) ([] ∷ []) ∷ ok (given.Offered 2) ([]) ([]) ∷ ok given.Nothing ([]) ([]) ∷ ok (given.Attached 1) ([]) ([]) ∷ ok (given.Link 1) ([]) ([] ∷ []) ∷ ok given.Nothing ([]) ([] ∷ []) ∷ ok (given.Link 0) ([]) ([] ∷ []) ∷ ok (given.Offered 0) ([]) ([]) ∷ ok given.Nothing ([]) ([]) ∷ ok given.Nothing ([]) ([] ∷ []) ∷ ok given.Nothing ([]) ([]) ∷ [])
 unfolding octets_of frame_refused canon spelled class_of is_utf8 chars encode
 random_089 = refl
 
@@ -984,7 +984,7 @@ random_103 : short_lines_of (record { first_id = 0; window = 2048; journal_limit
     ∷ ask_link 3
     ∷ ask_held Sender
     ∷ ask_held Receiver ∷ [])
-    ≡ (held ([]) ∷ held ([]) ∷ link None ∷ link (Some (record { role = Receiver; phase = phase.Asked; count = 0; credit = 0; drain = false; mid = false; ready = 0 })) ∷ link None ∷ link None ∷ windows (record { next_in = (Some 4294967295); incoming = 2048; next_out = 0; remote_in = 2048; remote_out = 2147483647; next_delivery = 0 }) ∷ ok (given.Link 2) ([]) ([] ∷ []) ∷ refused 26 ∷ ok (given.Gone 1) ([]) ([] ∷ []) ∷ refused 25 ∷ windows (record { next_in = (Some 4294967295); incoming = 2048; next_out = 0; remote_in = 2048; remote_out = 2147483647; next_delivery = 0 }) ∷ ok given.Nothing ([]) ([] ∷ []) ∷ ok given.Nothing ([]) ([] ∷ []) ∷ ok (given.Link 1) ([]) ([] ∷ []) ∷ ok (given.Offered 1) ([]) ([]) ∷ link None ∷ refused 5 ∷ ok (given.Gone 0) ([]) ([]) ∷ ok given.Nothing ((Receiver, 4294967294) ∷ (Receiver, 4294967295) ∷ (Receiver, 0) ∷ []) ([] ∷ []) ∷ ok (given.Taken (record { id = 4294967294; link = 0; tag = (43 ∷ 216 ∷ []); format = 4294967295; payload = ([]); settled = false; second = false })) ([]) ([]) ∷ refused 9 ∷ ok (given.Ready 0 0) ([]) ([]) ∷ link (Some (record { role = Receiver; phase = phase.Attached; count = 7; credit = 3; drain = false; mid = false; ready = 2 })) ∷ violated 9 ∷ ok given.Nothing ([]) ([] ∷ []) ∷ link (Some (record { role = Receiver; phase = phase.Attached; count = 7; credit = 3; drain = false; mid = false; ready = 2 })) ∷ ok given.Nothing ([]) ([]) ∷ link (Some (record { role = Receiver; phase = phase.Attached; count = 7; credit = 3; drain = false; mid = false; ready = 2 })) ∷ ok (given.Ready 0 4294967295) ([]) ([]) ∷ violated 13 ∷ refused 9 ∷ link (Some (record { role = Receiver; phase = phase.Attached; count = 6; credit = 4; drain = false; mid = false; ready = 1 })) ∷ ok given.Nothing ([]) ([]) ∷ violated 11 ∷ ok (given.Ready 0 4294967294) ([]) ([]) ∷ ok given.Nothing ([]) ([] ∷ []) ∷ ok (given.Attached 0) ([]) ([]) ∷ ok given.Nothing ([]) ([]) ∷ ok (given.Link 0) ([]) ([] ∷ []) ∷ ok given.Nothing ([]) ([]) ∷ ok given.Nothing ([]) ([] ∷ []) ∷ ok given.Nothing ([]) ([]) ∷ [])
+    ≡ (held ([]) ∷ held ([]) ∷ link None ∷ link (Some (record { role = Receiver; phase = phase.Asked; count = 0; credit = 0; drain = false; mid = false; ready = 0 })) ∷ link None ∷ link None ∷ windows (record { next_in = (Some 4294967295); incoming = 2048; next_out = 0; remote_in = 2048; remote_out = 2147483647; next_delivery = 0 }) ∷ ok (given.Link 2) ([]) ([] ∷ []) ∷ refused 26 ∷ ok (given.Parted 1 (record { name = (97 ∷ 195 ∷ 169 ∷ []); role = Sender; items = ([]) })) ([]) ([] ∷ []) ∷ refused 25 ∷ windows (record { next_in = (Some 4294967295); incoming = 2048; next_out = 0; remote_in = 2048; remote_out = 2147483647; next_delivery = 0 }) ∷ ok given.Nothing ([]) ([] ∷ []) ∷ ok given.Nothing ([]) ([] ∷ []) ∷ ok (given.Link 1) ([]) ([] ∷ []) ∷ ok (given.Offered 1) ([]) ([]) ∷ link None ∷ refused 5 ∷ ok (given.Gone 0) ([]) ([]) ∷ ok given.Nothing ((Receiver, 4294967294) ∷ (Receiver, 4294967295) ∷ (Receiver, 0) ∷ []) ([] ∷ []) ∷ ok (given.Taken (record { id = 4294967294; link = 0; tag = (43 ∷ 216 ∷ []); format = 4294967295; payload = ([]); settled = false; second = false })) ([]) ([]) ∷ refused 9 ∷ ok (given.Ready 0 0) ([]) ([]) ∷ link (Some (record { role = Receiver; phase = phase.Attached; count = 7; credit = 3; drain = false; mid = false; ready = 2 })) ∷ violated 9 ∷ ok given.Nothing ([]) ([] ∷ []) ∷ link (Some (record { role = Receiver; phase = phase.Attached; count = 7; credit = 3; drain = false; mid = false; ready = 2 })) ∷ ok given.Nothing ([]) ([]) ∷ link (Some (record { role = Receiver; phase = phase.Attached; count = 7; credit = 3; drain = false; mid = false; ready = 2 })) ∷ ok (given.Ready 0 4294967295) ([]) ([]) ∷ violated 13 ∷ refused 9 ∷ link (Some (record { role = Receiver; phase = phase.Attached; count = 6; credit = 4; drain = false; mid = false; ready = 1 })) ∷ ok given.Nothing ([]) ([]) ∷ violated 11 ∷ ok (given.Ready 0 4294967294) ([]) ([]) ∷ ok given.Nothing ([]) ([] ∷ []) ∷ ok (given.Attached 0) ([]) ([]) ∷ ok given.Nothing ([]) ([]) ∷ ok (given.Link 0) ([]) ([] ∷ []) ∷ ok given.Nothing ([]) ([]) ∷ ok given.Nothing ([]) ([] ∷ []) ∷ ok given.Nothing ([]) ([]) ∷ [])
 unfolding octets_of frame_refused canon spelled class_of is_utf8 chars encode
 random_103 = refl
 

@@ -7,6 +7,7 @@ use Rattle.amqp_performatives.specs.declared.bodies.Role.TheVariants.{Sender, Re
 use Rattle.amqp_performatives.specs.declared.performative.Performative.TheVariants as heard
 use Rattle.amqp_rules.specs.declared.op.Op.TheVariants.{Detach}
 use Rattle.amqp_rules.specs.declared.reply.Reply.{Reply}
+use Rattle.amqp_rules.specs.declared.reply.Given.{Given}
 use Rattle.amqp_rules.specs.declared.reply.Given.TheVariants.{Nothing, Gone}
 use Rattle.amqp_rules.specs.declared.violation.ViolationKind.TheVariants.{OutOfSession, BadHandle}
 use Rattle.amqp_rules.specs.declared.config.Config.{Config}
@@ -14,7 +15,7 @@ use Rattle.amqp_rules.specs.View.{LinkView, handle_of, has_number, has_peer_hand
 use Rattle.amqp_rules.specs.Refusing.{if_there, unlinked}
 use Rattle.amqp_rules.specs.Sending.{reply_ending, sends_ending}
 use Rattle.amqp_rules.specs.Detach.{detach_answer, detach_body, detach_refusals, left_by_us, next_detach}
-use Rattle.amqp_rules.specs.PeerDetach.{detach_heard_answer, detach_reply, next_detach_heard}
+use Rattle.amqp_rules.specs.PeerDetach.{detach_heard_answer, detach_reply, next_detach_heard, parting}
 use Rattle.amqp_laws.specs.declared.entry.Entry.{Entry}
 use Rattle.amqp_laws.specs.declared.entry.Step.TheVariants.{Own, Heard}
 use Rattle.amqp_laws.specs.Links.{link_pasts, is_gone, put, is_there_with}
@@ -61,20 +62,20 @@ mute-left : (o : Option LinkView) → IsMute (left_by_peer o)
 mute-left None = tt
 mute-left (Some l) = tt
 
-detach-heard-at : (c : Config) (n : ℕ) (past : List Entry) (channel : ℕ) (b : DetachBody) (payload : List ℕ) (attached : Bool) (handle number : ℕ) (ended : List (Role × ℕ))
+detach-heard-at : (c : Config) (n : ℕ) (past : List Entry) (channel : ℕ) (b : DetachBody) (payload : List ℕ) (attached : Bool) (handle number : ℕ) (ended : List (Role × ℕ)) (given : Given)
     → AreLearnt (sent_events c past)
     → seen c (n + 1)
-    (detach_heard_entry channel b payload (cond attached (reply_ending (detach_body handle b.closed None) [] ended (Gone number)) (record { sent = []; ended = ended; given = Gone number })) ∷ past)
+    (detach_heard_entry channel b payload (cond attached (reply_ending (detach_body handle b.closed None) [] ended given) (record { sent = []; ended = ended; given = Gone number })) ∷ past)
     ≡ next_detach_heard (seen c n past) b
-detach-heard-at c n past channel b payload true handle number ended learnt =
-    let reply : Reply = reply_ending (detach_body handle b.closed None) [] ended (Gone number) in
+detach-heard-at c n past channel b payload true handle number ended given learnt =
+    let reply : Reply = reply_ending (detach_body handle b.closed None) [] ended given in
     let e = detach_heard_entry channel b payload reply in
     let event = left_by_peer (find (has_peer_handle b.handle) (links_at past)) in
     let told = ap (λ ls. map (with_told (event ∷ sent_events c past)) ls) (at-removed (is_over (session_at past)) (has_peer_handle b.handle) e (link_pasts past) (λ l. refl))
     ∙ told-removed event (sent_events c past) (has_peer_handle b.handle) (links_at past) learnt (mute-left (find (has_peer_handle b.handle) (links_at past))) (λ l. refl) in
     let tables = taken-tables c n (n + 1) past channel (Some (heard.Detach b)) payload reply in
     rw (told, length-changed (is_there_with (has_peer_handle b.handle)) (put e) (link_pasts past), tables.sends, tables.receives, tables.expects) refl
-detach-heard-at c n past channel b payload false handle number ended learnt =
+detach-heard-at c n past channel b payload false handle number ended given learnt =
     let reply : Reply = record { sent = []; ended = ended; given = Gone number } in
     let e = detach_heard_entry channel b payload reply in
     let event = left_by_peer (find (has_peer_handle b.handle) (links_at past)) in
@@ -92,4 +93,4 @@ detach-heard-law c n past channel b payload reply learnt h =
     let u = unless_Ok _ (unlinked OutOfSession) (if_there (find (has_peer_handle b.handle) v.links) (unlinked BadHandle) (λ l. Ok (detach_reply v b l))) reply h in
     let t = there_Ok (find (has_peer_handle b.handle) v.links) (unlinked BadHandle) (λ l. Ok (detach_reply v b l)) reply u.1 in
     let replies : detach_reply v b t.on ≡ reply = cc t.said in
-    rw (← replies) (detach-heard-at c n past channel b payload (is_attached t.on) (handle_of t.on.ours) t.on.number _ learnt)
+    rw (← replies) (detach-heard-at c n past channel b payload (is_attached t.on) (handle_of t.on.ours) t.on.number _ (parting v b t.on) learnt)

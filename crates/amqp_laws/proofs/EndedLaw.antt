@@ -7,7 +7,7 @@ use Rattle.amqp_performatives.specs.declared.bodies.Role.TheVariants.{Sender, Re
 use Rattle.amqp_performatives.specs.declared.performative.Performative.{Performative}
 use Rattle.amqp_performatives.specs.declared.performative.Performative.TheVariants as heard
 use Rattle.amqp_rules.specs.declared.op.Op.{Op}
-use Rattle.amqp_rules.specs.declared.op.Op.TheVariants.{Begin, Attach, Start, Carry, Abort, Dispose, Learn, Grant, Offer, Drained, Refresh, Take, Detach, End, Beat}
+use Rattle.amqp_rules.specs.declared.op.Op.TheVariants.{Begin, Attach, Start, Carry, Abort, Dispose, Learn, Grant, Offer, Drained, Refresh, Take, Detach, Suspend, End, Beat}
 use Rattle.amqp_rules.specs.declared.reply.Reply.{Reply}
 use Rattle.amqp_rules.specs.declared.reply.Given.{Given}
 use Rattle.amqp_rules.specs.declared.refusal.Refusal.{Refusal}
@@ -40,7 +40,8 @@ use Rattle.amqp_rules.specs.PeerBegin.{begin_violations}
 use Rattle.amqp_rules.specs.PeerAttach.{attach_violations, attach_heard_reply}
 use Rattle.amqp_rules.specs.PeerDisposition.{disposition_violations, disposition_reply}
 use Rattle.amqp_rules.specs.Flow.{flow_violations, flow_reply, echoes, flow_windows, flow_link, named_link, echo_body}
-use Rattle.amqp_rules.specs.PeerDetach.{detach_reply}
+use Rattle.amqp_rules.specs.Suspend.{put_aside}
+use Rattle.amqp_rules.specs.PeerDetach.{detach_reply, parting}
 use Rattle.amqp_rules.specs.PeerEnd.{end_reply}
 use Rattle.amqp_rules.specs.PeerTransfer.{transfer_violations, transfer_reply}
 use Rattle.amqp_rules.specs.Answer.{own_answer, body_answer}
@@ -166,6 +167,10 @@ own-ends v (Detach link error) =
     let l = ended_by (Leaves link) (Leaves link) v in
     ends-on l v link (λ k. sends_ending v.max_frame (detach_refusals k) (detach_body (handle_of k.ours) (Some true) error) l given.Nothing)
     (λ k. ends-ending l v.max_frame (detach_refusals k) (detach_body (handle_of k.ours) (Some true) error) given.Nothing)
+own-ends v (Suspend link) =
+    let l = ended_by (Leaves link) (Leaves link) v in
+    ends-on l v link (λ k. sends_ending v.max_frame (detach_refusals k) (detach_body (handle_of k.ours) None None) l (given.Suspended (put_aside v k)))
+    (λ k. ends-ending l v.max_frame (detach_refusals k) (detach_body (handle_of k.ours) None None) (given.Suspended (put_aside v k)))
 own-ends v (End error) =
     ends-ending (ended_by Over Over v) v.max_frame ((not (is_mapped v.session), NotMapped) ∷ []) (end_body error) given.Nothing
 own-ends v Beat = ends-sends (ended_by No_event No_event v) v.max_frame [] None [] given.Nothing (still v)
@@ -179,7 +184,7 @@ detach-ends v b None l h = absurd (cc)
 detach-ends v b (Some k) l h =
     let same : k ≡ l = cc in
     let ended = ended_by (Leaves k.number) (Leaves k.number) v in
-    rw (← same) (same-reply (is_attached k) (reply_ending (detach_body (handle_of k.ours) b.closed None) [] ended (given.Gone k.number)) (record { sent = []; ended = ended; given = given.Gone k.number }) ended refl refl)
+    rw (← same) (same-reply (is_attached k) (reply_ending (detach_body (handle_of k.ours) b.closed None) [] ended (parting v b k)) (record { sent = []; ended = ended; given = given.Gone k.number }) ended refl refl)
 
 pub body-ends : (v : View) (body : Option Performative) (payload : List ℕ) → Ends (ended_by (sent_by_body v body) (received_by_body v body) v) (body_answer v body payload)
 body-ends v (Some (heard.Begin b)) payload = ends-answered (ended_by No_event No_event v) (first_refusal (begin_violations v)) no_reply (sym (still v))

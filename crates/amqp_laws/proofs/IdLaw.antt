@@ -7,7 +7,7 @@ use Rattle.amqp_performatives.specs.declared.performative.Performative.{Performa
 use Rattle.amqp_performatives.specs.declared.performative.Performative.TheVariants as heard
 use Rattle.amqp_frames.specs.declared.frame.Frame.{Frame}
 use Rattle.amqp_rules.specs.declared.op.Op.{Op}
-use Rattle.amqp_rules.specs.declared.op.Op.TheVariants.{Begin, Attach, Start, Carry, Abort, Dispose, Learn, Grant, Offer, Drained, Refresh, Take, Detach, End, Beat}
+use Rattle.amqp_rules.specs.declared.op.Op.TheVariants.{Begin, Attach, Start, Carry, Abort, Dispose, Learn, Grant, Offer, Drained, Refresh, Take, Detach, Suspend, End, Beat}
 use Rattle.amqp_rules.specs.declared.reply.Reply.{Reply}
 use Rattle.amqp_rules.specs.declared.reply.Given.{Given}
 use Rattle.amqp_rules.specs.declared.refusal.Refusal.{Refusal}
@@ -41,7 +41,8 @@ use Rattle.amqp_rules.specs.PeerBegin.{begin_violations}
 use Rattle.amqp_rules.specs.PeerAttach.{attach_violations, attach_heard_reply}
 use Rattle.amqp_rules.specs.PeerDisposition.{disposition_violations, disposition_reply}
 use Rattle.amqp_rules.specs.Flow.{flow_violations, flow_reply, echoes, flow_windows, flow_link, named_link, echo_body}
-use Rattle.amqp_rules.specs.PeerDetach.{detach_reply}
+use Rattle.amqp_rules.specs.Suspend.{put_aside}
+use Rattle.amqp_rules.specs.PeerDetach.{detach_reply, parting}
 use Rattle.amqp_rules.specs.PeerEnd.{end_reply}
 use Rattle.amqp_rules.specs.PeerTransfer.{transfer_violations, transfer_reply}
 use Rattle.amqp_rules.specs.Answer.{own_answer, body_answer}
@@ -144,6 +145,10 @@ own-ids v (Detach link error) =
     let l = ended_by (Leaves link) (Leaves link) v in
     rep-on (Sends []) v link (λ k. sends_ending v.max_frame (detach_refusals k) (detach_body (handle_of k.ours) (Some true) error) l given.Nothing)
     (λ k. rep-ending (Sends []) v.max_frame (detach_refusals k) (detach_body (handle_of k.ours) (Some true) error) l given.Nothing refl)
+own-ids v (Suspend link) =
+    let l = ended_by (Leaves link) (Leaves link) v in
+    rep-on (Sends []) v link (λ k. sends_ending v.max_frame (detach_refusals k) (detach_body (handle_of k.ours) None None) l (given.Suspended (put_aside v k)))
+    (λ k. rep-ending (Sends []) v.max_frame (detach_refusals k) (detach_body (handle_of k.ours) None None) l (given.Suspended (put_aside v k)) refl)
 own-ids v (End error) =
     rep-ending (Sends []) v.max_frame ((not (is_mapped v.session), NotMapped) ∷ []) (end_body error) (ended_by Over Over v) given.Nothing refl
 own-ids v Beat = rep-sends (Sends []) v.max_frame [] None [] given.Nothing refl
@@ -170,7 +175,7 @@ body-ids v (Some (heard.Detach b)) payload =
     rep-unless (Sends []) (not (takes_frames v.session)) (unlinked OutOfSession) (if_there o (unlinked BadHandle) (λ k. Ok (detach_reply v b k)))
     (rep-there (Sends []) o (unlinked BadHandle) (λ k. Ok (detach_reply v b k))
     (λ k. let l = ended_by (Leaves k.number) (Leaves k.number) v in
-    either-reply (is_attached k) (reply_ending (detach_body (handle_of k.ours) b.closed None) [] l (given.Gone k.number)) (record { sent = []; ended = l; given = given.Gone k.number }) [] refl refl))
+    either-reply (is_attached k) (reply_ending (detach_body (handle_of k.ours) b.closed None) [] l (parting v b k)) (record { sent = []; ended = l; given = given.Gone k.number }) [] refl refl))
 body-ids v (Some (heard.End b)) payload =
     let l = ended_by Over Over v in
     rep-unless (Sends []) (not (is_ending v.session || takes_frames v.session)) (unlinked OutOfSession) (Ok (end_reply v))

@@ -28,6 +28,7 @@ pub mod Fresh
 pub mod SessionLaw
 pub mod TakeLaw
 pub mod DetachLaw
+pub mod SuspendLaw
 pub mod Below
 pub mod AttachLaw
 pub mod FlowLaw

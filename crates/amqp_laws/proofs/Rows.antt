@@ -256,6 +256,23 @@ detach_ends : lines_of (record { first_id = 0; window = 2048; journal_limit = 10
 unfolding octets_of frame_refused canon spelled class_of is_utf8 chars encode
 detach_ends = refl
 
+-- a link that is put aside gives what is held on it
+suspend_gives : lines_of (record { first_id = 0; window = 2048; journal_limit = 1073741824 })
+    (ask (Opened 65536)
+    ∷ ask (Own own.Begin)
+    ∷ ask (Heard (record { channel = 0; body = (Some (heard.Begin (record { remote_channel = (Some 0); next_outgoing_id = 0; incoming_window = 2048; outgoing_window = 2147483647; handle_max = None; offered_capabilities = None; desired_capabilities = None; properties = None }))); payload = ([]) }))
+    ∷ ask (Own (own.Attach (113 ∷ []) Sender 2 0 None None 0 0))
+    ∷ ask (Heard (record { channel = 0; body = (Some (heard.Attach (record { name = (113 ∷ []); handle = 0; role = Receiver; snd_settle_mode = None; rcv_settle_mode = None; source = None; target = None; unsettled = None; incomplete_unsettled = None; initial_delivery_count = None; max_message_size = None; offered_capabilities = None; desired_capabilities = None; properties = None }))); payload = ([]) }))
+    ∷ ask (Heard (record { channel = 0; body = (Some (heard.Flow (record { next_incoming_id = (Some 0); incoming_window = 2048; next_outgoing_id = 0; outgoing_window = 2147483647; handle = (Some 0); delivery_count = (Some 0); link_credit = (Some 5); available = None; drain = None; echo = None; properties = None }))); payload = ([]) }))
+    ∷ ask (Own (own.Start 0 (1 ∷ []) 0 false (120 ∷ []) false))
+    ∷ ask (Own (own.Start 0 (2 ∷ []) 0 false (121 ∷ []) false))
+    ∷ ask (Own (own.Suspend 0))
+    ∷ ask_held Sender
+    ∷ ask (Heard (record { channel = 0; body = (Some (heard.Detach (record { handle = 0; closed = None; error = None }))); payload = ([]) })) ∷ [])
+    ≡ (ok (given.Gone 0) ([]) ([]) ∷ held ([]) ∷ ok (given.Suspended (record { name = (113 ∷ []); role = Sender; items = (record { tag = (1 ∷ []); state = None } ∷ record { tag = (2 ∷ []); state = None } ∷ []) })) ((Sender, 0) ∷ (Sender, 1) ∷ []) ((0 ∷ 0 ∷ 0 ∷ 15 ∷ 2 ∷ 0 ∷ 0 ∷ 0 ∷ 0 ∷ 83 ∷ 22 ∷ 192 ∷ 2 ∷ 1 ∷ 67 ∷ []) ∷ []) ∷ ok (given.Delivery 1) ([]) ((0 ∷ 0 ∷ 0 ∷ 22 ∷ 2 ∷ 0 ∷ 0 ∷ 0 ∷ 0 ∷ 83 ∷ 20 ∷ 192 ∷ 8 ∷ 4 ∷ 67 ∷ 82 ∷ 1 ∷ 160 ∷ 1 ∷ 2 ∷ 67 ∷ 121 ∷ []) ∷ []) ∷ ok (given.Delivery 0) ([]) ((0 ∷ 0 ∷ 0 ∷ 21 ∷ 2 ∷ 0 ∷ 0 ∷ 0 ∷ 0 ∷ 83 ∷ 20 ∷ 192 ∷ 7 ∷ 4 ∷ 67 ∷ 67 ∷ 160 ∷ 1 ∷ 1 ∷ 67 ∷ 120 ∷ []) ∷ []) ∷ ok given.Nothing ([]) ([]) ∷ ok (given.Attached 0) ([]) ([]) ∷ ok (given.Link 0) ([]) ((0 ∷ 0 ∷ 0 ∷ 28 ∷ 2 ∷ 0 ∷ 0 ∷ 0 ∷ 0 ∷ 83 ∷ 18 ∷ 192 ∷ 15 ∷ 10 ∷ 161 ∷ 1 ∷ 113 ∷ 67 ∷ 66 ∷ 80 ∷ 2 ∷ 80 ∷ 0 ∷ 64 ∷ 64 ∷ 64 ∷ 64 ∷ 67 ∷ []) ∷ []) ∷ ok given.Nothing ([]) ([]) ∷ ok given.Nothing ([]) ((0 ∷ 0 ∷ 0 ∷ 26 ∷ 2 ∷ 0 ∷ 0 ∷ 0 ∷ 0 ∷ 83 ∷ 17 ∷ 192 ∷ 13 ∷ 4 ∷ 64 ∷ 67 ∷ 112 ∷ 0 ∷ 0 ∷ 8 ∷ 0 ∷ 112 ∷ 127 ∷ 255 ∷ 255 ∷ 255 ∷ []) ∷ []) ∷ ok given.Nothing ([]) ([]) ∷ [])
+unfolding octets_of frame_refused canon spelled class_of is_utf8 chars encode
+suspend_gives = refl
+
 -- an end ends all that is held
 end_ends_all : lines_of (record { first_id = 0; window = 2048; journal_limit = 1073741824 })
     (ask (Opened 65536)

@@ -7,7 +7,7 @@ use Rattle.amqp_performatives.specs.declared.performative.Performative.{Performa
 use Rattle.amqp_performatives.specs.declared.performative.Performative.TheVariants as heard
 use Rattle.amqp_frames.specs.declared.frame.Frame.{Frame}
 use Rattle.amqp_rules.specs.declared.op.Op.{Op}
-use Rattle.amqp_rules.specs.declared.op.Op.TheVariants.{Begin, Attach, Start, Carry, Abort, Dispose, Learn, Grant, Offer, Drained, Refresh, Take, Detach, End, Beat}
+use Rattle.amqp_rules.specs.declared.op.Op.TheVariants.{Begin, Attach, Start, Carry, Abort, Dispose, Learn, Grant, Offer, Drained, Refresh, Take, Detach, Suspend, End, Beat}
 use Rattle.amqp_rules.specs.declared.config.Config.{Config}
 use Rattle.amqp_rules.specs.View.{View, LinkView, SendingView, has_number, has_peer_handle, is_offered_as, is_asked_as, opposite}
 use Rattle.amqp_rules.specs.Deliveries.{sent_by_own, sent_by_body, received_by_own, received_by_body, continued_on, sending_on, said_of, heard_of, left_by_peer}
@@ -74,6 +74,7 @@ own-tables v (Learn link) =
 own-tables v (Take link) =
     record { sends = sym (sent-left No_event v.sent nothing-left); receives = sym (held-left (Takes link) v.received (takes-left link)); expects = refl }
 own-tables v (Detach link error) = record { sends = refl; receives = refl; expects = refl }
+own-tables v (Suspend link) = record { sends = refl; receives = refl; expects = refl }
 own-tables v (End error) = record { sends = sym (sent-over v.sent); receives = sym (held-over v.received); expects = refl }
 own-tables v Begin = stays v _ refl refl refl
 own-tables v (Grant link credit drain echo) = stays v _ refl refl refl

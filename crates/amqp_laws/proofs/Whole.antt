@@ -4,7 +4,7 @@ use Rattle.amqp_performatives.specs.declared.performative.Performative.{Performa
 use Rattle.amqp_performatives.specs.declared.performative.Performative.TheVariants as heard
 use Rattle.amqp_frames.specs.declared.frame.Frame.{Frame}
 use Rattle.amqp_rules.specs.declared.op.Op.{Op}
-use Rattle.amqp_rules.specs.declared.op.Op.TheVariants.{Begin, Attach, Start, Carry, Abort, Dispose, Learn, Grant, Offer, Drained, Refresh, Take, Detach, End, Beat}
+use Rattle.amqp_rules.specs.declared.op.Op.TheVariants.{Begin, Attach, Start, Carry, Abort, Dispose, Learn, Grant, Offer, Drained, Refresh, Take, Detach, Suspend, End, Beat}
 use Rattle.amqp_rules.specs.declared.config.Config.{Config}
 use Rattle.amqp_rules.specs.declared.reply.Reply.{Reply}
 use Rattle.amqp_rules.specs.Answer.{body_answer, heard_answer, is_dropped, is_end, next_body, next_heard, next_own, own_answer}
@@ -31,6 +31,7 @@ use Rattle.amqp_laws.proofs.GrantLaw.{grant-law}
 use Rattle.amqp_laws.proofs.OfferLaw.{offer-law}
 use Rattle.amqp_laws.proofs.DrainedLaw.{drained-law}
 use Rattle.amqp_laws.proofs.TakeLaw.{take-law}
+use Rattle.amqp_laws.proofs.SuspendLaw.{suspend-law}
 use Rattle.amqp_laws.proofs.DetachLaw.{detach-law, detach-heard-law}
 use Rattle.amqp_laws.proofs.FlowLaw.{flow-law}
 use Rattle.amqp_laws.proofs.TransferLaw.{TakesFew, transfer-law}
@@ -54,6 +55,7 @@ own-law c n past (Drained link) reply learnt h = drained-law c n past link reply
 own-law c n past (Refresh echo) reply learnt h = refresh-law c n past echo reply learnt h
 own-law c n past (Take link) reply learnt h = take-law c n past link reply learnt h
 own-law c n past (Detach link error) reply learnt h = detach-law c n past link error reply learnt h
+own-law c n past (Suspend link) reply learnt h = suspend-law c n past link reply learnt h
 own-law c n past (End error) reply learnt h = end-law c n past error reply learnt h
 own-law c n past Beat reply learnt h = beat-law c n past reply learnt h
 

@@ -6,7 +6,7 @@ use Rattle.amqp_performatives.specs.declared.performative.Performative.{Performa
 use Rattle.amqp_performatives.specs.declared.performative.Performative.TheVariants as heard
 use Rattle.amqp_flow.specs.Credit.{CreditView}
 use Rattle.amqp_rules.specs.declared.op.Op.{Op}
-use Rattle.amqp_rules.specs.declared.op.Op.TheVariants.{Attach, Start, Carry, Abort, Learn, Grant, Offer, Drained, Take, Detach}
+use Rattle.amqp_rules.specs.declared.op.Op.TheVariants.{Attach, Start, Carry, Abort, Learn, Grant, Offer, Drained, Take, Detach, Suspend}
 use Rattle.amqp_rules.specs.View.{LinkView, has_number, has_peer_handle, is_asked_as, is_offered_as, opposite, change_first}
 use Rattle.amqp_rules.specs.Attach.{end_of}
 use Rattle.amqp_laws.specs.declared.entry.Entry.{Entry}
@@ -81,6 +81,7 @@ own_concern (Offer link available) = link_with (has_number link)
 own_concern (Drained link) = link_with (has_number link)
 own_concern (Take link) = link_with (has_number link)
 own_concern (Detach link error) = link_with (has_number link)
+own_concern (Suspend link) = link_with (has_number link)
 own_concern _ = no_link
 
 -- the link that the peer calls by this handle, unless we have left it

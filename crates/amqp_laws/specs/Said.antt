@@ -153,6 +153,7 @@ is_take _ = false
 
 abbrev pub is_own_detach : Option Op → Bool
 is_own_detach (Some (own.Detach link error)) = true
+is_own_detach (Some (own.Suspend link)) = true
 is_own_detach _ = false
 
 abbrev pub is_own_end : Option Op → Bool

@@ -12,3 +12,4 @@ pub mod Handled
 pub mod Spares
 pub mod Indexing
 pub mod Leaving
+pub mod Aside

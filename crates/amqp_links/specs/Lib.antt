@@ -8,3 +8,4 @@ pub mod Index
 pub mod Fate
 pub mod Waits
 pub mod Left
+pub mod Suspend

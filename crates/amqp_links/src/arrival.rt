@@ -122,6 +122,13 @@ impl Unfinished {
         Ok(())
     }
 
+    /// Its delivery-id.
+    pub(crate) fn id(&self) -> u32
+        ensures { result ≡ self.now.id }
+    {
+        self.id
+    }
+
     /// How far it has come.
     fn progress(&self) -> Progress
         ensures { IsProgressOf self.now result }

@@ -14,7 +14,7 @@ use crate::link::Link;
 use crate::links::Links;
 use crate::store::Store;
 use amqp_deliveries::Telling;
-use amqp_rules::copying::copy_state;
+use amqp_performatives::copying::copy_state;
 use amqp_rules::reply::{Learned, Taken};
 use amqp_types::{Boxed, Text};
 use slab::Slab;

@@ -13,6 +13,7 @@
 //! | `telling` | what is told of deliveries waits on their links |
 //! | `found` | a link that was found, with its key |
 //! | `left` | what links leave that go |
+//! | `suspend` | what goes with a link that is put aside |
 //! | `fate` | what becomes of the links, as data |
 #![tactic(auto)]
 
@@ -32,5 +33,6 @@ mod meeting;
 mod names;
 mod readers;
 mod store;
+mod suspend;
 mod telling;
 mod waiting;

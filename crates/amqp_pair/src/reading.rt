@@ -41,6 +41,8 @@ pub struct Beginning {
     pub role: Role,
     /// The credit that a receiver grants first.
     pub credit: u32,
+    /// How many entries of its journal it keeps at most, when it has fed what was read; none: all.
+    pub keep: Option<u32>,
 }
 
 /// What a reader's thread starts with.
@@ -161,6 +163,7 @@ impl<'a, N: Name> Reading<'a, N> {
             }
             let opens = self.stage != Stage::Runs;
             self.go_on(&mut guard)?;
+            self.make_room(&mut guard);
             drop(guard);
             if opens && self.stage == Stage::Runs {
                 gate.tell(rt, Opening::Ready);
@@ -211,6 +214,14 @@ impl<'a, N: Name> Reading<'a, N> {
         Ok(())
     }
 
+    /// Forgets the journal's entries where more stand than are kept.
+    fn make_room(&self, guard: &mut MutexGuard<'_, Locked<N>>) {
+        let stand = guard.conn().logged().journal().len();
+        if is_over(stand, self.beginning.keep) {
+            self.shared.forget(guard);
+        }
+    }
+
     /// Attaches the link: whether it was not too early for it.
     fn attach(&mut self, guard: &mut MutexGuard<'_, Locked<N>>) -> Result<bool, ReadFault> {
         let Ok(name) = Text::new(self.alloc, "q") else {
@@ -249,6 +260,14 @@ impl<'a, N: Name> Reading<'a, N> {
             Err(Refusal::NotMapped | Refusal::NotRunning) => Ok(false),
             Err(refusal) => Err(ReadFault::Refused(refusal)),
         }
+    }
+}
+
+/// So many entries are more than are kept.
+fn is_over(stand: usize, keep: Option<u32>) -> bool {
+    match keep {
+        Some(most) => stand > most as usize,
+        None => false,
     }
 }
 

@@ -62,6 +62,7 @@ where
     let beginning = Beginning {
         role: Role::Receiver,
         credit: options.credit,
+        keep: options.keep,
     };
     let reader = Reader {
         alloc,

@@ -64,6 +64,7 @@ where
     let beginning = Beginning {
         role: Role::Sender,
         credit: 0,
+        keep: messages.keep(),
     };
     let reader = Reader {
         alloc,
@@ -75,7 +76,7 @@ where
     let writer = Writer { alloc, end, stream };
     let hand = Hand {
         pass,
-        receipts: Vec::new(alloc),
+        receipts: messages.receipts(alloc),
     };
     let ((reading, read), ((writer, written), (hand, sent))) = run_threads(
         rt, &shared, reader, writer, hand, messages, &gate,
@@ -85,7 +86,7 @@ where
     let done = sent.map_err(PairFault::Send)?;
     let Hand { pass, receipts } = hand;
     let closed = end_sender(alloc, shared, reading, pass, writer)?;
-    let stand = messages.stand(closed.conn.logged(), receipts.as_slice());
+    let stand = messages.stand(closed.conn.logged(), &receipts);
     if !stand.map_err(PairFault::Send)? {
         return Err(PairFault::Receipt);
     }

@@ -15,7 +15,7 @@ use amqp_rules::reply::Given;
 use amqp_shared::{Locked, Name, Pass, Shared};
 use amqp_types::Tag;
 use bytes::Bytes;
-use std::alloc::Global;
+use std::alloc::{AllocError, Global};
 use std::sync::{MutexGuard, Wait};
 
 /// The longest payload of one transfer: the rest of a frame is the transfer's own.
@@ -40,8 +40,17 @@ pub struct Done {
 #[derive(Drop)]
 pub struct Hand<N: Name> {
     pub pass: Pass<N>,
-    /// The receipt of each operation that was done, in their order.
-    pub receipts: Vec<Receipt>,
+    /// The receipt of each operation that was done, in their order; none where entries are forgotten.
+    pub receipts: Option<Vec<Receipt>>,
+}
+
+impl<N: Name> Hand<N> {
+    fn note(&mut self, receipt: Receipt) -> Result<(), AllocError> {
+        match &mut self.receipts {
+            Some(receipts) => Ok(receipts.push(receipt)?),
+            None => Ok(()),
+        }
+    }
 }
 
 /// What the sending thread hands back.
@@ -52,6 +61,7 @@ pub type SendOutcome<N> = (Hand<N>, Result<Done, Refusal>);
 pub struct Messages {
     count: u32,
     first_id: u32,
+    keep: Option<u32>,
     payload: Bytes,
 }
 
@@ -65,9 +75,23 @@ impl Messages {
             Ok(payload) => Ok(Messages {
                 count: options.count,
                 first_id: options.first_id,
+                keep: options.keep,
                 payload,
             }),
             Err(_) => Err(PairFault::NoMemory),
+        }
+    }
+
+    /// How many entries of its journal the end that sends them keeps at most; none: all.
+    pub fn keep(&self) -> Option<u32> {
+        self.keep
+    }
+
+    /// Where their operations' receipts are put: nowhere where entries are forgotten, for which none stands.
+    pub fn receipts(&self, alloc: Global) -> Option<Vec<Receipt>> {
+        match self.keep {
+            Some(_) => None,
+            None => Some(Vec::new(alloc)),
         }
     }
 
@@ -104,8 +128,16 @@ impl Messages {
         each.saturating_mul(self.count as usize)
     }
 
-    /// There is a receipt for each operation, and each stands in the journal for its own, at a later place than the one before.
-    pub fn stand(&self, logged: &Logged, receipts: &[Receipt]) -> Result<bool, Refusal> {
+    /// There is a receipt for each operation, and each stands in the journal for its own, at a later place than the one before; or receipts were
+    /// put nowhere.
+    pub fn stand(&self, logged: &Logged, receipts: &Option<Vec<Receipt>>) -> Result<bool, Refusal> {
+        match receipts {
+            Some(receipts) => self.all_stand(logged, receipts.as_slice()),
+            None => Ok(true),
+        }
+    }
+
+    fn all_stand(&self, logged: &Logged, receipts: &[Receipt]) -> Result<bool, Refusal> {
         if receipts.len() != self.operations() {
             return Ok(false);
         }
@@ -295,7 +327,7 @@ fn call<'b, N: Name, R: Wait>(
 ) -> Result<(Guard<'b, N>, Given), Refusal> {
     let (guard, answer) = shared.call_wait(rt, guard, &mut hand.pass, op);
     match answer {
-        Ok((receipt, given)) => match hand.receipts.push(receipt) {
+        Ok((receipt, given)) => match hand.note(receipt) {
             Ok(()) => Ok((guard, given)),
             Err(_) => Err(Refusal::NoMemory),
         },

@@ -34,7 +34,7 @@ pub record OnAttached (v : View) (k : ℕ) : Type 0 where
   pub found : find (has_number k) v.links ≡ Some link'
   pub attached : is_attached link' ≡ true
 
-on-after : (v : View) (step : Step) (reply : Reply) (k : ℕ) → Answers v step reply → is_over v.session ≡ false → IsSound v → OnAttached v k
+pub on-after : (v : View) (step : Step) (reply : Reply) (k : ℕ) → Answers v step reply → is_over v.session ≡ false → IsSound v → OnAttached v k
     → ((n : ℕ) → received_by v step ≡ Leaves n → k ≡ n → ⊥) → (received_by v step ≡ Over → ⊥) → OnAttached (next v step) k
 on-after v step reply k h o s a stays lives =
     let l = a.link' in
@@ -42,13 +42,13 @@ on-after v step reply k h o s a stays lives =
     let w = step-went v (next v step) (sent_by v step) (received_by v step) (has_number k) l (link-step v step reply h o) (sees-number k) s a.found (λ m e at-m. stays m e (sym n ∙ at-m)) lives in
     record { link' = w.link'; found = w.found; attached = w.attached a.attached }
 
-ends-left : (e : Event) (i : Item) (n : ℕ) → e ≡ Leaves n → i.link ≡ n → ends e i ≡ false → ⊥
+pub ends-left : (e : Event) (i : Item) (n : ℕ) → e ≡ Leaves n → i.link ≡ n → ends e i ≡ false → ⊥
 ends-left e i n is same stays =
     let here : ends (Leaves n) i ≡ true = eq-eqb i.link n same in
     let there : ends (Leaves n) i ≡ false = subst (λ (e : Event). ends e i ≡ false) is stays in
     absurd (cc (here, there))
 
-ends-over : (e : Event) (i : Item) → e ≡ Over → ends e i ≡ false → ⊥
+pub ends-over : (e : Event) (i : Item) → e ≡ Over → ends e i ≡ false → ⊥
 ends-over e i is stays = let there : ends Over i ≡ false = subst (λ (e : Event). ends e i ≡ false) is stays in absurd (cc (there))
 
 begins-left : (e : Event) (i : Item) (n : ℕ) → e ≡ Leaves n → begins e ≡ Some i → ⊥

@@ -10,7 +10,7 @@ use Rattle.amqp_performatives.specs.declared.performative.Performative.TheVarian
 use Rattle.amqp_frames.specs.declared.frame.Frame.{Frame}
 use Rattle.amqp_events.specs.Event.{Leaves}
 use Rattle.amqp_rules.specs.declared.op.Op.{Op}
-use Rattle.amqp_rules.specs.declared.op.Op.TheVariants.{Begin, Attach, Start, Carry, Abort, Dispose, Learn, Grant, Offer, Drained, Refresh, Take, Detach, End, Beat}
+use Rattle.amqp_rules.specs.declared.op.Op.TheVariants.{Begin, Attach, Start, Carry, Abort, Dispose, Learn, Grant, Offer, Drained, Refresh, Take, Detach, Suspend, End, Beat}
 use Rattle.amqp_rules.specs.declared.reply.Reply.{Reply}
 use Rattle.amqp_rules.specs.declared.reply.Given.TheVariants as given
 use Rattle.amqp_rules.specs.declared.violation.Violation.{Violation}
@@ -23,7 +23,7 @@ use Rattle.amqp_rules.specs.Deliveries.{ended_by}
 use Rattle.amqp_rules.specs.Attach.{Wanted, attach_answer, attach_refusals, attach_sent, attached_by_peer, attached_by_us, end_of, next_attach, number_met}
 use Rattle.amqp_rules.specs.PeerAttach.{attach_heard_answer, attach_heard_reply, attach_violations, next_attach_heard}
 use Rattle.amqp_rules.specs.Detach.{detach_answer, detach_body, detach_refusals, left_by_us, next_detach}
-use Rattle.amqp_rules.specs.PeerDetach.{detach_heard_answer, detach_reply, next_detach_heard}
+use Rattle.amqp_rules.specs.PeerDetach.{detach_heard_answer, detach_reply, next_detach_heard, parting}
 use Rattle.amqp_rules.specs.Answer.{body_answer, is_dropped, next_body, next_own, own_answer}
 use Rattle.amqp_rules.specs.Sound.{IsSound, has_end, keys}
 use Rattle.amqp_rules.proofs.Accepted.{answered_Ok, no_refusal, not-false, on-link-ok, sends-ok, sends-ending-ok, there_Ok, unless_Ok}
@@ -39,6 +39,9 @@ use Rattle.amqp_pair_laws.proofs.SlotOf.{IsIdle, IsIdleBody, body-idle, own-idle
 use Rattle.amqp_pair_laws.proofs.Sends.{Sending, begins, body-sending, flows, is_attach, is_own_attach, is_own_detach, others, own-sending, silent, transfers}
 use Rattle.amqp_pair_laws.proofs.Opens.{body-of}
 use Rattle.amqp_pair_laws.proofs.Named.{KeepsName, Meets, changed-other, changed-there, every-found, every-unmapped, found-passes, joined-other, joined-there, named-found, none-is, or_this, removed-other, removed-there, role-same, texts-same}
+use Rattle.amqp_rules.specs.Suspend.{put_aside}
+use Rattle.amqp_rules.specs.OnLink.{on_link}
+use Rattle.amqp_rules.specs.declared.reply.Given.{Given}
 
 -- # Acts
 
@@ -55,9 +58,14 @@ abbrev pub on_named : Role → List ℕ → Act EndView → Option LinkView → 
 on_named role name act None = idle
 on_named role name act (Some l) = cond (has_name role name l) act idle
 
+-- we leave the link with this number
+abbrev pub left_act : Role → List ℕ → View → ℕ → Option Frame → Act EndView
+left_act role name v link sent = cond (is_some sent) (on_named role name leaves (find (has_number link) v.links)) idle
+
 abbrev pub own_act : Role → List ℕ → View → Op → Option Frame → Act EndView
 own_act role name v (Attach name' role' snd rcv source target count max_message) sent = asks_of role name sent
-own_act role name v (Detach link error) sent = cond (is_some sent) (on_named role name leaves (find (has_number link) v.links)) idle
+own_act role name v (Detach link error) sent = left_act role name v link sent
+own_act role name v (Suspend link) sent = left_act role name v link sent
 own_act role name v _ sent = idle
 
 abbrev pub body_act : Role → List ℕ → View → Option Performative → Act EndView
@@ -255,17 +263,20 @@ attach-heard-does role name v b reply h s =
 left-keeps : KeepsName left_by_us
 left-keeps = record { role = λ l. refl; name = λ l. refl }
 
-detach-does : (role : Role) (name : List ℕ) (v : View) (link : ℕ) (error : Option AmqpError) (reply : Reply) → detach_answer v link error ≡ Ok reply → IsSound v → OwnDoes role name v (Detach link error) reply
-detach-does role name v link error reply h s =
+-- a link that we leave, for good or not
+leave-does : (role : Role) (name : List ℕ) (v : View) (link : ℕ) (closed : Option Bool) (error : Option AmqpError) (tell : LinkView → Given) (reply : Reply)
+    → on_link v link (λ l. sends_ending v.max_frame (detach_refusals l) (detach_body (handle_of l.ours) closed error) (ended_by (Leaves link) (Leaves link) v) (tell l)) ≡ Ok reply
+    → IsSound v → Doing role name v (next_detach v link) (left_act role name v link (frame_among reply.sent)) (frame_among reply.sent)
+leave-does role name v link closed error tell reply h s =
     let ended = ended_by (Leaves link) (Leaves link) v in
-    let o = on-link-ok v link (λ l. sends_ending v.max_frame (detach_refusals l) (detach_body (handle_of l.ours) (Some true) error) ended given.Nothing) reply h in
-    let k = sends-ending-ok v.max_frame (detach_refusals o.on) (detach_body (handle_of o.on.ours) (Some true) error) ended given.Nothing reply o.said in
+    let o = on-link-ok v link (λ l. sends_ending v.max_frame (detach_refusals l) (detach_body (handle_of l.ours) closed error) ended (tell l)) reply h in
+    let k = sends-ending-ok v.max_frame (detach_refusals o.on) (detach_body (handle_of o.on.ours) closed error) ended (tell o.on) reply o.said in
     let attached : is_attached o.on ≡ true = not-false (is_attached o.on) k.none_holds.0 in
-    let d : DetachBody = record { handle = handle_of o.on.ours; closed = Some true; error = error } in
+    let d : DetachBody = record { handle = handle_of o.on.ours; closed = closed; error = error } in
     let f = frame_of (Some (heard.Detach d)) [] in
     let sent : frame_among reply.sent ≡ Some f = ap (λ (r : Reply). frame_among r.sent) (sym k.replies) in
     let found = o.found in
-    subst (λ (p : Option Frame). Doing role name v (next_detach v link) (own_act role name v (Detach link error) p) p) (sym sent)
+    subst (λ (p : Option Frame). Doing role name v (next_detach v link) (left_act role name v link p) p) (sym sent)
     (by-bool (has_name role name o.on)
     (λ (t : has_name role name o.on ≡ true).
     let there = named-found role name (has_number link) v.links o.on s.links.names found t in
@@ -280,7 +291,7 @@ detach-does role name v link error reply h s =
 
 abbrev detach_by : Bool → View → DetachBody → LinkView → Reply
 detach_by attached v b l =
-    cond attached (reply_ending (detach_body (handle_of l.ours) b.closed None) [] (ended_by (Leaves l.number) (Leaves l.number) v) (given.Gone l.number)) (record { sent = []; ended = ended_by (Leaves l.number) (Leaves l.number) v; given = given.Gone l.number })
+    cond attached (reply_ending (detach_body (handle_of l.ours) b.closed None) [] (ended_by (Leaves l.number) (Leaves l.number) v) (parting v b l)) (record { sent = []; ended = ended_by (Leaves l.number) (Leaves l.number) v; given = given.Gone l.number })
 
 pub detach-sends : (attached : Bool) (v : View) (b : DetachBody) (l : LinkView)
     → frame_among (detach_by attached v b l).sent ≡ cond attached (Some (frame_of (Some (heard.Detach (record { handle = handle_of l.ours; closed = b.closed; error = None }))) [])) None
@@ -327,7 +338,8 @@ or-true false = refl
 own-does : (role : Role) (name : List ℕ) (v : View) (op : Op) (reply : Reply) → own_answer v op ≡ Ok reply → IsSound v → OwnDoes role name v op reply
 own-does role name v (Attach name' role' snd rcv source target count max_message) reply h s =
     attach-does role name v (record { name = name'; role = role'; snd = snd; rcv = rcv; source = source; target = target; count = count; max_message = max_message }) reply h s
-own-does role name v (Detach link error) reply h s = detach-does role name v link error reply h s
+own-does role name v (Detach link error) reply h s = leave-does role name v link (Some true) error (λ l. given.Nothing) reply h s
+own-does role name v (Suspend link) reply h s = leave-does role name v link None None (λ l. given.Suspended (put_aside v l)) reply h s
 own-does role name v (End error) reply h s =
     idles refl (λ o. absurd (cc (o))) (apart-by role name v (next_own v (End error)) None (Some (End error)) reply (own-sending v (End error) reply h) refl refl (frame_among reply.sent) refl)
 own-does role name v Begin reply h s = idle-does role name v Begin reply h tt refl refl refl

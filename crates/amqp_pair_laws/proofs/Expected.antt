@@ -214,6 +214,7 @@ own-still v (own.Drained link) = refl
 own-still v (own.Refresh echo) = refl
 own-still v (own.Take link) = refl
 own-still v (own.Detach link error) = refl
+own-still v (own.Suspend link) = refl
 own-still v (own.End error) = refl
 own-still v own.Beat = refl
 

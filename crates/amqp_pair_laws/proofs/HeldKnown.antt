@@ -133,7 +133,7 @@ partner-same va name i u id tag p = record { link' = p.link'; found = p.found; h
 
 -- # Frames that stop it
 
-abort-sent : (v : View) (link : ℕ) (reply : Reply) → own_answer v (own.Abort link) ≡ Ok reply
+pub abort-sent : (v : View) (link : ℕ) (reply : Reply) → own_answer v (own.Abort link) ≡ Ok reply
     → (l : LinkView) × ((find (has_number link) v.links ≡ Some l) × ((is_attached l ≡ true) × ((l.role ≡ Sender) × (frame_among reply.sent ≡ Some (frame_of (Some (heard.Transfer (later_transfer (handle_of l.ours) None (Some true)))) [])))))
 abort-sent v link reply h =
     let ended = ended_by (sent_by_own v (own.Abort link)) No_event v in
@@ -149,7 +149,7 @@ dispose-sent v first last state reply h =
     let k = sends-ending-ok v.max_frame (dispose_refusals v Sender d) (dispose_body Sender d) (ended_by (sent_by_own v op) (received_by_own v op) v) given.Nothing reply h in
     ap (λ (r : Reply). frame_among r.sent) (sym k.replies)
 
-own-answers : (v : View) (step : Step) (reply : Reply) (op : Op) → Answers v step reply → step ≡ Own op → own_answer v op ≡ Ok reply
+pub own-answers : (v : View) (step : Step) (reply : Reply) (op : Op) → Answers v step reply → step ≡ Own op → own_answer v op ≡ Ok reply
 own-answers v step reply op h is = subst (λ (s : Step). Answers v s reply) is h
 
 -- what a heard disposition stops is not held there any more

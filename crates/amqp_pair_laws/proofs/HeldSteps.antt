@@ -10,8 +10,8 @@ use Rattle.amqp_performatives.specs.declared.performative.Performative.{Performa
 use Rattle.amqp_performatives.specs.declared.performative.Performative.TheVariants as heard
 use Rattle.amqp_frames.specs.declared.frame.Frame.{Frame}
 use Rattle.amqp_events.specs.Event.{Event, Item, Leaves, Over, Nothing as No_event}
-use Rattle.amqp_events.specs.Told.{SentItem}
-use Rattle.amqp_events.specs.Unsettled.{begins, ends, says_remote}
+use Rattle.amqp_events.specs.Told.{SentItem, tells}
+use Rattle.amqp_events.specs.Unsettled.{begins, ends, says_local, says_remote}
 use Rattle.amqp_rules.specs.declared.op.Op.{Op}
 use Rattle.amqp_rules.specs.declared.op.Op.TheVariants as own
 use Rattle.amqp_rules.specs.declared.reply.Reply.{Reply}
@@ -24,7 +24,7 @@ use Rattle.amqp_laws.specs.declared.entry.Step.TheVariants.{Opened, Own, Heard}
 use Rattle.amqp_laws.specs.At.{received_by, sent_by}
 use Rattle.amqp_laws.specs.Lawful.{Answers, next}
 use Rattle.amqp_pair_laws.proofs.Windows.{or-none}
-use Rattle.amqp_pair_laws.proofs.Members.{In, Stayed, Stays, Was, held-before, sent-after, sent-before, sent-begun, stayed-there, stays-there, was-there}
+use Rattle.amqp_pair_laws.proofs.Members.{In, Kept, Stayed, Stays, Was, held-before, held-begun, held-kept, kept-there, sent-after, sent-before, sent-begun, stayed-there, stays-there, was-there}
 
 -- es and er: what the step says of the deliveries that are sent, and of those that are received
 pub record HeldStep (v after : View) (es er : Event) : Type 0 where
@@ -32,30 +32,34 @@ pub record HeldStep (v after : View) (es er : Event) : Type 0 where
   pub begun : (i : Item) → begins es ≡ Some i → In (record { item = i; told = false }) after.sent
   pub ours : (s : SentItem) → In s after.sent → Was es v.sent s ⊎ (begins es ≡ Some s.item)
   pub received : (j : Item) → In j after.received → Stayed er v.received j ⊎ (begins er ≡ Some j)
+  pub kept : (j : Item) → In j v.received → ends er j ≡ false → Kept j after.received
+  pub entered : (i : Item) → begins er ≡ Some i → In i after.received
 
 -- neither list changes
-still : (v after : View) (es er : Event) → after.sent ≡ v.sent → after.received ≡ v.received → begins es ≡ None → ((i : Item) → says_remote i es ≡ None) → ((i : Item) → ends er i ≡ false) → HeldStep v after es er
-still v after es er s r none unsaid quiet =
+still : (v after : View) (es er : Event) → after.sent ≡ v.sent → after.received ≡ v.received → begins es ≡ None → ((i : Item) → says_remote i es ≡ None) → ((i : Item) → tells i es ≡ false) → ((i : Item) → ends es i ≡ false) → begins er ≡ None → ((i : Item) → says_local i er ≡ None) → ((i : Item) → ends er i ≡ false) → HeldStep v after es er
+still v after es er s r none unsaid untold stays' fresh mine quiet =
     record {
       sent = λ x h stays. stays-there x after.sent (subst (λ (items : List SentItem). In x items) (sym s) h);
       begun = λ i is. absurd (cc (is, none));
-      ours = λ x h. inl (was-there es v.sent x (unsaid x.item) (subst (λ (items : List SentItem). In x items) s h));
-      received = λ j h. inl (stayed-there er v.received j (subst (λ (items : List Item). In j items) r h) (quiet j));
+      ours = λ x h. inl (was-there es v.sent x (unsaid x.item) (untold x.item) (stays' x.item) (subst (λ (items : List SentItem). In x items) s h));
+      received = λ j h. inl (stayed-there er v.received j (subst (λ (items : List Item). In j items) r h) (mine j) (quiet j));
+      kept = λ j h stays. kept-there j after.received (subst (λ (items : List Item). In j items) (sym r) h);
+      entered = λ i is. absurd (cc (is, fresh));
     }
 
 -- ours change
 sent-alone : (v after : View) (es er : Event) → ((s : SentItem) → In s v.sent → ends es s.item ≡ false → Stays s after.sent) → ((i : Item) → begins es ≡ Some i → In (record { item = i; told = false }) after.sent)
-    → ((s : SentItem) → In s after.sent → Was es v.sent s ⊎ (begins es ≡ Some s.item)) → after.received ≡ v.received → ((i : Item) → ends er i ≡ false) → HeldStep v after es er
-sent-alone v after es er s b o r quiet =
-    record { sent = s; begun = b; ours = o; received = λ j h. inl (stayed-there er v.received j (subst (λ (items : List Item). In j items) r h) (quiet j)) }
+    → ((s : SentItem) → In s after.sent → Was es v.sent s ⊎ (begins es ≡ Some s.item)) → after.received ≡ v.received → begins er ≡ None → ((i : Item) → says_local i er ≡ None) → ((i : Item) → ends er i ≡ false) → HeldStep v after es er
+sent-alone v after es er s b o r fresh mine quiet =
+    record { sent = s; begun = b; ours = o; received = λ j h. inl (stayed-there er v.received j (subst (λ (items : List Item). In j items) r h) (mine j) (quiet j)); kept = λ j h stays. kept-there j after.received (subst (λ (items : List Item). In j items) (sym r) h); entered = λ i is. absurd (cc (is, fresh)) }
 
 joined-held : (v : View) (test : LinkView → Bool) (role : Role) (name : List ℕ) (change : LinkView → LinkView) → HeldStep v (join_link test role name change v) No_event No_event
 joined-held v test role name change = by (is_some (find test v.links))
   where
     by : (met : Bool)
         → HeldStep v (cond met (record v { steps = v.steps + 1; links = change_first test change v.links }) (record v { steps = v.steps + 1; made = v.made + 1; links = v.links ++ change (new_link v.made role name) ∷ [] })) No_event No_event
-    by true = still v _ _ _ refl refl refl (λ i. refl) (λ i. refl)
-    by false = still v _ _ _ refl refl refl (λ i. refl) (λ i. refl)
+    by true = still v _ _ _ refl refl refl (λ i. refl) (λ i. refl) (λ i. refl) refl (λ i. refl) (λ i. refl)
+    by false = still v _ _ _ refl refl refl (λ i. refl) (λ i. refl) (λ i. refl) refl (λ i. refl) (λ i. refl)
 
 none-said : (b : Bool) → cond {A = Option DeliveryState} b None None ≡ None
 none-said true = refl
@@ -66,12 +70,20 @@ pub unsaid-on : (over : Bool) (i : Item) (o : Option SendingView) → says_remot
 unsaid-on over i None = refl
 unsaid-on over i (Some d) = none-said (i.id == d.id)
 
+pub untold-on : (over : Bool) (i : Item) (o : Option SendingView) → tells i (continued_on over o) ≡ false
+untold-on over i None = refl
+untold-on over i (Some d) = refl
+
+stays-by : (i : Item) (o : Option SendingView) → ends (continued_on false o) i ≡ false
+stays-by i None = refl
+stays-by i (Some d) = refl
+
 own-held : (v : View) (op : Op) → HeldStep v (next_own v op) (sent_by_own v op) (received_by_own v op)
-own-held v own.Begin = still v _ _ _ refl refl refl (λ i. refl) (λ i. refl)
+own-held v own.Begin = still v _ _ _ refl refl refl (λ i. refl) (λ i. refl) (λ i. refl) refl (λ i. refl) (λ i. refl)
 own-held v (own.Attach name role snd rcv source target count max_message) =
     joined-held v (is_offered_as role name) role name (attached_by_us (attach_sent v (record { name = name; role = role; snd = snd; rcv = rcv; source = source; target = target; count = count; max_message = max_message })))
-own-held v (own.Start link tag format settled payload more) = sent-alone v _ _ _ (λ s h stays. sent-after (sent_by_own v (own.Start link tag format settled payload more)) v.sent s h stays) (λ i is. sent-begun (sent_by_own v (own.Start link tag format settled payload more)) v.sent i is) (λ s h. sent-before (sent_by_own v (own.Start link tag format settled payload more)) v.sent s h) refl (λ i. refl)
-own-held v (own.Carry link payload more) = still v _ _ _ refl refl (none (find (has_number link) v.links)) (unsaid (find (has_number link) v.links)) (λ i. refl)
+own-held v (own.Start link tag format settled payload more) = sent-alone v _ _ _ (λ s h stays. sent-after (sent_by_own v (own.Start link tag format settled payload more)) v.sent s h stays) (λ i is. sent-begun (sent_by_own v (own.Start link tag format settled payload more)) v.sent i is) (λ s h. sent-before (sent_by_own v (own.Start link tag format settled payload more)) v.sent s h) refl refl (λ i. refl) (λ i. refl)
+own-held v (own.Carry link payload more) = still v _ _ _ refl refl (none (find (has_number link) v.links)) (unsaid (find (has_number link) v.links)) (untold (find (has_number link) v.links)) (stays (find (has_number link) v.links)) refl (λ i. refl) (λ i. refl)
   where
     on : (o : Option SendingView) → begins (continued_on false o) ≡ None
     on None = refl
@@ -82,32 +94,39 @@ own-held v (own.Carry link payload more) = still v _ _ _ refl refl (none (find (
 
     unsaid : (o : Option LinkView) (i : Item) → says_remote i (continued_on false (sending_on o)) ≡ None
     unsaid o i = unsaid-on false i (sending_on o)
-own-held v (own.Abort link) = sent-alone v _ _ _ (λ s h stays. sent-after (sent_by_own v (own.Abort link)) v.sent s h stays) (λ i is. sent-begun (sent_by_own v (own.Abort link)) v.sent i is) (λ s h. sent-before (sent_by_own v (own.Abort link)) v.sent s h) refl (λ i. refl)
-own-held v (own.Dispose role first last settled state) = record { sent = λ s h stays. sent-after (sent_by_own v (own.Dispose role first last settled state)) v.sent s h stays; begun = λ i is. sent-begun (sent_by_own v (own.Dispose role first last settled state)) v.sent i is; ours = λ s h. sent-before (sent_by_own v (own.Dispose role first last settled state)) v.sent s h; received = λ j h. held-before (received_by_own v (own.Dispose role first last settled state)) v.received j h }
-own-held v (own.Learn link) = still v _ _ _ refl refl refl (λ i. refl) (λ i. refl)
-own-held v (own.Grant link credit drain echo) = still v _ _ _ refl refl refl (λ i. refl) (λ i. refl)
-own-held v (own.Offer link available) = still v _ _ _ refl refl refl (λ i. refl) (λ i. refl)
-own-held v (own.Drained link) = still v _ _ _ refl refl refl (λ i. refl) (λ i. refl)
-own-held v (own.Refresh echo) = still v _ _ _ refl refl refl (λ i. refl) (λ i. refl)
-own-held v (own.Take link) = still v _ _ _ refl refl refl (λ i. refl) (λ i. refl)
-own-held v (own.Detach link error) = record { sent = λ s h stays. sent-after (sent_by_own v (own.Detach link error)) v.sent s h stays; begun = λ i is. sent-begun (sent_by_own v (own.Detach link error)) v.sent i is; ours = λ s h. sent-before (sent_by_own v (own.Detach link error)) v.sent s h; received = λ j h. held-before (received_by_own v (own.Detach link error)) v.received j h }
-own-held v (own.End error) = record { sent = λ s h stays. absurd (cc (stays)); begun = λ i is. absurd (cc (is)); ours = λ s h. absurd h; received = λ j h. absurd h }
-own-held v own.Beat = still v _ _ _ refl refl refl (λ i. refl) (λ i. refl)
+
+    untold : (o : Option LinkView) (i : Item) → tells i (continued_on false (sending_on o)) ≡ false
+    untold o i = untold-on false i (sending_on o)
+
+    stays : (o : Option LinkView) (i : Item) → ends (continued_on false (sending_on o)) i ≡ false
+    stays o i = stays-by i (sending_on o)
+own-held v (own.Abort link) = sent-alone v _ _ _ (λ s h stays. sent-after (sent_by_own v (own.Abort link)) v.sent s h stays) (λ i is. sent-begun (sent_by_own v (own.Abort link)) v.sent i is) (λ s h. sent-before (sent_by_own v (own.Abort link)) v.sent s h) refl refl (λ i. refl) (λ i. refl)
+own-held v (own.Dispose role first last settled state) = record { sent = λ s h stays. sent-after (sent_by_own v (own.Dispose role first last settled state)) v.sent s h stays; begun = λ i is. sent-begun (sent_by_own v (own.Dispose role first last settled state)) v.sent i is; ours = λ s h. sent-before (sent_by_own v (own.Dispose role first last settled state)) v.sent s h; received = λ j h. held-before (received_by_own v (own.Dispose role first last settled state)) v.received j h; kept = λ j h stays. held-kept (received_by_own v (own.Dispose role first last settled state)) v.received j h stays; entered = λ i is. held-begun (received_by_own v (own.Dispose role first last settled state)) v.received i is }
+own-held v (own.Learn link) = still v _ _ _ refl refl refl (λ i. refl) (λ i. refl) (λ i. refl) refl (λ i. refl) (λ i. refl)
+own-held v (own.Grant link credit drain echo) = still v _ _ _ refl refl refl (λ i. refl) (λ i. refl) (λ i. refl) refl (λ i. refl) (λ i. refl)
+own-held v (own.Offer link available) = still v _ _ _ refl refl refl (λ i. refl) (λ i. refl) (λ i. refl) refl (λ i. refl) (λ i. refl)
+own-held v (own.Drained link) = still v _ _ _ refl refl refl (λ i. refl) (λ i. refl) (λ i. refl) refl (λ i. refl) (λ i. refl)
+own-held v (own.Refresh echo) = still v _ _ _ refl refl refl (λ i. refl) (λ i. refl) (λ i. refl) refl (λ i. refl) (λ i. refl)
+own-held v (own.Take link) = still v _ _ _ refl refl refl (λ i. refl) (λ i. refl) (λ i. refl) refl (λ i. refl) (λ i. refl)
+own-held v (own.Detach link error) = record { sent = λ s h stays. sent-after (sent_by_own v (own.Detach link error)) v.sent s h stays; begun = λ i is. sent-begun (sent_by_own v (own.Detach link error)) v.sent i is; ours = λ s h. sent-before (sent_by_own v (own.Detach link error)) v.sent s h; received = λ j h. held-before (received_by_own v (own.Detach link error)) v.received j h; kept = λ j h stays. held-kept (received_by_own v (own.Detach link error)) v.received j h stays; entered = λ i is. held-begun (received_by_own v (own.Detach link error)) v.received i is }
+own-held v (own.Suspend link) = record { sent = λ s h stays. sent-after (sent_by_own v (own.Suspend link)) v.sent s h stays; begun = λ i is. sent-begun (sent_by_own v (own.Suspend link)) v.sent i is; ours = λ s h. sent-before (sent_by_own v (own.Suspend link)) v.sent s h; received = λ j h. held-before (received_by_own v (own.Suspend link)) v.received j h; kept = λ j h stays. held-kept (received_by_own v (own.Suspend link)) v.received j h stays; entered = λ i is. held-begun (received_by_own v (own.Suspend link)) v.received i is }
+own-held v (own.End error) = record { sent = λ s h stays. absurd (cc (stays)); begun = λ i is. absurd (cc (is)); ours = λ s h. absurd h; received = λ j h. absurd h; kept = λ j h stays. absurd (cc (stays)); entered = λ i is. absurd (cc (is)) }
+own-held v own.Beat = still v _ _ _ refl refl refl (λ i. refl) (λ i. refl) (λ i. refl) refl (λ i. refl) (λ i. refl)
 
 body-held : (v : View) (body : Option Performative) (payload : List ℕ) (reply : Reply) → body_answer v body payload ≡ Ok reply → HeldStep v (next_body v body payload) (sent_by_body v body) (received_by_body v body)
-body-held v (Some (heard.Begin b)) payload reply h = still v _ _ _ refl refl refl (λ i. refl) (λ i. refl)
+body-held v (Some (heard.Begin b)) payload reply h = still v _ _ _ refl refl refl (λ i. refl) (λ i. refl) (λ i. refl) refl (λ i. refl) (λ i. refl)
 body-held v (Some (heard.Attach b)) payload reply h = joined-held v (is_asked_as (opposite b.role) b.name) (opposite b.role) b.name (attached_by_peer b)
-body-held v (Some (heard.Flow b)) payload reply h = still v _ _ _ refl refl refl (λ i. refl) (λ i. refl)
+body-held v (Some (heard.Flow b)) payload reply h = still v _ _ _ refl refl refl (λ i. refl) (λ i. refl) (λ i. refl) refl (λ i. refl) (λ i. refl)
 body-held v (Some (heard.Transfer b)) payload reply h =
-    record { sent = λ s h' stays. stays-there s v.sent h'; begun = λ i is. absurd (cc (is)); ours = λ s h'. inl (was-there (sent_by_body v (Some (heard.Transfer b))) v.sent s refl h'); received = λ j h'. held-before (received_by_body v (Some (heard.Transfer b))) v.received j h' }
-body-held v (Some (heard.Disposition b)) payload reply h = record { sent = λ s h' stays. sent-after (sent_by_body v (Some (heard.Disposition b))) v.sent s h' stays; begun = λ i is. sent-begun (sent_by_body v (Some (heard.Disposition b))) v.sent i is; ours = λ s h. sent-before (sent_by_body v (Some (heard.Disposition b))) v.sent s h; received = λ j h'. held-before (received_by_body v (Some (heard.Disposition b))) v.received j h' }
-body-held v (Some (heard.Detach b)) payload reply h = record { sent = λ s h' stays. sent-after (sent_by_body v (Some (heard.Detach b))) v.sent s h' stays; begun = λ i is. sent-begun (sent_by_body v (Some (heard.Detach b))) v.sent i is; ours = λ s h. sent-before (sent_by_body v (Some (heard.Detach b))) v.sent s h; received = λ j h'. held-before (received_by_body v (Some (heard.Detach b))) v.received j h' }
-body-held v (Some (heard.End b)) payload reply h = record { sent = λ s h' stays. absurd (cc (stays)); begun = λ i is. absurd (cc (is)); ours = λ s h'. absurd h'; received = λ j h'. absurd h' }
+    record { sent = λ s h' stays. stays-there s v.sent h'; begun = λ i is. absurd (cc (is)); ours = λ s h'. inl (was-there (sent_by_body v (Some (heard.Transfer b))) v.sent s refl refl refl h'); received = λ j h'. held-before (received_by_body v (Some (heard.Transfer b))) v.received j h'; kept = λ j h stays. held-kept (received_by_body v (Some (heard.Transfer b))) v.received j h stays; entered = λ i is. held-begun (received_by_body v (Some (heard.Transfer b))) v.received i is }
+body-held v (Some (heard.Disposition b)) payload reply h = record { sent = λ s h' stays. sent-after (sent_by_body v (Some (heard.Disposition b))) v.sent s h' stays; begun = λ i is. sent-begun (sent_by_body v (Some (heard.Disposition b))) v.sent i is; ours = λ s h. sent-before (sent_by_body v (Some (heard.Disposition b))) v.sent s h; received = λ j h'. held-before (received_by_body v (Some (heard.Disposition b))) v.received j h'; kept = λ j h stays. held-kept (received_by_body v (Some (heard.Disposition b))) v.received j h stays; entered = λ i is. held-begun (received_by_body v (Some (heard.Disposition b))) v.received i is }
+body-held v (Some (heard.Detach b)) payload reply h = record { sent = λ s h' stays. sent-after (sent_by_body v (Some (heard.Detach b))) v.sent s h' stays; begun = λ i is. sent-begun (sent_by_body v (Some (heard.Detach b))) v.sent i is; ours = λ s h. sent-before (sent_by_body v (Some (heard.Detach b))) v.sent s h; received = λ j h'. held-before (received_by_body v (Some (heard.Detach b))) v.received j h'; kept = λ j h stays. held-kept (received_by_body v (Some (heard.Detach b))) v.received j h stays; entered = λ i is. held-begun (received_by_body v (Some (heard.Detach b))) v.received i is }
+body-held v (Some (heard.End b)) payload reply h = record { sent = λ s h' stays. absurd (cc (stays)); begun = λ i is. absurd (cc (is)); ours = λ s h'. absurd h'; received = λ j h'. absurd h'; kept = λ j h stays. absurd (cc (stays)); entered = λ i is. absurd (cc (is)) }
 body-held v _ payload reply h = absurd (cc (h))
 
 -- of a session that is not over
 pub held-step : (v : View) (step : Step) (reply : Reply) → Answers v step reply → is_over v.session ≡ false → HeldStep v (next v step) (sent_by v step) (received_by v step)
-held-step v (Opened told) reply h o = still v _ _ _ refl refl refl (λ i. refl) (λ i. refl)
+held-step v (Opened told) reply h o = still v _ _ _ refl refl refl (λ i. refl) (λ i. refl) (λ i. refl) refl (λ i. refl) (λ i. refl)
 held-step v (Own op) reply h o = own-held v op
 held-step v (Heard f) reply h o =
     let unsent : v.session.end_sent ≡ false = (or-none v.session.end_sent v.session.end_heard o).0 in
@@ -214,6 +233,7 @@ own-ending v (own.Dispose role first last settled state) i h = by role settled h
     by Sender false h = absurd (cc (h))
     by Receiver settled h = absurd (cc (h))
 own-ending v (own.Detach link error) i h = let same : i.link ≡ link = eqb-true i.link link h in leaves (ap (λ k. Leaves k) (sym same))
+own-ending v (own.Suspend link) i h = let same : i.link ≡ link = eqb-true i.link link h in leaves (ap (λ k. Leaves k) (sym same))
 own-ending v (own.End error) i h = over refl
 own-ending v _ i h = absurd (cc (h))
 

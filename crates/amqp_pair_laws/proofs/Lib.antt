@@ -51,10 +51,20 @@ pub mod HeldKnown
 pub mod TagFree
 pub mod AllTaken
 -- What waits to be taken, and what was taken.
+pub mod LearnSteps
 pub mod ReadySteps
 pub mod Unused
 pub mod TakenKnown
 pub mod TakenPass
-pub mod TakenFront
 -- What was heard of deliveries was said of them.
 pub mod SaidKnown
+pub mod OwnStates
+pub mod OnSent
+-- What was taken was sent, also on links that are left or gone.
+pub mod TakenEver
+pub mod SameSource
+pub mod TakenFront
+-- What was sent and is held is held by both.
+pub mod MetKnown
+-- What was learnt was said.
+pub mod LearntSaid

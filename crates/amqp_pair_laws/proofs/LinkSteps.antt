@@ -425,6 +425,7 @@ own-step v (own.Drained link) = changes (has_number link) drained tt (plain drai
 own-step v (own.Refresh echo) = still tt refl
 own-step v (own.Take link) = changes (has_number link) taken_from tt (plain taken_from (λ l. refl) (λ l. refl) (λ l. refl) (λ l a. a)) refl
 own-step v (own.Detach link error) = leaves link refl refl refl
+own-step v (own.Suspend link) = leaves link refl refl refl
 own-step v (own.End error) = clears refl refl refl
 own-step v own.Beat = still tt refl
 

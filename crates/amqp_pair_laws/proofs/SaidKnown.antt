@@ -1,5 +1,5 @@
 -- The state that an end heard of a delivery which it sent is the last one that the other end gave to it.
-use Rattle.std.proofs.Common.{suc, ◌≡◌, ◌⊎◌, inl, inr, ◌≤◌, ◌<◌, ℕ, ◌^◌, ◌&&◌, Bool, true, false, cond, Option, Some, None, Ok, List, [], ◌∷◌, arith, refl, sym, ap, ◌∙◌, subst, find}
+use Rattle.std.proofs.Common.{suc, ◌≡◌, ◌⊎◌, inl, inr, ◌≤◌, ◌<◌, ℕ, ◌^◌, ◌&&◌, ◌||◌, Bool, true, false, cond, Option, Some, None, Ok, List, [], ◌∷◌, arith, refl, sym, ap, ◌∙◌, subst, find}
 use Rattle.amqp_flow.specs.Serial.{is_inside}
 use Rattle.amqp_performatives.specs.declared.bodies.Role.{Role}
 use Rattle.amqp_performatives.specs.declared.bodies.Role.TheVariants.{Sender, Receiver}
@@ -11,7 +11,7 @@ use Rattle.amqp_frames.specs.declared.frame.Frame.{Frame}
 use Rattle.amqp_events.specs.Event.{Disposition, Event, Item}
 use Rattle.amqp_events.specs.Named.{is_among}
 use Rattle.amqp_events.specs.Since.{or_earlier}
-use Rattle.amqp_events.specs.Told.{SentItem}
+use Rattle.amqp_events.specs.Told.{SentItem, has_outcome, tells}
 use Rattle.amqp_events.specs.Unsettled.{begins, says_remote}
 use Rattle.amqp_rules.specs.declared.config.Config.{Config}
 use Rattle.amqp_rules.specs.declared.op.Op.TheVariants as own
@@ -34,6 +34,7 @@ use Rattle.amqp_laws.specs.Live.{live}
 use Rattle.amqp_laws.specs.At.{at, sent_by, started}
 use Rattle.amqp_laws.specs.Lawful.{Answers, next}
 use Rattle.amqp_pair_laws.specs.States.{HearsWhatWasSaid, said_state, state_by}
+use Rattle.amqp_pair_laws.specs.Learns.{tells_by, was_told}
 use Rattle.amqp_pair_laws.specs.Moves.{IsTail}
 use Rattle.amqp_pair_laws.specs.Premise.{KeepsToHeard, ids_heard, ids_sent}
 use Rattle.amqp_pair_laws.specs.World.{IsFair, Moves, Tight, World, frame_among, frame_in, hears, sends}
@@ -60,39 +61,39 @@ dispose-loud v role first last settled state reply h =
     let k = sends-ending-ok v.max_frame (dispose_refusals v role d) (dispose_body role d) (ended_by (sent_by_own v op) (received_by_own v op) v) given.Nothing reply h in
     ap (λ (r : Reply). frame_among r.sent) (sym k.replies)
 
--- only a disposition gives a state
-pub state-loud : (v : View) (step : Step) (reply : Reply) (id : ℕ) → Answers v step reply → ((f : Frame) (d : DispositionBody) → frame_among reply.sent ≡ Some f → f.body ≡ Some (heard.Disposition d) → ⊥) → state_by step id ≡ None
+-- only a disposition gives a state, or settles
+pub state-loud : (v : View) (step : Step) (reply : Reply) (id : ℕ) → Answers v step reply → ((f : Frame) (d : DispositionBody) → frame_among reply.sent ≡ Some f → f.body ≡ Some (heard.Disposition d) → ⊥) → (state_by step id ≡ None) × (tells_by step id ≡ false)
 state-loud v (Own (own.Dispose Receiver first last settled state)) reply id h none = absurd (none _ _ (dispose-loud v Receiver first last settled state reply h) refl)
-state-loud v _ reply id h none = refl
+state-loud v _ reply id h none = (refl, refl)
 
 -- none was given to an id that was not heard
-pub unsaid : (c : Config) (past : List Entry) (id : ℕ) → AllFair c past → id < 2 ^ 32 → is_among (ids_heard (live past)) id ≡ false → said_state id past ≡ None
-unsaid c [] id fair small new = refl
+pub unsaid : (c : Config) (past : List Entry) (id : ℕ) → AllFair c past → id < 2 ^ 32 → is_among (ids_heard (live past)) id ≡ false → (said_state id past ≡ None) × (was_told id past ≡ false)
+unsaid c [] id fair small new = (refl, refl)
 unsaid c (e ∷ past) id fair small new =
     let earlier = by (some_entry ends (live past) && hears_no_end e.step) new in
     let before = unsaid c past id fair.0 small earlier in
     let now = on e.step earlier fair.1.told in
-    rw (now, before) refl
+    (ap (λ o. or_earlier o (said_state id past)) now.0 ∙ before.0, ap (λ b. b || was_told id past) now.1 ∙ before.1)
   where
     by : (dropped : Bool) → is_among (ids_heard (cond dropped (live past) (e ∷ live past))) id ≡ false → is_among (ids_heard (live past)) id ≡ false
     by true h = h
     by false h = among-earlier _ (ids_heard (live past)) id h
 
-    on : (step : Step) → is_among (ids_heard (live past)) id ≡ false → KeepsToHeard step past → state_by step id ≡ None
+    on : (step : Step) → is_among (ids_heard (live past)) id ≡ false → KeepsToHeard step past → (state_by step id ≡ None) × (tells_by step id ≡ false)
     on (Own (own.Dispose Receiver first last settled state)) new told =
         by-bool (is_inside id first last)
         (λ (t : is_inside id first last ≡ true). let there = told id small t in absurd (cc (there, new)))
-        (λ (f : is_inside id first last ≡ false). rw f refl)
-    on _ new told = refl
+        (λ (f : is_inside id first last ≡ false). rw f (refl, refl))
+    on _ new told = (refl, refl)
 
 -- # The id of a delivery that begins was not heard
 
-fair-tail : (c : Config) (early past : List Entry) → IsTail early past → AllFair c past → AllFair c early
+pub fair-tail : (c : Config) (early past : List Entry) → IsTail early past → AllFair c past → AllFair c early
 fair-tail c early [] t fair = subst (λ (p : List Entry). AllFair c p) (sym t) tt
 fair-tail c early (e ∷ past) (inl t) fair = subst (λ (p : List Entry). AllFair c p) (sym t) fair
 fair-tail c early (e ∷ past) (inr t) fair = fair-tail c early past t fair.0
 
-started-grows : (e : Entry) (past : List Entry) → started (live past) ≤ started (live (e ∷ past))
+pub started-grows : (e : Entry) (past : List Entry) → started (live past) ≤ started (live (e ∷ past))
 started-grows e past = by (some_entry ends (live past) && hears_no_end e.step) (starts e)
   where
     by : (dropped s : Bool) → started (live past) ≤ started (cond dropped (live past) (e ∷ live past))
@@ -165,21 +166,50 @@ same-state v (Own (own.Dispose role first last settled state)) d i of = by role 
         ∙ ap (λ s. cond (is_inside i.id first last) s None) of.1.1.1.1
 same-state v _ d i of = absurd of
 
+-- what it tells, if it tells something
+same-told : (v : View) (step : Step) (d : DispositionBody) (i : Item) → IsOf (own_in step) d → tells i (sent_by_body v (Some (heard.Disposition d))) ≡ tells_by step i.id
+same-told v (Own (own.Dispose role first last settled state)) d i of = by role of.0
+  where
+    by : (role : Role) → d.role ≡ role → tells i (heard_of Sender d d.role) ≡ tells_by (Own (own.Dispose role first last settled state)) i.id
+    by Sender is = ap (λ r. tells i (heard_of Sender d r)) is
+    by Receiver is =
+        ap (λ r. tells i (heard_of Sender d r)) is ∙ ap (λ n. is_inside i.id n (disposition_of d).last && ((disposition_of d).settled || has_outcome d.state)) of.1.0
+        ∙ ap (λ n. is_inside i.id first n && ((disposition_of d).settled || has_outcome d.state)) of.1.1.0 ∙ ap (λ b. is_inside i.id first last && (b || has_outcome d.state)) of.1.1.1.0
+        ∙ ap (λ s. is_inside i.id first last && (settled || has_outcome s)) of.1.1.1.1
+same-told v _ d i of = absurd of
+
+or-first : (a b : Bool) → a ≡ true → a || b ≡ true
+or-first true b h = refl
+or-first false b h = absurd (cc (h))
+
+or-later : (a b : Bool) → b ≡ true → a || b ≡ true
+or-later true b h = refl
+or-later false b h = h
+
 -- # The claim
 
+pub record Said (a : List Entry) (u : SentItem) : Type 0 where
+  pub remote : u.item.remote ≡ said_state u.item.id a
+  -- what a told was told
+  pub told : was_told u.item.id a ≡ true → u.told ≡ true
+
 abbrev pub SaidAgree : Config → Config → List Entry → List Entry → Type 0
-SaidAgree ca cb a b = Lives b → (u : SentItem) → In u (at cb b).sent → u.item.remote ≡ said_state u.item.id a
+SaidAgree ca cb a b = Lives b → (u : SentItem) → In u (at cb b).sent → Said a u
 
 said-quiet : (ca cb : Config) (e : Entry) (a b : List Entry) → Moves ca e a b → sends e ≡ None → SaidAgree ca cb a b → SaidAgree ca cb (e ∷ a) b
 said-quiet ca cb e a b m silent k lives u there =
     let none = state-loud (at ca a) e.step e.reply u.item.id m.fair.answers (λ f d sent body. absurd (cc (sent, silent))) in
-    k lives u there ∙ ap (λ o. or_earlier o (said_state u.item.id a)) (sym none)
+    let x = k lives u there in
+    record { remote = x.remote ∙ ap (λ o. or_earlier o (said_state u.item.id a)) (sym none.0); told = λ h. x.told (ap (λ b. b || was_told u.item.id a) (sym none.1) ∙ h) }
 
--- after a step of the other end
-said-was : (a : List Entry) (es : Event) (items : List SentItem) (u : SentItem) (o : Option DeliveryState) → (w : Was es items u) → ((i : Item) → says_remote i es ≡ o) → ((u : SentItem) → In u items → u.item.remote ≡ said_state u.item.id a)
-    → u.item.remote ≡ or_earlier o (said_state u.item.id a)
-said-was a es items u o w says k =
-    w.remote ∙ ap (λ o. or_earlier o w.before.item.remote) (says w.before.item) ∙ ap (or_earlier o) (k w.before w.there) ∙ ap (λ id. or_earlier o (said_state id a)) (sym w.same.id)
+-- after a step of the other end that gives no state
+said-was : (a : List Entry) (es : Event) (items : List SentItem) (u : SentItem) → (w : Was es items u) → ((i : Item) → says_remote i es ≡ None) → ((u : SentItem) → In u items → Said a u) → Said a u
+said-was a es items u w says k =
+    let x = k w.before w.there in
+    record {
+      remote = w.remote ∙ ap (λ o. or_earlier o w.before.item.remote) (says w.before.item) ∙ x.remote ∙ ap (λ id. said_state id a) (sym w.same.id);
+      told = λ h. w.told ∙ or-later (tells w.before.item es) w.before.told (x.told (ap (λ id. was_told id a) (sym w.same.id) ∙ h));
+    }
 
 said-ahead : (ca cb : Config) (n : ℕ) (e : Entry) (a b : List Entry) → World ca cb (suc n) a (e ∷ b) → Tight ca cb n a b → Moves cb e b a → hears e ≡ None → SaidAgree ca cb a b → SaidAgree ca cb a (e ∷ b)
 said-ahead ca cb n e a b w t m deaf k lives u there =
@@ -189,12 +219,13 @@ said-ahead ca cb n e a b w t m deaf k lives u there =
     let h = held-step (at cb b) e.step e.reply m.fair.answers lb in
     by fair.0 lb (h.ours u (subst (λ (v : View). In u v.sent) o.goes_on there))
   where
-    by : AllFair ca a → Lives b → Was (sent_by (at cb b) e.step) (at cb b).sent u ⊎ (begins (sent_by (at cb b) e.step) ≡ Some u.item) → u.item.remote ≡ said_state u.item.id a
-    by fa lb (inl w) = said-was a (sent_by (at cb b) e.step) (at cb b).sent u None w (λ i. own-remote (at cb b) e.step i deaf) (k lb)
+    by : AllFair ca a → Lives b → Was (sent_by (at cb b) e.step) (at cb b).sent u ⊎ (begins (sent_by (at cb b) e.step) ≡ Some u.item) → Said a u
+    by fa lb (inl w) = said-was a (sent_by (at cb b) e.step) (at cb b).sent u w (λ i. own-remote (at cb b) e.step i deaf) (k lb)
     by fa lb (inr is) =
         let x = begins-ours (at cb b) e.step u.item is in
-        let new = next-unheard ca cb n a b t lb in
-        x.remote ∙ sym (ap (λ id. said_state id a) x.id ∙ unsaid ca a (next_delivery (at cb b)) fa (wire-small _) new)
+        let none = unsaid ca a (next_delivery (at cb b)) fa (wire-small _) (next-unheard ca cb n a b t lb) in
+        let untold : was_told u.item.id a ≡ false = ap (λ id. was_told id a) x.id ∙ none.1 in
+        record { remote = x.remote ∙ sym (ap (λ id. said_state id a) x.id ∙ none.0); told = λ h. absurd (cc (untold, h)) }
 
 said-pass : (ca cb : Config) (n : ℕ) (e : Entry) (a : List Entry) (e' : Entry) (b : List Entry) (f : Frame) → World ca cb (suc n) (e ∷ a) b → Moves ca e a b → Moves cb e' b (e ∷ a)
     → sends e ≡ Some f → hears e' ≡ Some f → SaidAgree ca cb a b → SaidAgree ca cb (e ∷ a) (e' ∷ b)
@@ -208,20 +239,39 @@ said-pass ca cb n e a e' b f world m m' sent heard' k lives u there =
     v : View
     v = at cb b
 
+    -- no disposition passes
+    none-by : (i : Item) (body : Option Performative) → f.body ≡ body → ((d : DispositionBody) → body ≡ Some (heard.Disposition d) → ⊥) → (state_by e.step i.id ≡ None) × (tells_by e.step i.id ≡ false)
+    none-by i body is none = state-loud (at ca a) e.step e.reply i.id m.fair.answers (λ g d sent' body'. (let one = same-some (sends e) g f sent' sent in none d (sym is ∙ ap (λ (f : Frame). f.body) (sym one) ∙ body')))
+
     other : (i : Item) (body : Option Performative) → f.body ≡ body → ((d : DispositionBody) → body ≡ Some (heard.Disposition d) → ⊥) → says_remote i (sent_by_body v body) ≡ state_by e.step i.id
-    other i body is none =
-        body-remote v body i none
-        ∙ sym (state-loud (at ca a) e.step e.reply i.id m.fair.answers (λ g d sent' body'. (let one = same-some (sends e) g f sent' sent in none d (sym is ∙ ap (λ (f : Frame). f.body) (sym one) ∙ body'))))
+    other i body is none = body-remote v body i none ∙ sym (none-by i body is none).0
+
+    other-told : (i : Item) (body : Option Performative) → f.body ≡ body → ((d : DispositionBody) → body ≡ Some (heard.Disposition d) → ⊥) → tells_by e.step i.id ≡ true → tells i (sent_by_body v body) ≡ true
+    other-told i body is none h = let untold = (none-by i body is none).1 in absurd (cc (untold, h))
+
+    disposed : (d : DispositionBody) → f.body ≡ Some (heard.Disposition d) → IsOf (own_in e.step) d
+    disposed d is = disposed-by (at ca a) (next (at ca a) e.step) (body_heard e.step) (own_in e.step) e.reply f d (step-sending (at ca a) e.step e.reply m.fair.answers) sent is
 
     says : (i : Item) (body : Option Performative) → f.body ≡ body → says_remote i (sent_by_body v body) ≡ state_by e.step i.id
-    says i (Some (heard.Disposition d)) is =
-        same-state v e.step d i (disposed-by (at ca a) (next (at ca a) e.step) (body_heard e.step) (own_in e.step) e.reply f d (step-sending (at ca a) e.step e.reply m.fair.answers) sent is)
+    says i (Some (heard.Disposition d)) is = same-state v e.step d i (disposed d is)
     says i _ is = other i _ is (λ d e. absurd (cc (e)))
 
-    by : Lives b → Was (sent_by v e'.step) v.sent u ⊎ (begins (sent_by v e'.step) ≡ Some u.item) → u.item.remote ≡ said_state u.item.id (e ∷ a)
+    tells' : (i : Item) (body : Option Performative) → f.body ≡ body → tells_by e.step i.id ≡ true → tells i (sent_by_body v body) ≡ true
+    tells' i (Some (heard.Disposition d)) is h = same-told v e.step d i (disposed d is) ∙ h
+    tells' i _ is h = other-told i _ is (λ d e. absurd (cc (e))) h
+
+    by : Lives b → Was (sent_by v e'.step) v.sent u ⊎ (begins (sent_by v e'.step) ≡ Some u.item) → Said (e ∷ a) u
     by lb (inl w) =
-        w.remote ∙ ap (λ (es : Event). or_earlier (says_remote w.before.item es) w.before.item.remote) (sent-body' v e'.step f heard') ∙ ap (λ o. or_earlier o w.before.item.remote) (says w.before.item f.body refl)
-        ∙ ap (or_earlier (state_by e.step w.before.item.id)) (k lb w.before w.there) ∙ ap (λ id. said_state id (e ∷ a)) (sym w.same.id)
+        let x = k lb w.before w.there in
+        let i = w.before.item in
+        let told' : was_told i.id (e ∷ a) ≡ true → tells i (sent_by v e'.step) || w.before.told ≡ true = λ h. by-bool (tells_by e.step i.id)
+        (λ (t : tells_by e.step i.id ≡ true). or-first (tells i (sent_by v e'.step)) w.before.told (ap (tells i) (sent-body' v e'.step f heard') ∙ tells' i f.body refl t))
+        (λ (n : tells_by e.step i.id ≡ false). or-later (tells i (sent_by v e'.step)) w.before.told (x.told (ap (λ b. b || was_told i.id a) (sym n) ∙ h))) in
+        record {
+          remote = w.remote ∙ ap (λ (es : Event). or_earlier (says_remote i es) i.remote) (sent-body' v e'.step f heard') ∙ ap (λ o. or_earlier o i.remote) (says i f.body refl)
+              ∙ ap (or_earlier (state_by e.step i.id)) x.remote ∙ ap (λ id. said_state id (e ∷ a)) (sym w.same.id);
+          told = λ h. w.told ∙ told' (ap (λ id. was_told id (e ∷ a)) (sym w.same.id) ∙ h);
+        }
     by lb (inr is) =
         let x = begins-ours v e'.step u.item is in
         let none : frame_in e'.step ≡ None = ap frame_in x.is-start in
@@ -236,13 +286,14 @@ said-kept =
       pass = λ ca cb n e a e' b f known w t m m' sent heard' k. said-pass ca cb n e a e' b f w m m' sent heard' k;
     }
 
--- where b has heard all that a sent, and its session is not over, what it heard last of a delivery that it holds is what a said last
+-- where b has heard all that a sent, and its session is not over, what it heard last of a delivery that it holds is what a said last, and it was
+-- told what a told
 pub said-known : (ca cb : Config) (n : ℕ) (a b : List Entry) → Tight ca cb n a b → SaidAgree ca cb a b
 said-known ca cb n a b t = lag.exact sends hears IsFair SaidAgree said-kept ca cb n a b t
 
-every-in : {A : Type 0} (P : A → Type 0) (xs : List A) → ((x : A) → In x xs → P x) → Every P xs
+pub every-in : {A : Type 0} (P : A → Type 0) (xs : List A) → ((x : A) → In x xs → P x) → Every P xs
 every-in P [] all = tt
 every-in P (x ∷ xs) all = (all x (inl refl), every-in P xs (λ y h. all y (inr h)))
 
 pub hears-said : HearsWhatWasSaid
-hears-said ca cb n a b t lives = every-in (λ s. s.item.remote ≡ said_state s.item.id a) (at cb b).sent (λ u there. said-known ca cb n a b t lives u there)
+hears-said ca cb n a b t lives = every-in (λ s. s.item.remote ≡ said_state s.item.id a) (at cb b).sent (λ u there. (said-known ca cb n a b t lives u there).remote)

@@ -14,7 +14,7 @@ use Rattle.amqp_performatives.specs.declared.performative.Performative.TheVarian
 use Rattle.amqp_frames.specs.declared.frame.Frame.{Frame}
 use Rattle.amqp_events.specs.Event.{Leaves, Over}
 use Rattle.amqp_rules.specs.declared.op.Op.{Op}
-use Rattle.amqp_rules.specs.declared.op.Op.TheVariants.{Begin, Attach, Start, Carry, Abort, Dispose, Learn, Grant, Offer, Drained, Refresh, Take, Detach, End, Beat}
+use Rattle.amqp_rules.specs.declared.op.Op.TheVariants.{Begin, Attach, Start, Carry, Abort, Dispose, Learn, Grant, Offer, Drained, Refresh, Take, Detach, Suspend, End, Beat}
 use Rattle.amqp_rules.specs.declared.op.Op.TheVariants as own
 use Rattle.amqp_rules.specs.declared.reply.Reply.{Reply}
 use Rattle.amqp_rules.specs.declared.reply.Given.TheVariants as given
@@ -52,7 +52,7 @@ use Rattle.amqp_rules.specs.PeerBegin.{begin_violations}
 use Rattle.amqp_rules.specs.PeerAttach.{attach_violations, attach_heard_reply}
 use Rattle.amqp_rules.specs.PeerTransfer.{transfer_violations, transfer_reply}
 use Rattle.amqp_rules.specs.PeerDisposition.{disposition_violations, disposition_reply}
-use Rattle.amqp_rules.specs.PeerDetach.{detach_reply}
+use Rattle.amqp_rules.specs.PeerDetach.{detach_reply, parting}
 use Rattle.amqp_rules.specs.PeerEnd.{end_reply}
 use Rattle.amqp_rules.specs.Deliveries.{disposition_of}
 use Rattle.amqp_rules.proofs.Accepted.{answered_Ok, no_refusal, not-false, on-link-ok, sends-ok, sends-ending-ok, there_Ok, unless_Ok}
@@ -64,6 +64,7 @@ use Rattle.amqp_laws.specs.Lawful.{Answers, next}
 use Rattle.amqp_laws.proofs.AttachLaw.{mapped-not-over, not-over}
 use Rattle.amqp_laws.proofs.Twice.{and-both}
 use Rattle.amqp_pair_laws.specs.World.{frame_among}
+use Rattle.amqp_rules.specs.Suspend.{put_aside}
 
 -- a flow tells the session's numbers as they are after the step
 pub record TellsNumbers (v : View) (w : WindowsView) (b : FlowBody) : Type 0 where
@@ -81,6 +82,7 @@ is_own_attach _ = false
 
 abbrev pub is_own_detach : Option Op → Bool
 is_own_detach (Some (Detach link error)) = true
+is_own_detach (Some (Suspend link)) = true
 is_own_detach _ = false
 
 -- an operation that sends a transfer
@@ -232,6 +234,10 @@ own-sending v (Detach link error) reply h =
     let o = on-link-ok v link (λ l. sends_ending v.max_frame (detach_refusals l) (detach_body (handle_of l.ours) (Some true) error) (ended_by (Leaves link) (Leaves link) v) given.Nothing) reply h in
     let s = sends-ending-ok v.max_frame (detach_refusals o.on) (detach_body (handle_of o.on.ours) (Some true) error) (ended_by (Leaves link) (Leaves link) v) given.Nothing reply o.said in
     others _ [] refl refl (record { attaches = λ h. absurd (cc (h)); detaches = λ h. refl; mapped = λ h. o.mapped; ends = λ h. absurd (cc (h)); range = λ d h. absurd (cc (h)); says = λ d h. absurd (cc (h)); spoken = refl }) (sent-by _ reply s.replies)
+own-sending v (Suspend link) reply h =
+    let o = on-link-ok v link (λ l. sends_ending v.max_frame (detach_refusals l) (detach_body (handle_of l.ours) None None) (ended_by (Leaves link) (Leaves link) v) (given.Suspended (put_aside v l))) reply h in
+    let s = sends-ending-ok v.max_frame (detach_refusals o.on) (detach_body (handle_of o.on.ours) None None) (ended_by (Leaves link) (Leaves link) v) (given.Suspended (put_aside v o.on)) reply o.said in
+    others _ [] refl refl (record { attaches = λ h. absurd (cc (h)); detaches = λ h. refl; mapped = λ h. o.mapped; ends = λ h. absurd (cc (h)); range = λ d h. absurd (cc (h)); says = λ d h. absurd (cc (h)); spoken = refl }) (sent-by _ reply s.replies)
 own-sending v (End error) reply h =
     let s = sends-ending-ok v.max_frame ((not (is_mapped v.session), refusal.NotMapped) ∷ []) (end_body error) (ended_by Over Over v) given.Nothing reply h in
     others _ [] refl refl (record { attaches = λ k. absurd (cc (k)); detaches = λ k. absurd (cc (k)); mapped = λ h. not-false (is_mapped v.session) s.none_holds.0; ends = λ h. refl; range = λ d h. absurd (cc (h)); says = λ d h. absurd (cc (h)); spoken = refl }) (sent-by _ reply s.replies)
@@ -303,7 +309,7 @@ flow-sending v b reply h =
     (λ (f : echoes v b ≡ false). silent (echo-silent (echoes v b) w o reply f a.replies))
 
 detach-sending : (attached : Bool) (v after : View) (b : DetachBody) (l : LinkView) (reply : Reply)
-    → cond attached (reply_ending (detach_body (handle_of l.ours) b.closed None) [] (ended_by (Leaves l.number) (Leaves l.number) v) (given.Gone l.number)) (record { sent = []; ended = ended_by (Leaves l.number) (Leaves l.number) v; given = given.Gone l.number }) ≡ reply
+    → cond attached (reply_ending (detach_body (handle_of l.ours) b.closed None) [] (ended_by (Leaves l.number) (Leaves l.number) v) (parting v b l)) (record { sent = []; ended = ended_by (Leaves l.number) (Leaves l.number) v; given = given.Gone l.number }) ≡ reply
     → Sending v after (Some (heard.Detach b)) None reply
 detach-sending true v after b l reply h = others _ [] refl refl (record { attaches = λ k. absurd (cc (k)); detaches = λ k. refl; mapped = λ k. absurd (cc (k)); ends = λ k. absurd (cc (k)); range = λ d k. absurd (cc (k)); says = λ d k. absurd (cc (k)); spoken = refl }) (sent-by _ reply h)
 detach-sending false v after b l reply h = silent (quiet-by _ reply h refl)

@@ -9,7 +9,7 @@ use Rattle.amqp_performatives.specs.declared.performative.Performative.{Performa
 use Rattle.amqp_performatives.specs.declared.performative.Performative.TheVariants as heard
 use Rattle.amqp_frames.specs.declared.frame.Frame.{Frame}
 use Rattle.amqp_rules.specs.declared.config.Config.{Config}
-use Rattle.amqp_rules.specs.declared.op.Op.TheVariants.{Attach, Detach}
+use Rattle.amqp_rules.specs.declared.op.Op.TheVariants.{Attach, Detach, Suspend}
 use Rattle.amqp_rules.specs.View.{EndView, LinkView, View, handle_of, has_handle, has_name, has_number, has_peer_handle, holds, is_attached, is_over, opposite, same_role}
 use Rattle.amqp_rules.specs.Attach.{end_of}
 use Rattle.amqp_rules.specs.Answer.{is_dropped}
@@ -33,7 +33,7 @@ use Rattle.amqp_pair_laws.proofs.Slots.{Act, IsLegal, Slot, added, after, asks, 
 use Rattle.amqp_pair_laws.proofs.SlotKept as slots
 use Rattle.amqp_pair_laws.proofs.SlotOf.{shape, slot_of}
 use Rattle.amqp_pair_laws.proofs.Named.{every-found, every-unmapped, found-passes, named-found}
-use Rattle.amqp_pair_laws.proofs.Doing.{Doing, IsApart, IsApartIn, IsOther, asking, asks_in, asks_of, body_act, going, idles, leaving, meeting, on_named, step-does, step_act}
+use Rattle.amqp_pair_laws.proofs.Doing.{Doing, IsApart, IsApartIn, IsOther, asking, asks_in, asks_of, body_act, going, idles, leaving, meeting, on_named, step-does, step_act, left_act}
 use Rattle.amqp_pair_laws.proofs.Opens.{few-by, replayed-by}
 use Rattle.amqp_pair_laws.proofs.Over.{behind-lives}
 use Rattle.amqp_pair_laws.proofs.Windows.{lives-goes, or-none}
@@ -164,6 +164,7 @@ mute-by : (role : Role) (name : List ℕ) (v : View) (step : Step) (sent : Optio
 mute-by role name v (Opened told) sent l none = refl
 mute-by role name v (Own (Attach name' role' snd rcv source target count max_message)) sent l none = rw none refl
 mute-by role name v (Own (Detach link error)) sent l none = rw none refl
+mute-by role name v (Own (Suspend link)) sent l none = rw none refl
 mute-by role name v (Own op) sent l none = refl
 mute-by role name v (Heard f) sent l none = by (is_dropped v f.body) f.body
   where
@@ -185,6 +186,18 @@ mute-by role name v (Heard f) sent l none = by (is_dropped v f.body) f.body
     by false (Some (heard.Detach b)) = named (find (has_peer_handle b.handle) v.links)
     by false _ = refl
 
+deaf-left : (role : Role) (name : List ℕ) (v : View) (link : ℕ) (sent : Option Frame) → learns (left_act role name v link sent) ≡ None
+deaf-left role name v link sent = by (is_some sent) (find (has_number link) v.links)
+  where
+    one : (b : Bool) → learns {H = EndView} (cond b leaves idle) ≡ None
+    one true = refl
+    one false = refl
+
+    by : (b : Bool) (o : Option LinkView) → learns (cond b (on_named role name leaves o) idle) ≡ None
+    by false o = refl
+    by true None = refl
+    by true (Some k) = one (has_name role name k)
+
 deaf-by : (role : Role) (name : List ℕ) (v : View) (step : Step) (sent : Option Frame) → frame_in step ≡ None → learns (step_act role name v step sent) ≡ None
 deaf-by role name v (Opened told) sent none = refl
 deaf-by role name v (Own (Attach name' role' snd rcv source target count max_message)) sent none = by sent
@@ -200,16 +213,8 @@ deaf-by role name v (Own (Attach name' role' snd rcv source target count max_mes
     by : (o : Option Frame) → learns (asks_of role name o) ≡ None
     by None = refl
     by (Some f) = of f.body
-deaf-by role name v (Own (Detach link error)) sent none = by (is_some sent) (find (has_number link) v.links)
-  where
-    one : (b : Bool) → learns {H = EndView} (cond b leaves idle) ≡ None
-    one true = refl
-    one false = refl
-
-    by : (b : Bool) (o : Option LinkView) → learns (cond b (on_named role name leaves o) idle) ≡ None
-    by false o = refl
-    by true None = refl
-    by true (Some k) = one (has_name role name k)
+deaf-by role name v (Own (Detach link error)) sent none = deaf-left role name v link sent
+deaf-by role name v (Own (Suspend link)) sent none = deaf-left role name v link sent
 deaf-by role name v (Own op) sent none = refl
 deaf-by role name v (Heard f) sent none = absurd (cc (none))
 

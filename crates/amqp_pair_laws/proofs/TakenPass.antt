@@ -48,7 +48,7 @@ use Rattle.amqp_pair_laws.proofs.Unused.{IsUsed, NoneTaken, Transfers, carries, 
 use Rattle.amqp_pair_laws.proofs.TakenKnown.{FirstWas, TakenAgree, Whole, asked, first-was, other-rests, other-was, taken-ahead, taken-quiet, was, whole-hears, whole-rests, whole-still}
 
 -- who sends a transfer
-sends-transfer : (v after : View) (heard' : Option Performative) (op : Option Op) (reply : Reply) (f : Frame) (t : TransferBody) → Sending v after heard' op reply → frame_among reply.sent ≡ Some f → f.body ≡ Some (heard.Transfer t) → is_carrier op ≡ true
+pub sends-transfer : (v after : View) (heard' : Option Performative) (op : Option Op) (reply : Reply) (f : Frame) (t : TransferBody) → Sending v after heard' op reply → frame_among reply.sent ≡ Some f → f.body ≡ Some (heard.Transfer t) → is_carrier op ≡ true
 sends-transfer v after heard' op reply f t (silent q) sent is = absurd (cc (q, sent))
 sends-transfer v after heard' op reply f t (transfers b payload deaf mapped room named carries' one) sent is = carries'
 sends-transfer v after heard' op reply f t (flows w b mapped open' begun numbers one) sent is = let k = body-of reply.sent (heard.Flow w) [] f one sent in absurd (cc (k, is))

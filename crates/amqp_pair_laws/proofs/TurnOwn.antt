@@ -21,7 +21,7 @@ use Rattle.amqp_rules.specs.declared.refusal.Refusal.{Refusal}
 use Rattle.amqp_rules.specs.declared.refusal.Refusal.TheVariants as refusal
 use Rattle.amqp_rules.specs.View.{is_too_long, max_of, EndView, snd_mode, snd_of, LinkView, SendingView, View, change_first, handle_of, has_name, has_number, is_attached, is_mapped, is_offered, is_offered_as, is_ours, next_delivery, same_role}
 use Rattle.amqp_rules.specs.Refusing.{unless}
-use Rattle.amqp_rules.specs.OnLink.{attached_as}
+use Rattle.amqp_rules.specs.OnLink.{attached_as, on_link}
 use Rattle.amqp_rules.specs.Sending.{frame_of, sends, sends_ending, sent_of}
 use Rattle.amqp_rules.specs.Telling.{flag, sender_flow}
 use Rattle.amqp_rules.specs.Deliveries.{ended_by, received_by_own, sent_by_own, transferred}
@@ -37,7 +37,7 @@ use Rattle.amqp_rules.specs.Grant.{grant_body, grant_flow, grant_refusals, grant
 use Rattle.amqp_rules.specs.Offer.{offer_body, offered}
 use Rattle.amqp_rules.specs.Drained.{drained, drained_body, drained_refusals}
 use Rattle.amqp_rules.specs.Refresh.{refresh_body}
-use Rattle.amqp_rules.specs.Detach.{detach_body, detach_refusals, left_by_us}
+use Rattle.amqp_rules.specs.Detach.{detach_body, detach_refusals, left_by_us, next_detach}
 use Rattle.amqp_rules.specs.End.{end_body}
 use Rattle.amqp_rules.specs.Answer.{next_own, own_answer}
 use Rattle.amqp_rules.specs.Sound.{IsSound}
@@ -50,6 +50,8 @@ use Rattle.amqp_pair_laws.proofs.Doing.{IsOther, attach-joins-at, free-ours, us-
 use Rattle.amqp_pair_laws.proofs.Named.{KeepsName, changed-other, changed-there, joined-other, named-found, named-is, role-same, texts-same}
 use Rattle.amqp_pair_laws.proofs.Sends.{learn-silent, take-silent}
 use Rattle.amqp_pair_laws.proofs.Turns.{Carries, Fits, Goes, IsAside, IsUncounted, OwnNumbers, Turn, asks, attached-stays, away, both_ends, by_handle, goes, leaving, rest-turn, rests, sending, tells}
+use Rattle.amqp_rules.specs.Suspend.{put_aside}
+use Rattle.amqp_rules.specs.declared.reply.Given.{Given}
 
 -- a change that leaves role, name and attaches
 pub record KeepsEnds (change : LinkView → LinkView) : Type 0 where
@@ -355,18 +357,20 @@ drained-turn role name v link reply h s =
 
 -- # Others
 
-detach-turn : (role : Role) (name : List ℕ) (v : View) (link : ℕ) (error : Option AmqpError) (reply : Reply)
-    → own_answer v (own.Detach link error) ≡ Ok reply → IsSound v → OwnTurn role name v (own.Detach link error) (frame_among reply.sent)
-detach-turn role name v link error reply h s =
+-- a link that we leave, for good or not, by an operation that begins nothing
+leave-turn : (role : Role) (name : List ℕ) (v : View) (link : ℕ) (closed : Option Bool) (error : Option AmqpError) (tell : LinkView → Given) (reply : Reply)
+    → on_link v link (λ l. sends_ending v.max_frame (detach_refusals l) (detach_body (handle_of l.ours) closed error) (ended_by (Leaves link) (Leaves link) v) (tell l)) ≡ Ok reply
+    → IsSound v → Turn role name v (next_detach v link) None (frame_among reply.sent)
+leave-turn role name v link closed error tell reply h s =
     let ended = ended_by (Leaves link) (Leaves link) v in
-    let o = on-link-ok v link (λ l. sends_ending v.max_frame (detach_refusals l) (detach_body (handle_of l.ours) (Some true) error) ended given.Nothing) reply h in
-    let k = sends-ending-ok v.max_frame (detach_refusals o.on) (detach_body (handle_of o.on.ours) (Some true) error) ended given.Nothing reply o.said in
+    let o = on-link-ok v link (λ l. sends_ending v.max_frame (detach_refusals l) (detach_body (handle_of l.ours) closed error) ended (tell l)) reply h in
+    let k = sends-ending-ok v.max_frame (detach_refusals o.on) (detach_body (handle_of o.on.ours) closed error) ended (tell o.on) reply o.said in
     let l = o.on in
     let attached : is_attached l ≡ true = not-false (is_attached l) k.none_holds.0 in
-    let f = frame_of (detach_body (handle_of l.ours) (Some true) error) [] in
+    let f = frame_of (detach_body (handle_of l.ours) closed error) [] in
     let sent : frame_among reply.sent ≡ Some f = ap (λ (r : Reply). frame_among r.sent) (sym k.replies) in
-    subst (λ (p : Option Frame). OwnTurn role name v (own.Detach link error) p) (sym sent)
-    (turn-on role name v (next_own v (own.Detach link error)) None (Some f) (has_number link) left_by_us l
+    subst (λ (p : Option Frame). Turn role name v (next_detach v link) None p) (sym sent)
+    (turn-on role name v (next_detach v link) None (Some f) (has_number link) left_by_us l
     (plain _ (λ l. refl) (λ l. refl) (λ l. refl) (λ l. refl) (λ l h. absurd (cc (h)))) s o.found refl
     (λ n. leaving refl (attached-both l attached) refl refl)
     (λ n. other-on role name v (has_number link) l o.found attached n))
@@ -431,7 +435,8 @@ own-turn role name v (own.Take link) reply h s =
     let none = take-silent t.on.number t.on.ready reply u.1 in
     subst (λ (o : Option Frame). OwnTurn role name v (own.Take link) o) (sym none)
     (turn-on role name v (next_own v (own.Take link)) None None (has_number link) taken_from t.on (plain _ (λ l. refl) (λ l. refl) (λ l. refl) (λ l. refl) (λ l h. h)) s t.found refl (λ n. rests refl refl refl tt) (λ n. tt))
-own-turn role name v (own.Detach link error) reply h s = detach-turn role name v link error reply h s
+own-turn role name v (own.Detach link error) reply h s = leave-turn role name v link (Some true) error (λ l. given.Nothing) reply h s
+own-turn role name v (own.Suspend link) reply h s = leave-turn role name v link None None (λ l. given.Suspended (put_aside v l)) reply h s
 own-turn role name v (own.End error) reply h s =
     let k = sends-ending-ok v.max_frame ((not (is_mapped v.session), refusal.NotMapped) ∷ []) (end_body error) (ended_by Over Over v) given.Nothing reply h in
     let sent : frame_among reply.sent ≡ frame_among (sent_of (end_body error) [] ∷ []) = ap (λ (r : Reply). frame_among r.sent) (sym k.replies) in

@@ -181,7 +181,7 @@ in-below made n (x ∷ xs) l a (inr h) = in-below made (x.number + 1) xs l a.1 h
 pub below : (v : View) (l : LinkView) → IsSound v → In l v.links → l.number < v.made
 below v l s h = in-below v.made 0 v.links l s.links.numbers h
 
-number-is : (v : View) (k : ℕ) (l : LinkView) → find (has_number k) v.links ≡ Some l → l.number ≡ k
+pub number-is : (v : View) (k : ℕ) (l : LinkView) → find (has_number k) v.links ≡ Some l → l.number ≡ k
 number-is v k l found = eqb-true l.number k (found-passes (has_number k) v.links l found)
 
 made-joined : (v : View) (test : LinkView → Bool) (role : Role) (name : List ℕ) (change : LinkView → LinkView) → v.made ≤ (join_link test role name change v).made
@@ -201,7 +201,7 @@ body-made : (v : View) (body : Option Performative) (payload : List ℕ) → v.m
 body-made v (Some (heard.Attach b)) payload = made-joined v (is_asked_as (opposite b.role) b.name) (opposite b.role) b.name (attached_by_peer b)
 body-made v _ payload = omega arith
 
-made-grows : (v : View) (step : Step) → v.made ≤ (next v step).made
+pub made-grows : (v : View) (step : Step) → v.made ≤ (next v step).made
 made-grows v (Opened told) = omega arith
 made-grows v (Own op) = own-made v op
 made-grows v (Heard f) = by (is_dropped v f.body)
@@ -249,7 +249,7 @@ pub record IsUsed (v : View) (k : ℕ) (end : LinkView → Option EndView) : Typ
   pub made : k < v.made
   pub attach : (l : LinkView) → find (has_number k) v.links ≡ Some l → is_some (end l) ≡ true
 
-used-later : (v : View) (step : Step) (g : Given) (k : ℕ) (end : LinkView → Option EndView) → ReadyStep v (next v step) step g → IsSound v
+pub used-later : (v : View) (step : Step) (g : Given) (k : ℕ) (end : LinkView → Option EndView) → ReadyStep v (next v step) step g → IsSound v
     → ((m : LinkView) (f : From v m) → is_some (end f.before) ≡ true → is_some (end m) ≡ true) → IsUsed v k end → IsUsed (next v step) k end
 used-later v step g k end r s stays u =
     record {
@@ -342,7 +342,7 @@ pub record NoneTaken (c : Config) (past : List Entry) (k : ℕ) : Type 0 where
 nothing-more : {A : Type 0} (xs ys : List A) → xs ≡ [] → ys ≡ [] → xs ++ ys ≡ []
 nothing-more xs ys h k = rw (h, k) refl
 
-theirs-some : (h : ℕ) (l : LinkView) → has_peer_handle h l ≡ true → is_some l.theirs ≡ true
+pub theirs-some : (h : ℕ) (l : LinkView) → has_peer_handle h l ≡ true → is_some l.theirs ≡ true
 theirs-some h l is = by l.theirs is
   where
     by : (o : Option EndView) → holds (λ e. e.handle == h) o ≡ true → is_some o ≡ true

@@ -14,3 +14,5 @@ pub mod Passing
 pub mod Takes
 -- the states that were said and heard
 pub mod States
+-- what is learnt was said
+pub mod Learns

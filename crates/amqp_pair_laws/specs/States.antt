@@ -12,7 +12,7 @@ use Rattle.amqp_laws.specs.declared.entry.Entry.{Entry}
 use Rattle.amqp_laws.specs.declared.entry.Step.{Step}
 use Rattle.amqp_laws.specs.declared.entry.Step.TheVariants.{Own}
 use Rattle.amqp_laws.specs.At.{at}
-use Rattle.amqp_pair_laws.specs.World.{Tight}
+use Rattle.amqp_pair_laws.specs.World.{World, Tight}
 
 -- the state that an operation gives to the delivery with this id among those that the end receives (part 2, 2.7.6)
 abbrev pub state_by : Step → ℕ → Option DeliveryState
@@ -28,3 +28,7 @@ said_state id (e ∷ before) = or_earlier (state_by e.step id) (said_state id be
 abbrev pub HearsWhatWasSaid : Type 0
 HearsWhatWasSaid =
     (ca cb : Config) (n : ℕ) (a b : List Entry) → Tight ca cb n a b → is_over (at cb b).session ≡ false → Every (λ s. s.item.remote ≡ said_state s.item.id a) (at cb b).sent
+
+-- in every world, the state of its own that an end has of an unsettled delivery which it received is the last one that it gave
+abbrev pub HasWhatItSaid : Type 0
+HasWhatItSaid = (ca cb : Config) (n : ℕ) (a b : List Entry) → World ca cb n a b → is_over (at ca a).session ≡ false → Every (λ i. i.local ≡ said_state i.id a) (at ca a).received

@@ -1,5 +1,5 @@
 -- What is taken was sent.
-use Rattle.std.specs.Prelude.{ℕ, ◌≡◌, true, false, Some, List, ◌++◌, find, is_some, map}
+use Rattle.std.specs.Prelude.{ℕ, ◌≡◌, ◌⊎◌, true, false, Some, List, [], ◌++◌, find, is_some, map}
 use Rattle.amqp_performatives.specs.declared.bodies.Role.TheVariants.{Sender, Receiver}
 use Rattle.amqp_rules.specs.declared.config.Config.{Config}
 use Rattle.amqp_rules.specs.View.{LinkView, has_name, is_attached, is_over}
@@ -36,3 +36,24 @@ TakesWhatWasSent =
     (ca cb : Config) (n : ℕ) (a b : List Entry) (name : List ℕ) (y : LinkView) → World ca cb n a b
     → find (has_name Receiver name) (at cb b).links ≡ Some y → is_attached y ≡ true
     → (x : Source ca a b name) × IsFront (taken_on y.number b) (passed_on x.link.number a)
+
+-- and so it is on a link that was attached in an earlier state, whether it is left now, or gone, or not
+abbrev pub TakesEver : Type 0
+TakesEver =
+    (ca cb : Config) (n : ℕ) (a b early : List Entry) (name : List ℕ) (y : LinkView) → World ca cb n a b → IsTail early b
+    → find (has_name Receiver name) (at cb early).links ≡ Some y → is_attached y ≡ true
+    → (x : Source ca a early name) × IsFront (taken_on y.number b) (passed_on x.link.number a)
+
+-- link k, on which the end receives, was attached in an earlier state
+pub record WasAttached (c : Config) (past : List Entry) (k : ℕ) : Type 0 where
+  pub early : List Entry
+  pub is_tail : IsTail early past
+  pub name : List ℕ
+  pub link : LinkView
+  pub found : find (has_name Receiver name) (at c early).links ≡ Some link
+  pub number : link.number ≡ k
+  pub attached : is_attached link ≡ true
+
+-- nothing is taken on other links
+abbrev pub TakesOnAttached : Type 0
+TakesOnAttached = (ca cb : Config) (n : ℕ) (a b : List Entry) (k : ℕ) → World ca cb n a b → (taken_on k b ≡ []) ⊎ WasAttached cb b k

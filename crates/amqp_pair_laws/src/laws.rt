@@ -11,16 +11,21 @@ ghost use Rattle.amqp_laws.specs.Live.{live};
 ghost use Rattle.amqp_laws.specs.At.{at};
 ghost use Rattle.amqp_pair_laws.specs.Premise.{ids_heard, ids_sent};
 ghost use Rattle.amqp_pair_laws.specs.World.{World, Tight};
-ghost use Rattle.amqp_pair_laws.specs.States.{HearsWhatWasSaid};
+ghost use Rattle.amqp_pair_laws.specs.States.{HasWhatItSaid, HearsWhatWasSaid};
+ghost use Rattle.amqp_pair_laws.specs.Learns.{LearnsWhatWasSaid};
 ghost use Rattle.amqp_pair_laws.specs.Taken.{IsNext, NextIsTaken};
-ghost use Rattle.amqp_pair_laws.specs.Takes.{TakesAll, TakesWhatWasSent};
+ghost use Rattle.amqp_pair_laws.specs.Takes.{TakesAll, TakesEver, TakesOnAttached, TakesWhatWasSent};
 
 /// The laws of worlds; the crate's root says each in a sentence.
 pub fn laws()
     ensures taken { NextIsTaken }
     ensures sent { TakesWhatWasSent }
+    ensures ever { TakesEver }
+    ensures only { TakesOnAttached }
     ensures all { TakesAll }
     ensures states { HearsWhatWasSaid }
+    ensures own { HasWhatItSaid }
+    ensures learnt { LearnsWhatWasSaid }
     ensures window { (ca cb : Config) (n : ℕ) (a b : List Entry) (f : Frame) (t : TransferBody) → World ca cb n a b → IsNext f a b → f.body ≡ Some (Transfer t)
         → is_over (at cb b).session ≡ false → 0 < (at cb b).windows.incoming }
     ensures link { (ca cb : Config) (n : ℕ) (a b : List Entry) (f : Frame) (t : TransferBody) → World ca cb n a b → IsNext f a b → f.body ≡ Some (Transfer t)

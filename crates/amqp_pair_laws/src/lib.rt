@@ -6,8 +6,12 @@
 //! |---|---|
 //! | `taken` | the next frame is no violation for the end that hears it |
 //! | `sent` | what was taken on an attached link is a front of the deliveries that were sent complete on the link whose attach was heard |
-//! | `all` | and where the end that takes has heard all that the other sent, what it took and what waits are all of these |
+//! | `ever` | and so it is on a link that was attached once, whether it is left since, or gone, or not |
+//! | `only` | nothing is taken on a link that was never attached |
+//! | `all` | where the end that takes has heard all that the other sent, and neither has left the link, what it took and what waits are all of these |
 //! | `states` | and of each unsettled delivery that an end sent, the last state that it heard is then the last one that the other end gave |
+//! | `own` | in every world, the state of its own that an end has of an unsettled delivery which it received is the last one that it gave |
+//! | `learnt` | and what an end learnt of a delivery is what the other end told of it, by the first of its dispositions that settled it or gave an outcome: the state that this one gave, or else that the end had as its own of the delivery, and whether this one settled |
 //! | `window` | a transfer that comes next finds the incoming window open |
 //! | `link` | and its link, on which the end that hears it receives |
 //! | `credit` | and, where it begins a delivery on a link that was not left, credit |
@@ -15,8 +19,6 @@
 //! | `lives` | and where its session is not over, the other's is not over |
 //! | `ids` | and then it has heard first transfers of the same ids as the other sent, in the same order |
 //! | `expected` | and the id that it expects next, if any, is that of the other's next delivery |
-//!
-//! Not stated here, and not proved: what was taken on links that are left or gone, and what is learnt.
 #![tactic(auto)]
 
 pub mod laws;

@@ -4,8 +4,10 @@ ghost use Rattle.amqp_peer.specs.Requests.{IsAllowed};
 
 use amqp_endpoint::config::Config;
 use amqp_pair::{MAX_CONSUMERS, MAX_COUNT, MAX_CREDIT, MAX_SIZE, Options};
+use amqp_script::explain::Explained;
 use amqp_script::options;
-use amqp_script::options::{USUAL, config_of, with_config};
+use amqp_script::options::{USUAL, config_of, direction_of, explained_of, with_config};
+use amqp_trace::Direction;
 use clap::error::ErrorKind;
 use clap::{Arg, ArgMatches, Command, Error, value_parser};
 use std::alloc::{AllocError, Global};
@@ -20,6 +22,10 @@ pub enum Request {
     Conn(Config),
     /// A run of `frames`.
     Frames,
+    /// A run of `trace` over octets that went this way; whether they are read as they are, and not in hexadecimal.
+    Trace(Direction, bool),
+    /// What `explain` says.
+    Explain(Explained),
     /// A run of `pair`.
     Pair(Options),
 }
@@ -34,7 +40,14 @@ pub fn read_request<'a, S: AsStr>(alloc: Global, words: &'a [S]) -> Result<Reque
     if matches.subcommand_matches("frames").is_some() {
         return Ok(Request::Frames);
     }
-    if let Some(options) = matches.subcommand_matches("pair") {
+    if let Some(options) = matches.subcommand_matches("trace") {
+        return Ok(Request::Trace(direction_of(options), options.get_flag("raw")));
+    }
+    if let Some(options) = matches.subcommand_matches("explain") {
+        if let Some(explained) = explained_of(options) {
+            return Ok(Request::Explain(explained));
+        }
+    } else if let Some(options) = matches.subcommand_matches("pair") {
         let options = pair_options(options);
         if options.are_in_range() {
             return Ok(Request::Pair(options));
@@ -50,7 +63,7 @@ pub fn read_request<'a, S: AsStr>(alloc: Global, words: &'a [S]) -> Result<Reque
             return Ok(Request::Script(config, kept_entries(&matches)));
         }
     }
-    Err(command.error(ErrorKind::ValueValidation, "an option is out of its range")?)
+    Err(command.error(ErrorKind::ValueValidation, "a number is out of its range")?)
 }
 
 fn program<'a>(alloc: Global) -> Result<Command<'a>, AllocError> {
@@ -67,6 +80,8 @@ fn program<'a>(alloc: Global) -> Result<Command<'a>, AllocError> {
         .subcommand(script)?
         .subcommand(options::command(alloc)?)?
         .subcommand(frames)?
+        .subcommand(options::trace(alloc)?)?
+        .subcommand(options::explain(alloc)?)?
         .subcommand(pair(alloc)?)
 }
 
@@ -95,7 +110,8 @@ fn pair<'a>(alloc: Global) -> Result<Command<'a>, AllocError> {
             "The first transfer id and delivery id",
             0,
             u32::MAX,
-        )?)
+        )?)?
+        .arg(options::keep(alloc)?)
 }
 
 /// An option that has to be there: a number between these.
@@ -123,6 +139,7 @@ fn pair_options(options: &ArgMatches<'_>) -> Options {
         credit: options.get_one::<u32>("credit").unwrap_or(1),
         size: options.get_one::<u32>("size").unwrap_or(0),
         first_id: options.get_one::<u32>("first-id").unwrap_or(0),
+        keep: options.get_one::<u32>("keep"),
     }
 }
 

@@ -5,6 +5,8 @@
 //! | `command_line` | the commands and their options |
 //! | `amqp_script::driven` | the command `conn`: lines of text on one connection, one answer each |
 //! | `amqp_script::frames` | the command `frames`: octets in hexadecimal, framed and named |
+//! | `amqp_script::trace` | the command `trace`: octets, a line for each frame |
+//! | `amqp_script::explain` | the command `explain`: numbers in words |
 //! | `amqp_script::script` | the command `script`: lines of text on one journal, one answer each |
 //! | `amqp_pair` | the command `pair`: two ends of a connection over the loopback |
 //!
@@ -24,6 +26,7 @@ use amqp_script::Outcome;
 use amqp_script::driven::run_conn;
 use amqp_script::frames::{Framed, Octets, run_frames};
 use amqp_script::script::run_script;
+use amqp_script::trace::{run_raw_trace, run_trace};
 use command_line::{Request, read_request};
 use std::env::Env;
 use std::io::{BufReader, BufWriter};
@@ -73,6 +76,20 @@ where
             let mut writer = BufWriter::new(rt.alloc(), io::writer(rt))?;
             let outcome = run_frames(rt.alloc(), &mut reader, &mut writer)?;
             Ok(status_of_frames(outcome))
+        }
+        Ok(Request::Trace(direction, is_raw)) => {
+            let mut reader = BufReader::new(rt.alloc(), rt.reader())?;
+            let mut writer = BufWriter::new(rt.alloc(), io::writer(rt))?;
+            let outcome = if is_raw {
+                run_raw_trace(rt.alloc(), direction, &mut reader, &mut writer)?
+            } else {
+                run_trace(rt.alloc(), direction, &mut reader, &mut writer)?
+            };
+            Ok(status_of_frames(outcome))
+        }
+        Ok(Request::Explain(explained)) => {
+            println!(rt; "{explained}")?;
+            Ok(ExitCode::SUCCESS)
         }
         Ok(Request::Pair(options)) => {
             let mut writer = BufWriter::new(rt.alloc(), io::writer(rt))?;

@@ -1,4 +1,4 @@
-//! Copies of optional parts: a copy is equal, or memory ran out.
+//! Copies of optional parts: a copy is equal, or memory was refused.
 ghost use Rattle.std.specs.Prelude.{◌≡◌, IfOk};
 
 use crate::error::AmqpError;
@@ -6,7 +6,8 @@ use crate::state::DeliveryState;
 use amqp_types::{Boxed, Items, Text, Value};
 use std::alloc::AllocError;
 
-pub(crate) fn copy_text(text: &Option<Text>) -> Result<Option<Text>, AllocError>
+/// A copy of a text, where there is one.
+pub fn copy_text(text: &Option<Text>) -> Result<Option<Text>, AllocError>
     ensures { IfOk result (λ copy. copy ≡ text.now) }
 {
     match text {
@@ -15,7 +16,8 @@ pub(crate) fn copy_text(text: &Option<Text>) -> Result<Option<Text>, AllocError>
     }
 }
 
-pub(crate) fn copy_value(value: &Option<Boxed<Value>>) -> Result<Option<Boxed<Value>>, AllocError>
+/// A copy of a value, where there is one.
+pub fn copy_value(value: &Option<Boxed<Value>>) -> Result<Option<Boxed<Value>>, AllocError>
     ensures { IfOk result (λ copy. copy ≡ value.now) }
 {
     match value {
@@ -24,9 +26,8 @@ pub(crate) fn copy_value(value: &Option<Boxed<Value>>) -> Result<Option<Boxed<Va
     }
 }
 
-pub(crate) fn copy_error(
-    error: &Option<Boxed<AmqpError>>,
-) -> Result<Option<Boxed<AmqpError>>, AllocError>
+/// A copy of an error, where there is one.
+pub fn copy_error(error: &Option<Boxed<AmqpError>>) -> Result<Option<Boxed<AmqpError>>, AllocError>
     ensures { IfOk result (λ copy. copy ≡ error.now) }
 {
     match error {
@@ -35,7 +36,8 @@ pub(crate) fn copy_error(
     }
 }
 
-pub(crate) fn copy_state(state: &Option<DeliveryState>) -> Result<Option<DeliveryState>, AllocError>
+/// A copy of a state, where there is one.
+pub fn copy_state(state: &Option<DeliveryState>) -> Result<Option<DeliveryState>, AllocError>
     ensures { IfOk result (λ copy. copy ≡ state.now) }
 {
     match state {

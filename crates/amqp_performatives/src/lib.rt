@@ -25,13 +25,14 @@
 //!   behind a pointer (`Boxed`), so that a frame is narrow where it is moved.
 //! - [`Role`], [`DeliveryState`], [`AmqpError`]: what fields hold
 //! - [`Composite`]: the table of composite types, by the number and the name of their descriptors
+//! - [`copying`]: copies of what may be left out, for all crates above
 //! - [`field`], [`listed`]: the fields of a body as a writer goes over them
 //! - [`equal_is_same`]: `==` of performatives, states and errors is `≡` in contracts
 #![tactic(auto)]
 
 mod bodies;
 mod composite;
-mod copying;
+pub mod copying;
 mod equality;
 mod error;
 pub mod field;

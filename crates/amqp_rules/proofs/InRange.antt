@@ -19,7 +19,7 @@ use Rattle.amqp_events.specs.Joined.{Delivery}
 use Rattle.amqp_events.specs.Told.{SentItem}
 use Rattle.amqp_rules.specs.declared.config.Config.{Config}
 use Rattle.amqp_rules.specs.declared.op.Op.{Op}
-use Rattle.amqp_rules.specs.declared.op.Op.TheVariants.{Begin, Attach, Start, Carry, Abort, Dispose, Learn, Grant, Offer, Drained, Refresh, Take, Detach, End, Beat}
+use Rattle.amqp_rules.specs.declared.op.Op.TheVariants.{Begin, Attach, Start, Carry, Abort, Dispose, Learn, Grant, Offer, Drained, Refresh, Take, Detach, Suspend, End, Beat}
 use Rattle.amqp_rules.specs.declared.refusal.Refusal.{Refusal}
 use Rattle.amqp_rules.specs.declared.reply.Reply.{Reply}
 use Rattle.amqp_rules.specs.declared.reply.Given.TheVariants as given
@@ -189,6 +189,7 @@ own-in-range v (Drained link) reply h few s op r = record { window = r.window; l
 own-in-range v (Refresh echo) reply h few s op r = record { window = r.window; links = r.links }
 own-in-range v (Take link) reply h few s op r = record { window = r.window; links = changed v link taken_from r (λ l. (refl, omega arith, refl)) }
 own-in-range v (Detach link error) reply h few s op r = record { window = r.window; links = changed v link left_by_us r (λ l. (refl, omega arith, refl)) }
+own-in-range v (Suspend link) reply h few s op r = record { window = r.window; links = changed v link left_by_us r (λ l. (refl, omega arith, refl)) }
 own-in-range v (End error) reply h few s op r = record { window = r.window; links = tt }
 own-in-range v Beat reply h few s op r = record { window = r.window; links = r.links }
 

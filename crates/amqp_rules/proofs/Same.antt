@@ -15,19 +15,22 @@ use Rattle.amqp_performatives.specs.contracts.performative.PerformativePartialEq
 use Rattle.amqp_performatives.proofs.Same.{errors_alike, states_alike, performatives_alike}
 use Rattle.amqp_frames.specs.declared.frame.Frame.{Frame}
 use Rattle.amqp_frames.specs.contracts.frame.FramePartialEq.TheImpl.{ghosts as frames}
+use Rattle.amqp_waiting.specs.contracts.item.SuspendedItemPartialEq.TheImpl.{ghosts as waitings}
 use Rattle.amqp_rules.specs.declared.op.Op.{Op}
-use Rattle.amqp_rules.specs.declared.op.Op.TheVariants.{Begin, Attach, Start, Carry, Abort, Dispose, Learn, Grant, Offer, Drained, Refresh, Take, Detach, End, Beat}
+use Rattle.amqp_rules.specs.declared.op.Op.TheVariants.{Begin, Attach, Start, Carry, Abort, Dispose, Learn, Grant, Offer, Drained, Refresh, Take, Detach, Suspend, End, Beat}
 use Rattle.amqp_rules.specs.contracts.op.OpPartialEq.TheImpl.{ghosts as ops}
 use Rattle.amqp_rules.specs.contracts.op.OpEq.TheImpl.Laws as ops_whole
 use Rattle.amqp_rules.specs.declared.reply.Sent.{Sent}
 use Rattle.amqp_rules.specs.declared.reply.Taken.{Taken}
 use Rattle.amqp_rules.specs.declared.reply.Learned.{Learned}
+use Rattle.amqp_rules.specs.declared.reply.Suspended.{Suspended}
 use Rattle.amqp_rules.specs.declared.reply.Reply.{Reply}
 use Rattle.amqp_rules.specs.declared.reply.Given.{Given}
 use Rattle.amqp_rules.specs.declared.reply.Given.TheVariants as given
 use Rattle.amqp_rules.specs.contracts.reply.SentPartialEq.TheImpl.{ghosts as sents}
 use Rattle.amqp_rules.specs.contracts.reply.TakenPartialEq.TheImpl.{ghosts as takens}
 use Rattle.amqp_rules.specs.contracts.reply.LearnedPartialEq.TheImpl.{ghosts as learneds}
+use Rattle.amqp_rules.specs.contracts.reply.SuspendedPartialEq.TheImpl.{ghosts as suspendeds}
 use Rattle.amqp_rules.specs.contracts.reply.GivenPartialEq.TheImpl.{ghosts as givens}
 use Rattle.amqp_rules.specs.contracts.reply.ReplyPartialEq.TheImpl.{ghosts as replies}
 use Rattle.amqp_rules.specs.contracts.reply.ReplyEq.TheImpl.Laws as replies_whole
@@ -110,6 +113,7 @@ same (Drained a) (Drained l) h = ap Drained (number.is a l h)
 same (Refresh a) (Refresh l) h = ap Refresh (boolean.is a l h)
 same (Take a) (Take l) h = ap Take (number.is a l h)
 same (Detach a b) (Detach l m) h = let t = (number ⊗ maybe error).is (a, b) (l, m) h in λ i. Detach (t i).0 (t i).1
+same (Suspend a) (Suspend l) h = ap Suspend (number.is a l h)
 same (End a) (End l) h = ap End ((maybe error).is a l h)
 same Beat Beat h = refl
 same _ _ h = no h
@@ -139,6 +143,16 @@ learned =
           λ i. record { id = (t i).0; link = (t i).1.0; tag = (t i).1.1.0; state = (t i).1.1.1.0; settled = (t i).1.1.1.1 };
     }
 
+waiting : Tells waitings.eq
+waiting = record { is = λ x y h. let t = (octets ⊗ maybe state).is (x.tag, x.state) (y.tag, y.state) h in λ i. record { tag = (t i).0; state = (t i).1 } }
+
+aside : Tells suspendeds.eq
+aside =
+    record {
+      is = λ x y h. let t = (octets ⊗ role ⊗ items waiting).is (x.name, (x.role, x.items)) (y.name, (y.role, y.items)) h in
+          λ i. record { name = (t i).0; role = (t i).1.0; items = (t i).1.1 };
+    }
+
 given_same : (a b : Given) → givens.eq a b ≡ true → a ≡ b
 given_same given.Nothing given.Nothing h = refl
 given_same (given.Link a) (given.Link l) h = ap given.Link (number.is a l h)
@@ -149,6 +163,8 @@ given_same (given.Delivery a) (given.Delivery l) h = ap given.Delivery (number.i
 given_same (given.Ready a b) (given.Ready l m) h = let t = (number ⊗ number).is (a, b) (l, m) h in λ i. given.Ready (t i).0 (t i).1
 given_same (given.Taken a) (given.Taken l) h = ap given.Taken (taken.is a l h)
 given_same (given.Learned a) (given.Learned l) h = ap given.Learned (learned.is a l h)
+given_same (given.Suspended a) (given.Suspended l) h = ap given.Suspended (aside.is a l h)
+given_same (given.Parted a b) (given.Parted l m) h = let t = (number ⊗ aside).is (a, b) (l, m) h in λ i. given.Parted (t i).0 (t i).1
 given_same _ _ h = no h
 
 told : Tells givens.eq

@@ -9,7 +9,7 @@ use Rattle.amqp_performatives.specs.declared.performative.Performative.TheVarian
 use Rattle.amqp_frames.specs.declared.frame.Frame.{Frame}
 use Rattle.amqp_rules.specs.declared.config.Config.{Config}
 use Rattle.amqp_rules.specs.declared.op.Op.{Op}
-use Rattle.amqp_rules.specs.declared.op.Op.TheVariants.{Begin, Attach, Start, Carry, Abort, Dispose, Learn, Grant, Offer, Drained, Refresh, Take, Detach, End, Beat}
+use Rattle.amqp_rules.specs.declared.op.Op.TheVariants.{Begin, Attach, Start, Carry, Abort, Dispose, Learn, Grant, Offer, Drained, Refresh, Take, Detach, Suspend, End, Beat}
 use Rattle.amqp_rules.specs.declared.reply.Reply.{Reply}
 use Rattle.amqp_rules.specs.declared.reply.Given.TheVariants as given
 use Rattle.amqp_rules.specs.View.{EndView, LinkView, SessionView, View, change_first, free_handle, has_handle, has_number, has_peer_handle, holds, initial, is_asked_as, is_mapped, is_offered_as, is_ours, is_over, is_theirs, new_link, next_delivery, opposite, remove_first, same_role, takes_frames}
@@ -307,6 +307,7 @@ own-sound v (Drained link) reply h s = changed-sound v v.expected v.sent v.recei
 own-sound v (Refresh echo) reply h s = told-sound v v.session v.sent v.received (windows_renewed v.windows) v.max_frame v.handle_max refl refl (λ b. b) s
 own-sound v (Take link) reply h s = changed-sound v v.expected v.sent v.received v.windows (has_number link) taken_from refl (λ l. refl) s
 own-sound v (Detach link error) reply h s = changed-sound v v.expected _ _ v.windows (has_number link) left_by_us refl (λ l. refl) s
+own-sound v (Suspend link) reply h s = changed-sound v v.expected _ _ v.windows (has_number link) left_by_us refl (λ l. refl) s
 own-sound v (End error) reply h s = ended-sound v (record v.session { end_sent = true }) refl s
 own-sound v Beat reply h s = told-sound v v.session v.sent v.received v.windows v.max_frame v.handle_max refl refl (λ b. b) s
 

@@ -9,7 +9,7 @@ use Rattle.amqp_performatives.specs.declared.performative.Performative.{Performa
 use Rattle.amqp_performatives.specs.declared.performative.Performative.TheVariants as heard
 use Rattle.amqp_frames.specs.declared.frame.Frame.{Frame}
 use Rattle.amqp_rules.specs.declared.op.Op.{Op}
-use Rattle.amqp_rules.specs.declared.op.Op.TheVariants.{Begin, Attach, Start, Carry, Abort, Dispose, Learn, Grant, Offer, Drained, Refresh, Take, Detach, End, Beat}
+use Rattle.amqp_rules.specs.declared.op.Op.TheVariants.{Begin, Attach, Start, Carry, Abort, Dispose, Learn, Grant, Offer, Drained, Refresh, Take, Detach, Suspend, End, Beat}
 use Rattle.amqp_rules.specs.declared.reply.Reply.{Reply}
 use Rattle.amqp_rules.specs.declared.reply.Given.TheVariants as given
 use Rattle.amqp_rules.specs.declared.violation.Violation.{Violation}
@@ -188,6 +188,7 @@ own-unfinished v (Drained link) reply h all = every-changed IsUnfinished (has_nu
 own-unfinished v (Refresh echo) reply h all = all
 own-unfinished v (Take link) reply h all = every-changed IsUnfinished (has_number link) taken_from v.links all (λ l u. record { sending = u.sending; receiving = u.receiving })
 own-unfinished v (Detach link error) reply h all = every-changed IsUnfinished (has_number link) left_by_us v.links all (λ l u. record { sending = refl; receiving = refl })
+own-unfinished v (Suspend link) reply h all = every-changed IsUnfinished (has_number link) left_by_us v.links all (λ l u. record { sending = refl; receiving = refl })
 own-unfinished v (End error) reply h all = tt
 own-unfinished v Beat reply h all = all
 

@@ -19,13 +19,13 @@ use Rattle.amqp_frames.specs.declared.frame.Frame.{Frame}
 use Rattle.amqp_frames.specs.Field.{header}
 use Rattle.amqp_frames.specs.Written.{contents_octets, framed, frame_octets, within_size}
 use Rattle.amqp_rules.specs.declared.op.Op.{Op}
-use Rattle.amqp_rules.specs.declared.op.Op.TheVariants.{Begin, Attach, Start, Carry, Abort, Dispose, Learn, Grant, Offer, Drained, Refresh, Take, Detach, End, Beat}
+use Rattle.amqp_rules.specs.declared.op.Op.TheVariants.{Begin, Attach, Start, Carry, Abort, Dispose, Learn, Grant, Offer, Drained, Refresh, Take, Detach, Suspend, End, Beat}
 use Rattle.amqp_rules.specs.declared.reply.Reply.{Reply}
 use Rattle.amqp_rules.specs.declared.reply.Sent.{Sent}
 use Rattle.amqp_rules.specs.declared.reply.Given.{Given}
 use Rattle.amqp_rules.specs.declared.refusal.Refusal.{Refusal}
 use Rattle.amqp_rules.specs.declared.refusal.Refusal.TheVariants.{NoLink, NotMapped, WrongRole}
-use Rattle.amqp_rules.specs.declared.reply.Given.TheVariants.{Nothing, Link, Delivery, Gone}
+use Rattle.amqp_rules.specs.declared.reply.Given.TheVariants.{Nothing, Link, Delivery, Gone, Suspended}
 use Rattle.amqp_rules.specs.View.{View, LinkView, handle_of, has_number, has_peer_handle, is_attached, is_ending, is_mapped, is_offered_as, next_delivery, same_role, takes_frames}
 use Rattle.amqp_rules.specs.Deliveries.{disposition_of, ended_by, received_by_own, sent_by_own}
 use Rattle.amqp_rules.specs.Begin.{begin_body, begin_refusals}
@@ -56,7 +56,8 @@ use Rattle.amqp_rules.specs.PeerAttach.{attach_heard_reply, attach_violations}
 use Rattle.amqp_rules.specs.Flow.{echo_body, echoes, flow_answer, flow_link, flow_reply, flow_violations, flow_windows, named_link}
 use Rattle.amqp_rules.specs.PeerTransfer.{transfer_reply, transfer_violations}
 use Rattle.amqp_rules.specs.PeerDisposition.{disposition_reply, disposition_violations}
-use Rattle.amqp_rules.specs.PeerDetach.{detach_heard_answer, detach_reply}
+use Rattle.amqp_rules.specs.Suspend.{put_aside}
+use Rattle.amqp_rules.specs.PeerDetach.{detach_heard_answer, detach_reply, parting}
 use Rattle.amqp_rules.specs.PeerEnd.{end_heard_answer, end_reply}
 use Rattle.amqp_rules.specs.Ranges.{IsBodyInRange, IsInRange, IsLinkInRange}
 use Rattle.amqp_rules.specs.Sound.{Every}
@@ -177,6 +178,10 @@ own-written v (Detach link error) reply h =
     let ended : List (Role × ℕ) = ended_by (Leaves link) (Leaves link) v in
     by-link v link (λ l. sends_ending v.max_frame (detach_refusals l) (detach_body (handle_of l.ours) (Some true) error) ended Nothing) reply
     (λ l. by-ending v.max_frame (detach_refusals l) (detach_body (handle_of l.ours) (Some true) error) ended Nothing reply) h
+own-written v (Suspend link) reply h =
+    let ended : List (Role × ℕ) = ended_by (Leaves link) (Leaves link) v in
+    by-link v link (λ l. sends_ending v.max_frame (detach_refusals l) (detach_body (handle_of l.ours) None None) ended (Suspended (put_aside v l))) reply
+    (λ l. by-ending v.max_frame (detach_refusals l) (detach_body (handle_of l.ours) None None) ended (Suspended (put_aside v l)) reply) h
 own-written v (End error) reply h = by-ending v.max_frame ((not (is_mapped v.session), NotMapped) ∷ []) (end_body error) (ended_by Over Over v) Nothing reply h
 own-written v Beat reply h = by-sends v.max_frame [] None [] Nothing reply h
 
@@ -283,7 +288,7 @@ detach-written v b reply h r =
     by t.on (is_attached t.on) (there-in-range (has_peer_handle b.handle) v.links t.on r.links t.found) same
   where
     by : (l : LinkView) (attached : Bool) → IsLinkInRange l
-        → cond attached (reply_ending (detach_body (handle_of l.ours) b.closed None) [] (ended_by (Leaves l.number) (Leaves l.number) v) (Gone l.number)) (record { sent = []; ended = ended_by (Leaves l.number) (Leaves l.number) v; given = Gone l.number }) ≡ reply
+        → cond attached (reply_ending (detach_body (handle_of l.ours) b.closed None) [] (ended_by (Leaves l.number) (Leaves l.number) v) (parting v b l)) (record { sent = []; ended = ended_by (Leaves l.number) (Leaves l.number) v; given = Gone l.number }) ≡ reply
         → AllWritten 512 reply
     by l true here same =
         brief-sent (heard.Detach (record { handle = handle_of l.ours; closed = b.closed; error = None })) reply (detach_brief _ here.handle refl) (ap (λ (r : Reply). r.sent) same)

@@ -4,7 +4,7 @@ use Rattle.amqp_frames.specs.declared.frame.Frame.{Frame}
 use Rattle.amqp_performatives.specs.declared.performative.Performative.{Performative}
 use Rattle.amqp_performatives.specs.declared.performative.Performative.TheVariants as heard
 use Rattle.amqp_rules.specs.declared.op.Op.{Op}
-use Rattle.amqp_rules.specs.declared.op.Op.TheVariants.{Begin, Attach, Start, Carry, Abort, Dispose, Learn, Grant, Offer, Drained, Refresh, Take, Detach, End, Beat}
+use Rattle.amqp_rules.specs.declared.op.Op.TheVariants.{Begin, Attach, Start, Carry, Abort, Dispose, Learn, Grant, Offer, Drained, Refresh, Take, Detach, Suspend, End, Beat}
 use Rattle.amqp_rules.specs.declared.reply.Reply.{Reply}
 use Rattle.amqp_rules.specs.declared.refusal.Refusal.{Refusal}
 use Rattle.amqp_rules.specs.declared.violation.Violation.{Violation}
@@ -25,6 +25,7 @@ use Rattle.amqp_rules.specs.Drained.{drained_answer, next_drained}
 use Rattle.amqp_rules.specs.Refresh.{refresh_answer, next_refresh}
 use Rattle.amqp_rules.specs.Take.{take_answer, next_take}
 use Rattle.amqp_rules.specs.Detach.{detach_answer, next_detach}
+use Rattle.amqp_rules.specs.Suspend.{suspend_answer, next_suspend}
 use Rattle.amqp_rules.specs.End.{end_answer, next_end}
 use Rattle.amqp_rules.specs.Beat.{beat_answer, next_beat}
 use Rattle.amqp_rules.specs.PeerBegin.{begin_heard_answer, next_begin_heard}
@@ -50,6 +51,7 @@ own_answer v (Drained link) = drained_answer v link
 own_answer v (Refresh echo) = refresh_answer v echo
 own_answer v (Take link) = take_answer v link
 own_answer v (Detach link error) = detach_answer v link error
+own_answer v (Suspend link) = suspend_answer v link
 own_answer v (End error) = end_answer v error
 own_answer v Beat = beat_answer v
 
@@ -68,6 +70,7 @@ next_own v (Drained link) = next_drained v link
 next_own v (Refresh echo) = next_refresh v
 next_own v (Take link) = next_take v link
 next_own v (Detach link error) = next_detach v link
+next_own v (Suspend link) = next_suspend v link
 next_own v (End error) = next_end v
 next_own v Beat = next_beat v
 

@@ -67,6 +67,7 @@ sent_by_own v (own.Abort link) = continued_on true (sending_on (find (has_number
 sent_by_own v (own.Dispose role first last settled state) = said_of Sender role (record { first = first; last = last; settled = settled; state = state })
 sent_by_own v (own.Learn link) = Learns link
 sent_by_own v (own.Detach link error) = Leaves link
+sent_by_own v (own.Suspend link) = Leaves link
 sent_by_own v (own.End error) = Over
 sent_by_own v _ = No_event
 
@@ -96,6 +97,7 @@ abbrev pub received_by_own : View → Op → Event
 received_by_own v (own.Dispose role first last settled state) = said_of Receiver role (record { first = first; last = last; settled = settled; state = state })
 received_by_own v (own.Take link) = Takes link
 received_by_own v (own.Detach link error) = Leaves link
+received_by_own v (own.Suspend link) = Leaves link
 received_by_own v (own.End error) = Over
 received_by_own v _ = No_event
 

@@ -24,6 +24,7 @@ pub mod Drained
 pub mod Refresh
 pub mod Take
 pub mod Detach
+pub mod Suspend
 pub mod End
 pub mod Beat
 -- frames that are heard

@@ -10,7 +10,6 @@
 //! | `status` | the windows and a link as they are shown |
 //! | `laws` | the frames of each reply have octets |
 //! | `equality` | `==` of operations and of replies is `≡` in contracts |
-//! | `copying` | copies of what may be left out |
 #![tactic(auto)]
 //! # The session (part 2, 2.5.5)
 //!
@@ -34,7 +33,7 @@
 //!                 Attach                attach heard
 //!      --------------------> Asked ------------------+
 //!                                                    |
-//!        attach heard                  Attach        v       Detach
+//!        attach heard                  Attach        v   Detach, Suspend
 //!      ----------------> Offered -------------> Attached --------------> Leaving
 //!                           |                        |                      |
 //!                           | detach heard           | detach heard         | detach heard
@@ -60,6 +59,7 @@
 //! | `Refresh` | mapped | flow | |
 //! | `Take` | receiver | | `Taken` |
 //! | `Detach` | mapped, attached | detach | |
+//! | `Suspend` | mapped, attached | detach that is not closed | `Suspended` |
 //! | `End` | mapped | end | |
 //! | `Beat` | any | empty frame | |
 //!
@@ -70,13 +70,12 @@
 //! | flow | begin heard or mapped | flow, where one is asked for | |
 //! | transfer | begin heard or mapped | | `Ready` |
 //! | disposition | begin heard or mapped | | |
-//! | detach | begin heard or mapped | detach, where the link is attached | `Gone` |
+//! | detach | begin heard or mapped | detach, where the link is attached | `Gone`; `Parted` where the link is attached and not closed |
 //! | end | begin heard, mapped or end sent | end, where the session is mapped | |
 //!
 //! Deliveries that a step ends are named in its reply, by role and id.
 
 pub mod config;
-pub mod copying;
 pub mod equality;
 mod frame_refusal;
 pub mod laws;

@@ -1,8 +1,8 @@
 //! Operations of the application.
 ghost use Rattle.std.specs.Prelude.{◌≡◌};
 
-use crate::copying::{copy_error, copy_state, copy_value};
 use amqp_frames::{AmqpError, DeliveryState, Role};
+use amqp_performatives::copying::{copy_error, copy_state, copy_value};
 use amqp_types::{Boxed, Tag, Text, Value};
 use bytes::Bytes;
 use std::alloc::AllocError;
@@ -91,6 +91,10 @@ pub enum Op {
     Detach {
         link: u32,
         error: Option<Boxed<AmqpError>>,
+    },
+    /// Puts a link aside: it is detached, not for good, and what is unsettled on it is given (part 2, 2.6.4).
+    Suspend {
+        link: u32,
     },
     /// Ends the session (part 2, 2.5.2).
     End {
@@ -186,6 +190,7 @@ impl Clone for Op {
                 link: *link,
                 error: copy_error(error)?,
             }),
+            Op::Suspend { link } => Ok(Op::Suspend { link: *link }),
             Op::End { error } => Ok(Op::End {
                 error: copy_error(error)?,
             }),

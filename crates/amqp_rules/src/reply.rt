@@ -1,9 +1,10 @@
 //! What a step gives: frames with their octets, deliveries that it ended, and what it tells.
 ghost use Rattle.std.specs.Prelude.{◌≡◌, IfOk};
 
-use crate::copying::copy_state;
 use amqp_frames::{DeliveryState, Frame, Role};
-use amqp_types::{Boxed, Items, Tag};
+use amqp_performatives::copying::copy_state;
+use amqp_types::{Boxed, Items, Tag, Text};
+use amqp_waiting::SuspendedItem;
 use bytes::Bytes;
 use std::alloc::AllocError;
 
@@ -40,6 +41,15 @@ pub struct Learned {
     pub settled: bool,
 }
 
+/// A link that was put aside: what is unsettled on it, in order. On a link on which we receive, only what was taken.
+#[derive(Debug, PartialEq, Eq, Drop)]
+pub struct Suspended {
+    pub name: Text,
+    /// Our end of it.
+    pub role: Role,
+    pub items: Items<SuspendedItem>,
+}
+
 /// What a step tells the application. What is wide stands behind a pointer, since each entry of a journal has room for the widest.
 #[derive(Debug, PartialEq, Eq, Drop)]
 pub enum Given {
@@ -58,6 +68,10 @@ pub enum Given {
     Ready(u32, u32),
     Taken(Boxed<Taken>),
     Learned(Boxed<Learned>),
+    /// We have put a link aside.
+    Suspended(Boxed<Suspended>),
+    /// The peer has put this link aside, and it is gone.
+    Parted(u32, Boxed<Suspended>),
 }
 
 /// What a step gives: the frames to send, the deliveries that it ended by role and id, and what it tells.
@@ -112,6 +126,20 @@ impl Clone for Learned {
     }
 }
 
+impl Clone for Suspended {
+    ghost is_clone = { λ a b. b ≡ a };
+
+    fn clone(&self) -> Result<Suspended, AllocError> {
+        let name = self.name.clone()?;
+        let items = copy_items(&self.items)?;
+        Ok(Suspended {
+            name,
+            role: self.role,
+            items,
+        })
+    }
+}
+
 impl Clone for Given {
     ghost is_clone = { λ a b. b ≡ a };
 
@@ -126,6 +154,8 @@ impl Clone for Given {
             Given::Ready(link, id) => Ok(Given::Ready(*link, *id)),
             Given::Taken(taken) => Ok(Given::Taken(taken.clone()?)),
             Given::Learned(learned) => Ok(Given::Learned(learned.clone()?)),
+            Given::Suspended(aside) => Ok(Given::Suspended(aside.clone()?)),
+            Given::Parted(link, aside) => Ok(Given::Parted(*link, aside.clone()?)),
         }
     }
 }
@@ -158,6 +188,17 @@ fn copy_ended(ended: &Items<(Role, u32)>) -> Result<Items<(Role, u32)>, AllocErr
     let mut copies = Vec::new(ended.allocator());
     for named in ended.as_slice() {
         copies.push(*named)?;
+    }
+    Ok(Items { items: copies })
+}
+
+fn copy_items(items: &Items<SuspendedItem>) -> Result<Items<SuspendedItem>, AllocError>
+    ensures { IfOk result (λ copy. copy ≡ items.now) }
+{
+    let mut copies = Vec::new(items.allocator());
+    for item in items.as_slice() {
+        let copy = item.clone()?;
+        copies.push(copy)?;
     }
     Ok(Items { items: copies })
 }

@@ -4,11 +4,12 @@ ghost use Rattle.std.specs.Prelude.{◌≤◌, length};
 use amqp_deliveries::HeldItem;
 use amqp_endpoint::endpoint::Endpoint;
 use amqp_endpoint::refusal::Refusal;
-use amqp_endpoint::reply::{Given, Learned, Reply, Sent, Taken};
+use amqp_endpoint::reply::{Given, Learned, Reply, Sent, Suspended, Taken};
 use amqp_endpoint::status::{LinkPhase, LinkStatus, WindowView};
 use amqp_endpoint::violation::ViolationKind;
 use amqp_frames::{DeliveryState, Role};
 use amqp_types::Items;
+use amqp_waiting::SuspendedItem;
 use std::fmt;
 use std::fmt::{Formatter, Write};
 
@@ -63,6 +64,14 @@ pub fn write_given<W: Write>(given: &Given, f: &mut Formatter<W>) -> fmt::Result
         Given::Ready(link, id) => write!(f, "ready:{link}:{id}"),
         Given::Taken(taken) => write_taken(taken.get(), f),
         Given::Learned(learned) => write_learned(learned.get(), f),
+        Given::Suspended(aside) => {
+            f.write_str("suspended:")?;
+            write_aside(aside.get(), f)
+        }
+        Given::Parted(link, aside) => {
+            write!(f, "parted:{link}:")?;
+            write_aside(aside.get(), f)
+        }
     }
 }
 
@@ -77,6 +86,26 @@ fn write_learned<W: Write>(learned: &Learned, f: &mut Formatter<W>) -> fmt::Resu
     let state = state_word(&learned.state);
     let settled = u8::from(learned.settled);
     write!(f, "learned:{}:{state}:{settled}", learned.id)
+}
+
+/// The tag and our state of each delivery that was put aside, or `-` for none.
+fn write_aside<W: Write>(aside: &Suspended, f: &mut Formatter<W>) -> fmt::Result {
+    if aside.items.items.is_empty() {
+        return f.write_str("-");
+    }
+    for (place, item) in aside.items.items.iter().enumerate() {
+        if place > 0 {
+            f.write_str(",")?;
+        }
+        write_item_aside(item, f)?;
+    }
+    Ok(())
+}
+
+fn write_item_aside<W: Write>(item: &SuspendedItem, f: &mut Formatter<W>) -> fmt::Result {
+    write_octets(item.tag.octets(), f)?;
+    let state = state_word(&item.state);
+    write!(f, ":{state}")
 }
 
 /// `s` or `r` for our role and the id, for each delivery.

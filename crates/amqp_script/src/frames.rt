@@ -7,7 +7,7 @@ use std::alloc::{AllocError, Global};
 use std::io::{BufRead, Write};
 
 /// The longest frame that is taken, in octets.
-const MAX_FRAME: u32 = 65536;
+pub(crate) const MAX_FRAME: u32 = 65536;
 
 /// The names of the kinds of frames, in the order of their totals.
 const NAMES: [&str; 10] = [
@@ -56,7 +56,7 @@ pub fn run_frames<R: BufRead, W: Write>(
     };
     let run = take_lines(alloc, &mut framing, reader, writer);
     let told = match run {
-        Ok(()) => framing.tell_rest(writer),
+        Ok(()) => tell_rest(framing.framer.pending(), writer),
         Err(RunFault::Framing(fault)) => Ok(Octets::Faulty(fault)),
         Err(fault) => Err(fault),
     };
@@ -115,15 +115,7 @@ impl Framing {
             }
             Ok((used, None)) => Ok(used),
             Err(FrameFault::NoMemory) => Err(RunFault::Memory(AllocError)),
-            Err(fault) => Err(self.tell_fault(fault, writer)),
-        }
-    }
-
-    /// Prints the fault, and answers what ends the run.
-    fn tell_fault<W: Write>(&self, fault: FrameFault, writer: &mut W) -> RunFault {
-        match writeln!(writer, "fault {}", fault.number()) {
-            Ok(()) => RunFault::Framing(fault),
-            Err(error) => RunFault::Write(error),
+            Err(fault) => Err(tell_fault(fault, writer)),
         }
     }
 
@@ -143,17 +135,6 @@ impl Framing {
         .map_err(RunFault::Write)
     }
 
-    /// Prints how many octets are left of a frame that did not end.
-    fn tell_rest<W: Write>(&self, writer: &mut W) -> Result<Octets, RunFault> {
-        match self.framer.pending() {
-            0 => Ok(Octets::Whole),
-            count => {
-                writeln!(writer, "rest {count}").map_err(RunFault::Write)?;
-                Ok(Octets::Unfinished)
-            }
-        }
-    }
-
     fn tell_totals<W: Write>(&self, writer: &mut W, octets: Octets) -> Result<Framed, RunFault> {
         for (kind, name) in NAMES.iter().enumerate() {
             let total = self.totals[kind];
@@ -166,6 +147,23 @@ impl Framing {
             octets,
         })
     }
+}
+
+/// Prints the fault, and answers what ends the run.
+pub(crate) fn tell_fault<W: Write>(fault: FrameFault, writer: &mut W) -> RunFault {
+    match writeln!(writer, "fault {}", fault.number()) {
+        Ok(()) => RunFault::Framing(fault),
+        Err(error) => RunFault::Write(error),
+    }
+}
+
+/// Prints how many octets are left of a frame that did not end.
+pub(crate) fn tell_rest<W: Write>(count: usize, writer: &mut W) -> Result<Octets, RunFault> {
+    if count == 0 {
+        return Ok(Octets::Whole);
+    }
+    writeln!(writer, "rest {count}").map_err(RunFault::Write)?;
+    Ok(Octets::Unfinished)
 }
 
 /// The place of its name among `NAMES`.

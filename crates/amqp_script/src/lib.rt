@@ -7,6 +7,8 @@
 //! | `answer` | the text of an answer |
 //! | `script` | the command `script`: an endpoint with its journal that lines drive |
 //! | `frames` | the command `frames`: octets in hexadecimal, framed and named |
+//! | `trace` | the command `trace`: octets, a line for each frame |
+//! | `explain` | the command `explain`: numbers in words |
 //! | `driven` | the command `conn`: a whole connection that lines drive |
 //! | `options` | the options of `script` and `conn` |
 //! | `feeding` | one feed of a loop of feeds |
@@ -14,12 +16,14 @@
 
 pub mod answer;
 pub mod driven;
+pub mod explain;
 pub mod feeding;
 pub mod frames;
 pub mod line;
 pub mod lines;
 pub mod options;
 pub mod script;
+pub mod trace;
 pub mod words;
 
 pub use answer::Answer;

@@ -104,6 +104,7 @@ fn read_session(alloc: Global, first: &[u8], words: Words<'_>) -> Result<Line, L
         b"drained" => read_drained(words),
         b"refresh" => read_refresh(words),
         b"detach" => read_detach(words),
+        b"suspend" => read_suspend(words),
         b"end" => ended(words, Line::Own(Op::End { error: None })),
         b"beat" => ended(words, Line::Own(Op::Beat)),
         _ => Err(LineFault::Bad),
@@ -258,6 +259,12 @@ fn read_learn(mut words: Words<'_>) -> Result<Line, LineFault> {
 fn read_detach(mut words: Words<'_>) -> Result<Line, LineFault> {
     let link = words.number()?;
     ended(words, Line::Own(Op::Detach { link, error: None }))
+}
+
+/// `LINK`
+fn read_suspend(mut words: Words<'_>) -> Result<Line, LineFault> {
+    let link = words.number()?;
+    ended(words, Line::Own(Op::Suspend { link }))
 }
 
 /// `LINK`

@@ -1,7 +1,9 @@
-//! The options of the commands `script` and `conn`, as a part of a program's command line.
+//! The commands `conn`, `trace` and `explain` with their options, and those of `script`, as parts of a program's command line.
 
+use crate::explain::{Explained, find_fault, find_refusal, find_violation};
 use amqp_rules::config::{Config, MAX_JOURNAL_LIMIT, MAX_WINDOW};
-use clap::{Arg, ArgMatches, Command, value_parser};
+use amqp_trace::Direction;
+use clap::{Arg, ArgAction, ArgMatches, Command, value_parser};
 use std::alloc::{AllocError, Global};
 
 /// The settings where no option is given.
@@ -28,6 +30,60 @@ pub fn command<'a>(alloc: Global) -> Result<Command<'a>, AllocError> {
         "Reads lines from standard input, drives a connection by them, and answers each with a line",
     );
     with_config(alloc, conn)
+}
+
+/// The command `trace` with its options.
+pub fn trace<'a>(alloc: Global) -> Result<Command<'a>, AllocError> {
+    Command::new(alloc, "trace")
+        .about(
+            "Reads octets in hexadecimal from standard input and prints a line for each frame in them",
+        )
+        .arg(flag(alloc, "heard", "The octets were heard, and not sent"))?
+        .arg(flag(alloc, "raw", "Standard input has the octets as they are"))
+}
+
+/// Which way the octets of a `trace` went.
+pub fn direction_of(options: &ArgMatches<'_>) -> Direction {
+    if options.get_flag("heard") {
+        Direction::Heard
+    } else {
+        Direction::Sent
+    }
+}
+
+/// The command `explain` with its options.
+pub fn explain<'a>(alloc: Global) -> Result<Command<'a>, AllocError> {
+    let number = Arg::new(alloc, "number")
+        .value_name("N")
+        .value_parser(value_parser!(u32))
+        .required(true)
+        .help("The number of a refusal");
+    let fault = flag(alloc, "fault", "It is that of a fault of framing");
+    Command::new(alloc, "explain")
+        .about("Says in words what a number of an answer means")
+        .arg(number)?
+        .arg(flag(alloc, "violation", "It is the number of a violation"))?
+        .arg(fault.conflicts_with("violation")?)
+}
+
+/// What the number stands for, if for anything.
+pub fn explained_of(options: &ArgMatches<'_>) -> Option<Explained> {
+    let number = options.get_one::<u32>("number")?;
+    if options.get_flag("violation") {
+        Some(Explained::Violation(find_violation(number)?))
+    } else if options.get_flag("fault") {
+        Some(Explained::Fault(find_fault(number)?))
+    } else {
+        Some(Explained::Refusal(find_refusal(number)?))
+    }
+}
+
+/// An option without a value.
+fn flag<'a>(alloc: Global, name: &'static str, help: &'static str) -> Arg<'a> {
+    Arg::new(alloc, name)
+        .long(name)
+        .action(ArgAction::SetTrue)
+        .help(help)
 }
 
 /// The command, with the options of an endpoint's settings.

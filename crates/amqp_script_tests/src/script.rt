@@ -7,11 +7,13 @@
 //! | `framed` | the command `frames` |
 //! | `sessions` | scripts on the session, its links and their credit |
 //! | `deliveries` | scripts on deliveries |
+//! | `suspended` | scripts on links that are put aside |
 
 mod deliveries;
 mod faults;
 mod framed;
 mod sessions;
+mod suspended;
 mod words;
 
 ghost use Rattle.amqp_rules.specs.Limits.{IsWithinLimits};
@@ -110,9 +112,9 @@ fn ends_so(
 
 /// Is interrupted once, gives its octets in one read, and then fails.
 #[derive(Drop)]
-struct FailsAfter<'a> {
-    octets: &'a [u8],
-    was_interrupted: bool,
+pub(crate) struct FailsAfter<'a> {
+    pub(crate) octets: &'a [u8],
+    pub(crate) was_interrupted: bool,
 }
 
 impl Read for FailsAfter<'_> {

@@ -43,6 +43,7 @@ use Rattle.amqp_links.proofs.credit.Credit.TheSendSync as credit_crosses
 use Rattle.amqp_links.proofs.marks.Sending.TheSendSync as sending_crosses
 use Rattle.amqp_links.proofs.arrival.Unfinished.TheSendSync as unfinished_crosses
 use Rattle.amqp_links.proofs.arrival.Waiting.TheSendSync as waiting_crosses
+use Rattle.amqp_links.specs.contracts.left.Left as left
 use Rattle.amqp_endpoint.proofs.plan.Session.TheSendSync as session_crosses
 use Rattle.amqp_rules.proofs.config.Config.TheSendSync as session_config_crosses
 use Rattle.amqp_frames.proofs.framer.Framer.TheSendSync as framer_crosses
@@ -63,6 +64,8 @@ use Rattle.amqp_performatives.specs.contracts.performative.Performative as perfo
 use Rattle.amqp_frames.specs.contracts.frame.Frame as frame
 use Rattle.amqp_rules.specs.contracts.reply.Sent as sent
 use Rattle.amqp_rules.specs.contracts.reply.Learned as learned
+use Rattle.amqp_waiting.specs.contracts.item.SuspendedItem as suspended_item
+use Rattle.amqp_rules.specs.contracts.reply.Suspended as suspended
 use Rattle.amqp_rules.specs.contracts.reply.Given as given
 use Rattle.amqp_rules.specs.contracts.reply.Reply as reply
 use Rattle.amqp_rules.specs.contracts.op.Op as op
@@ -140,8 +143,14 @@ sent_send = search (sendable, crosses, bytes_send, frame_send) depth 40 fits 200
 pub learned_send : IsSend (learned.the_field).row
 learned_send = search (sendable, crosses, tag.the_send, delivery_state_send) depth 40 fits 20000
 
+pub suspended_item_send : IsSend (suspended_item.the_field).row
+suspended_item_send = search (sendable, crosses, tag.the_send, delivery_state_send) depth 40 fits 20000
+
+pub suspended_send : IsSend (suspended.the_field).row
+suspended_send = search (sendable, crosses, text.the_send, items_crosses.the_send, suspended_item_send) depth 40 fits 20000
+
 pub given_send : IsSend (given.the_field).row
-given_send = search (sendable, crosses, taken_crosses.the_send, learned_send, bytes_send, tag.the_send) depth 40 fits 20000
+given_send = search (sendable, crosses, taken_crosses.the_send, learned_send, suspended_send, bytes_send, tag.the_send) depth 40 fits 20000
 
 pub reply_send : IsSend (reply.the_field).row
 reply_send = search (sendable, crosses, items_crosses.the_send, sent_send, given_send) depth 40 fits 20000
@@ -185,8 +194,11 @@ buffer_send = buffer_crosses.the_send global.the_row ghosts heap.the_send heap.t
 pub endpoint_send : IsSend (endpoint.the_field).row
 endpoint_send = search (sendable, crosses, session_crosses.the_send, stores_send, buffer_send, heap.the_send) depth 60 fits 100000
 
+pub left_send : IsSend (left.the_field).row
+left_send = search (sendable, crosses, text.the_send, boxed.the_send, taken_crosses.the_send, learned_send) depth 40 fits 20000
+
 pub logged_send : IsSend (logged.the_field).row
-logged_send = search (sendable, crosses, session_config_crosses.the_send, endpoint_send, entry_send, bytes_send, history_crosses.the_send) depth 40 fits 20000
+logged_send = search (sendable, crosses, session_config_crosses.the_send, endpoint_send, entry_send, bytes_send, history_crosses.the_send, left_send, heap.the_send) depth 40 fits 20000
 
 pub machine_send : IsSend (machine.the_field).row
 machine_send = search (sendable, crosses, config_crosses.the_send, bytes_send, phase_crosses.the_send, logged_send) depth 40 fits 20000

@@ -81,6 +81,7 @@ fits (op.Offer link available) k l gives h = tt
 fits (op.Drained link) k l gives h = tt
 fits (op.Refresh echo) k l gives h = tt
 fits (op.Detach link error) k l gives h = tt
+fits (op.Suspend link) k l gives h = tt
 fits (op.End error) k l gives h = tt
 fits op.Beat k l gives h = tt
 

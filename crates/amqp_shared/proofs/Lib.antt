@@ -6,3 +6,4 @@ pub mod Due
 pub mod Crossing
 pub mod Walks
 pub mod Rounds
+pub mod Held

@@ -1,5 +1,5 @@
 -- What a consumer does: it takes a delivery, has its work consume it, disposes it and grants its credit, and so on, until it is refused.
-use Rattle.std.specs.Prelude.{ℕ, zero, suc, ◌≡◌, ◌⊎◌, not, false, Some, Result, Ok, Err, IsTrue, IsFalse}
+use Rattle.std.specs.Prelude.{⊤, ℕ, zero, suc, ◌≡◌, ◌⊎◌, not, false, Some, Result, Ok, Err, IsTrue, IsFalse}
 use Rattle.amqp_performatives.specs.declared.bodies.Role.TheVariants.{Receiver}
 use Rattle.amqp_performatives.specs.declared.state.DeliveryState.{DeliveryState}
 use Rattle.amqp_rules.specs.declared.op.Op.{Op}
@@ -11,6 +11,8 @@ use Rattle.amqp_rules.specs.declared.refusal.Refusal.{Refusal}
 use Rattle.amqp_rules.specs.declared.refusal.Refusal.TheVariants as refusal
 use Rattle.amqp_journal.specs.declared.receipt.Receipt.{Receipt}
 use Rattle.amqp_conn.specs.Connection.{Connection}
+use Rattle.amqp_shared.specs.declared.renewal.Renewal.{Renewal}
+use Rattle.amqp_shared.specs.Renewing.{MayRest}
 use Rattle.amqp_shared.specs.Passes.{Tally, after}
 use Rattle.amqp_shared.specs.Session.{Makes, IsRefused, EndsWait}
 
@@ -31,17 +33,23 @@ module _ {S : Type 0} (Does : S → Op → Result (Unit {0}) Refusal → S → T
     pub told : IsFalse t.settled → Does old (disposing t s) result new
     pub settled : IsTrue t.settled → (result ≡ Ok tt) × (new ≡ old)
 
+-- the same, where credit may be due, or where a consumer may rest
+module _ {S : Type 0} (Does : S → Op → Result (Unit {0}) Refusal → S → Type 0) (Due Rests : S → Type 0) where
+  -- credit is granted where it is due, and else nothing is done
+  abbrev pub Grants : S → Op → Result (Unit {0}) Refusal → S → Type 0
+  Grants old grant result new = (Due old × Does old grant result new) ⊎ (Rests old × (result ≡ Ok tt) × (new ≡ old))
+
   -- after this answer to telling the state, credit is granted: also where the peer has settled the delivery meanwhile
   abbrev pub GrantsAfter : Result (Unit {0}) Refusal → S → Op → Result (Unit {0}) Refusal → S → Type 0
-  GrantsAfter (Ok done) old grant result new = Does old grant result new
-  GrantsAfter (Err refusal.NothingHeld) old grant result new = Does old grant result new
+  GrantsAfter (Ok done) old grant result new = Grants old grant result new
+  GrantsAfter (Err refusal.NothingHeld) old grant result new = Grants old grant result new
   GrantsAfter (Err e) old grant result new = (result ≡ Err e) × (new ≡ old)
 
-  -- the delivery is disposed, and then its credit is granted
+  -- the delivery is disposed, and then its credit is granted where it is due
   pub record Settles (old : S) (t : Taken) (s : DeliveryState) (credit : ℕ) (result : Result (Unit {0}) Refusal) (new : S) : Type 0 where
     pub answer : Result (Unit {0}) Refusal
     pub between : S
-    pub disposes : Disposes old t s answer between
+    pub disposes : Disposes Does old t s answer between
     pub grants : GrantsAfter answer between (granting t credit) result new
 
 -- # What it does to the session that the lock lends
@@ -68,7 +76,13 @@ pub record Goer (W : Type 0) : Type 0 where
   pub pass : Tally
   pub work : W
 
-module _ {W : Type 0} (consumes : W → Taken → DeliveryState → W → Type 0) (link credit : ℕ) where
+module _ {W : Type 0} (consumes : W → Taken → DeliveryState → W → Type 0) (link : ℕ) where
+  -- so many deliveries that the link had left were consumed, and nobody is told of their states
+  abbrev pub ConsumesLeft : ℕ → W → W → Type 0
+  ConsumesLeft zero old new = new ≡ old
+  ConsumesLeft (suc n) old new = (between : W) × ConsumesLeft n old between × (delivery : Taken) × (delivery.link ≡ link) × (state : DeliveryState) × consumes between delivery state new
+
+module _ {W : Type 0} (consumes : W → Taken → DeliveryState → W → Type 0) (link credit : ℕ) (renewal : Renewal) where
   -- One round: the pass says that a delivery was taken of the link and settled with a state, and this answer; the work has consumed just that delivery,
   -- and said that state.
   pub record Round (old : Goer W) (result : Result (Unit {0}) Refusal) (new : Goer W) : Type 0 where
@@ -77,7 +91,7 @@ module _ {W : Type 0} (consumes : W → Taken → DeliveryState → W → Type 0
     pub between : Tally
     pub takes : Takes link old.pass (Ok delivery) between
     pub consumed : consumes old.work delivery state new.work
-    pub settles : Settles Asks between delivery state credit result new.pass
+    pub settles : Settles Asks (λ _. ⊤) (λ _. MayRest renewal) between delivery state credit result new.pass
 
   -- so many rounds, none of them refused
   abbrev pub Rounds : ℕ → Goer W → Goer W → Type 0
@@ -102,3 +116,10 @@ module _ {W : Type 0} (consumes : W → Taken → DeliveryState → W → Type 0
   -- so many deliveries were consumed, until this stopped it
   abbrev pub Runs : Goer W → ℕ → Refusal → Goer W → Type 0
   Runs old count stopped new = EndsTaking old count stopped new ⊎ EndsSettling old count stopped new
+
+  -- so many were taken and consumed, until this stopped it, and then so many that the link had left; the pass has the first alone
+  pub record Finishes (old : Goer W) (count left : ℕ) (stopped : Refusal) (new : Goer W) : Type 0 where
+    pub between : Goer W
+    pub runs : Runs old count stopped between
+    pub pass : new.pass ≡ between.pass
+    pub leaves : ConsumesLeft consumes link left between.work new.work

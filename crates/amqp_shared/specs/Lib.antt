@@ -4,4 +4,5 @@ pub mod Session
 pub mod Passes
 pub mod Growing
 pub mod Waking
+pub mod Renewing
 pub mod Consuming

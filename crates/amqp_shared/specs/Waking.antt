@@ -33,10 +33,11 @@ pub record Held : Type 0 where
 
 -- # What a step may bring
 
--- Of our operations, a detach (part 2, 2.6.6) and an end (part 2, 2.5.2) end a link or all of them: what is awaited there does not come any more. No
+-- Of our operations, a detach, for good or not (part 2, 2.6.6 and 2.6.4), and an end (part 2, 2.5.2) end a link or all of them: what is awaited there does not come any more. No
 -- other one brings anything to who waits: credit, a window, a delivery and an outcome come from the peer.
 abbrev pub brought_by_op : Op → Change
 brought_by_op (op.Detach link error) = Ends
+brought_by_op (op.Suspend link) = Ends
 brought_by_op (op.End error) = Ends
 brought_by_op _ = Nothing
 

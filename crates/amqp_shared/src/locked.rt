@@ -3,6 +3,7 @@ ghost use Rattle.std.specs.Prelude.{◌≡◌, ◌≢◌, ◌<◌, ◌≤◌, �
 ghost use Rattle.amqp_journal.specs.Units.{units};
 ghost use Rattle.amqp_conn.specs.Connection.{connection, in_phase};
 ghost use Rattle.amqp_conn.specs.Feeding.{Feeds, MovesOn};
+ghost use Rattle.amqp_conn.specs.Leaving.{Gives, GivesOf, left_of, but_left};
 ghost use Rattle.amqp_conn.specs.Calling.{Closes, forgotten};
 ghost use Rattle.amqp_shared.specs.Passes.{raised, CountsStep};
 ghost use Rattle.amqp_shared.specs.Session.{Makes, IsReceipt, IsRefused, Fits};
@@ -10,13 +11,14 @@ ghost use Rattle.amqp_shared.specs.Units.{MovesUnits, unmoved};
 ghost use Rattle.amqp_shared.specs.Waking.{Held, told_of_units, units_came, with_want, with_units, waits_for, is_ended, is_full};
 
 use crate::growing::{
-    do_operation, feed_octets, feed_shared_octets, push_units, put_close, recall, steps_of,
+    count_left, do_operation, feed_octets, feed_shared_octets, give, give_of, push_units,
+    put_close, recall, steps_of,
 };
 use crate::name::{Name, Numbered};
 use crate::pass::Pass;
 use crate::waiting::{Waiters, Want, is_closed};
-use amqp_conn::{CloseRefusal, Conn, ConnFault, Fed, Phase};
-use amqp_frames::AmqpError;
+use amqp_conn::{CloseRefusal, Conn, ConnFault, Fed, Left, Phase};
+use amqp_frames::{AmqpError, Role};
 use amqp_journal::receipt::{Receipt, receipt_of};
 use amqp_journal::unit::Unit;
 use amqp_rules::op::Op;
@@ -25,7 +27,7 @@ use amqp_rules::reply::Given;
 use amqp_types::Boxed;
 use bytes::Bytes;
 use rtrb::Producer;
-use std::alloc::Global;
+use std::alloc::{AllocError, Global};
 use std::marker::Model;
 use std::sync::ledger::Book;
 
@@ -86,6 +88,37 @@ impl<N: Name> Locked<N> {
         ensures { self.new ≡ record self.old { conn = forgotten self.old.conn } }
     {
         self.conn.forget();
+    }
+
+    /// The first of what is left.
+    pub(crate) fn pop_left(&mut self) -> Result<Option<Left>, AllocError>
+        ensures gives { IfOk result (λ given. Gives self.old.conn.core given self.new.conn.core) }
+        ensures unread { self.new.conn.unread ≡ self.old.conn.unread }
+        ensures waiters { self.new.waiters ≡ self.old.waiters }
+        ensures err { OnErr result (self.new ≡ self.old) }
+    {
+        give(&mut self.conn)
+    }
+
+    /// The first that the link of this number left.
+    pub(crate) fn pop_left_by(&mut self, role: Role, link: u32) -> Result<Option<Left>, AllocError>
+        ensures gives { IfOk result (λ given. GivesOf role link self.old.conn.core given self.new.conn.core) }
+        ensures unread { self.new.conn.unread ≡ self.old.conn.unread }
+        ensures waiters { self.new.waiters ≡ self.old.waiters }
+        ensures err { OnErr result (self.new ≡ self.old) }
+    {
+        give_of(&mut self.conn, role, link)
+    }
+
+    /// How many things are left.
+    pub(crate) fn left_len(&mut self) -> Result<usize, AllocError>
+        ensures len { IfOk result (λ n. n ≡ length (left_of self.old.conn.core)) }
+        ensures still { OnOk result ((left_of self.new.conn.core ≡ left_of self.old.conn.core) × (but_left self.new.conn.core ≡ but_left self.old.conn.core)) }
+        ensures unread { self.new.conn.unread ≡ self.old.conn.unread }
+        ensures waiters { self.new.waiters ≡ self.old.waiters }
+        ensures err { OnErr result (self.new ≡ self.old) }
+    {
+        count_left(&mut self.conn)
     }
 
     /// An operation, counted in the pass.

@@ -3,6 +3,7 @@ ghost use Rattle.std.specs.Prelude.{◌≡◌, ◌≢◌, ◌<◌, ◌≤◌, []
 ghost use Rattle.std.specs.Sync.Mutex.{mutex_guard_value};
 ghost use Rattle.amqp_conn.specs.Connection.{Connection, connection, in_phase};
 ghost use Rattle.amqp_conn.specs.Feeding.{Feeds, MovesOn};
+ghost use Rattle.amqp_conn.specs.Leaving.{Gives, GivesOf, left_of, but_left};
 ghost use Rattle.amqp_conn.specs.Calling.{Closes, due_in, forgotten};
 ghost use Rattle.amqp_shared.specs.Passes.{IsNamed, raised, after, CountsStep};
 ghost use Rattle.amqp_shared.specs.Session.{Makes, IsDone, IsReceipt, IsRefused, Fits, EndsWait, IsDueAtOnce, Calls};
@@ -19,14 +20,15 @@ use crate::pass::{Answer, Pass};
 use crate::seed::Seed;
 use crate::waiting::{Change, Conditions, Waiters, Want, awaited_by, brought, brought_by};
 use crate::writer::WriterEnd;
-use amqp_conn::{CloseRefusal, ConnFault, Fed, Phase};
-use amqp_frames::AmqpError;
+use amqp_conn::{CloseRefusal, ConnFault, Fed, Left, Phase};
+use amqp_frames::{AmqpError, Role};
 use amqp_journal::receipt::Receipt;
 use amqp_rules::op::Op;
 use amqp_rules::refusal::Refusal;
 use amqp_rules::reply::Given;
 use amqp_types::Boxed;
 use bytes::Bytes;
+use std::alloc::AllocError;
 use std::marker::PhantomData;
 use std::sync::{Mutex, MutexGuard, Wait};
 
@@ -228,6 +230,58 @@ impl<N: Name> Shared<N> {
     {
         guard.lost();
         self.tell(guard, Change::Ends);
+    }
+
+    /// The first of what is left, as `Conn::pop_left`. It is no step, and wakes nobody.
+    ///
+    /// # Errors
+    ///
+    /// Those of `Conn::pop_left`; nothing has changed then.
+    pub fn pop_left(
+        &self,
+        guard: &mut MutexGuard<'_, Locked<N>>,
+    ) -> Result<Option<Left>, AllocError>
+        ensures gives { IfOk result (λ given. Gives (mutex_guard_value guard.old).conn.core given (mutex_guard_value guard.new).conn.core) }
+        ensures unread { (mutex_guard_value guard.new).conn.unread ≡ (mutex_guard_value guard.old).conn.unread }
+        ensures waiters { (mutex_guard_value guard.new).waiters ≡ (mutex_guard_value guard.old).waiters }
+        ensures err { OnErr result (mutex_guard_value guard.new ≡ mutex_guard_value guard.old) }
+    {
+        guard.pop_left()
+    }
+
+    /// The first that the link of this number left, a delivery of a receiver or an outcome of a sender, as `Conn::pop_left_by`: for who has waited for a delivery or an outcome of that link, and was told
+    /// that the link, the session or the connection has ended. It is no step, and wakes nobody.
+    ///
+    /// # Errors
+    ///
+    /// Those of `Conn::pop_left`; nothing has changed then.
+    pub fn pop_left_by(
+        &self,
+        guard: &mut MutexGuard<'_, Locked<N>>,
+        role: Role,
+        link: u32,
+    ) -> Result<Option<Left>, AllocError>
+        ensures gives { IfOk result (λ given. GivesOf role link (mutex_guard_value guard.old).conn.core given (mutex_guard_value guard.new).conn.core) }
+        ensures unread { (mutex_guard_value guard.new).conn.unread ≡ (mutex_guard_value guard.old).conn.unread }
+        ensures waiters { (mutex_guard_value guard.new).waiters ≡ (mutex_guard_value guard.old).waiters }
+        ensures err { OnErr result (mutex_guard_value guard.new ≡ mutex_guard_value guard.old) }
+    {
+        guard.pop_left_by(role, link)
+    }
+
+    /// How many things are left, as `Conn::left_len`.
+    ///
+    /// # Errors
+    ///
+    /// Those of `Conn::pop_left`; nothing has changed then.
+    pub fn left_len(&self, guard: &mut MutexGuard<'_, Locked<N>>) -> Result<usize, AllocError>
+        ensures len { IfOk result (λ n. n ≡ length (left_of (mutex_guard_value guard.old).conn.core)) }
+        ensures still { OnOk result ((left_of (mutex_guard_value guard.new).conn.core ≡ left_of (mutex_guard_value guard.old).conn.core) × (but_left (mutex_guard_value guard.new).conn.core ≡ but_left (mutex_guard_value guard.old).conn.core)) }
+        ensures unread { (mutex_guard_value guard.new).conn.unread ≡ (mutex_guard_value guard.old).conn.unread }
+        ensures waiters { (mutex_guard_value guard.new).waiters ≡ (mutex_guard_value guard.old).waiters }
+        ensures err { OnErr result (mutex_guard_value guard.new ≡ mutex_guard_value guard.old) }
+    {
+        guard.left_len()
     }
 
     /// Forgets the lent session's entries so far, as `Conn::forget`. The passes' steps are those of the whole

@@ -142,7 +142,7 @@ pub(crate) fn brought_by(op: &Op) -> Change
     ensures { result ≡ brought_by_op op.now }
 {
     match op {
-        Op::Detach { .. } | Op::End { .. } => Change::Ends,
+        Op::Detach { .. } | Op::Suspend { .. } | Op::End { .. } => Change::Ends,
         Op::Begin
         | Op::Attach { .. }
         | Op::Start { .. }
@@ -217,6 +217,8 @@ fn by_step(step: &Step, given: &Given) -> Change
         | Given::Delivery(_)
         | Given::Taken(_)
         | Given::Learned(_)
+        | Given::Suspended(_)
+        | Given::Parted(_, _)
         | Given::Nothing => in_step(step),
     }
 }

@@ -9,8 +9,7 @@
 //! | null | 40 | none |
 //! | boolean | 56; 41 true, 42 false | 56: 00 or 01 |
 //! | ubyte, ushort | 50, 60 | unsigned, big endian as all numbers |
-//! | uint | 70; 52 one octet; 43 zero | unsigned |
-//! | ulong | 80; 53 one octet; 44 zero | unsigned |
+//! | uint, ulong | 70, 80; 52, 53 one octet; 43, 44 zero | unsigned |
 //! | byte, short | 51, 61 | two's complement |
 //! | int, long | 71, 81; 54, 55 one octet | two's complement |
 //! | float, double, decimal32, decimal64, decimal128 | 72, 82, 74, 84, 94 | kept as bits |
@@ -18,8 +17,7 @@
 //! | timestamp | 83 | milliseconds, two's complement |
 //! | uuid | 98 | sixteen octets |
 //! | binary, string, symbol | a0 b0, a1 b1, a3 b3 | octets; UTF-8; octets below 128 |
-//! | list | c0, d0; 45 empty | items |
-//! | map | c1, d1 | keys and values in turn |
+//! | list, map | c0 d0, c1 d1; 45 an empty list | items; keys and values in turn |
 //! | array | e0, f0 | one code of the table but 00, and bodies |
 //!
 //! Values are nested at most 32 deep ([`MAX_DEPTH`]). What is written is canonical: each part under its shortest code.
@@ -34,10 +32,8 @@
 //! | `equality`, `fault` | what `==` is to contracts; why a value is not read or written |
 //!
 //! - [`Value`], [`Text`], [`Items`], [`Boxed`], [`Tag`]: values, which contracts see as plain data
-//! - [`read_value`], [`read_within`], [`skip_value`], [`skip_within`]: whole values in front of octets
-//! - [`read_uint`] and its like, [`read_list_head`], [`read_descriptor`]: fields of one type, read in place
-//! - [`write_value`], [`value_size`]: whole values, written behind octets
-//! - [`write_uint`] and its like, [`uint_size`], [`ulong_size`]: fields of one type, written
+//! - [`read_value`], [`read_within`], [`skip_value`], [`skip_within`]; [`write_value`], [`value_size`]: whole values, in front of octets and behind them
+//! - [`read_uint`], [`write_uint`] and their like, [`read_list_head`], [`read_descriptor`], [`uint_size`], [`ulong_size`]: fields of one type
 //! - [`one_spelling`], [`canon_spells`], [`read_back`], [`canon_is_shortest`]: the laws of spellings
 //! - [`size_within`], [`map_size_within`], [`append_value`], [`append_map`], [`is_symbol`], [`class_of`]: what writers and readers of larger things stand on
 //! - [`equal_is_same`]: `==` of values, texts and tags is `≡` in contracts

@@ -23,7 +23,7 @@ use amqp_frames::{DeliveryState, Role, TransferBody};
 use amqp_links::arrival::Piece;
 use amqp_links::link::Link;
 use amqp_links::marks::Marks;
-use amqp_rules::copying::copy_state;
+use amqp_performatives::copying::copy_state;
 use amqp_types::{Items, Tag};
 use bytes::Bytes;
 use std::alloc::{AllocError, Global};

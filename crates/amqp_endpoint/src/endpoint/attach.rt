@@ -21,7 +21,7 @@ use amqp_links::credit::Credit;
 use amqp_links::end::End;
 use amqp_links::fate::Fate;
 use amqp_links::marks::Marks;
-use amqp_rules::copying::copy_value;
+use amqp_performatives::copying::copy_value;
 use amqp_types::{Boxed, Text, Value};
 use bytes::Bytes;
 use std::alloc::{AllocError, Global};

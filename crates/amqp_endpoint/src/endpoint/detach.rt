@@ -13,7 +13,7 @@ use crate::sending::{measured_refusal, write};
 use amqp_deliveries::Change;
 use amqp_frames::{AmqpError, DetachBody, Performative, measure_detach};
 use amqp_links::fate::Fate;
-use amqp_rules::copying::copy_error;
+use amqp_performatives::copying::copy_error;
 use amqp_types::Boxed;
 use bytes::Bytes;
 

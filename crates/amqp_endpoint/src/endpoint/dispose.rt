@@ -23,7 +23,7 @@ use amqp_deliveries::{Change, Disposition, Held, Span};
 use amqp_flow::serial::Serial;
 use amqp_frames::{DeliveryState, DispositionBody, Performative, Role, measure_disposition};
 use amqp_links::fate::Fate;
-use amqp_rules::copying::copy_state;
+use amqp_performatives::copying::copy_state;
 use bytes::Bytes;
 use std::alloc::AllocError;
 

@@ -12,7 +12,7 @@ use crate::sending::measured_refusal;
 use amqp_deliveries::Change;
 use amqp_frames::{AmqpError, EndBody, Performative, measure_end};
 use amqp_links::fate::Fate;
-use amqp_rules::copying::copy_error;
+use amqp_performatives::copying::copy_error;
 use amqp_types::Boxed;
 
 impl Endpoint {

@@ -11,7 +11,7 @@ use crate::reply::{Given, Learned, Reply};
 use amqp_deliveries::Telling;
 use amqp_frames::Role;
 use amqp_links::credit::same_role;
-use amqp_rules::copying::copy_state;
+use amqp_performatives::copying::copy_state;
 use amqp_types::Boxed;
 use bytes::Bytes;
 use std::alloc::AllocError;

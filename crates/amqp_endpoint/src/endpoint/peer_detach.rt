@@ -1,6 +1,6 @@
-//! A detach that is heard (part 2, 2.6.6 and 2.7.7): the link is gone.
-ghost use Rattle.std.specs.Prelude.{◌≡◌, Err, MatchResult};
-ghost use Rattle.amqp_rules.specs.PeerDetach.{detach_heard_answer, next_detach_heard};
+//! A detach that is heard (part 2, 2.6.4, 2.6.6 and 2.7.7): the link is gone, for good or put aside.
+ghost use Rattle.std.specs.Prelude.{◌≡◌, Err, IfOk, MatchResult};
+ghost use Rattle.amqp_rules.specs.PeerDetach.{detach_heard_answer, next_detach_heard, parting};
 ghost use Rattle.amqp_rules.specs.Refusing.{no_memory};
 ghost use Rattle.amqp_endpoint.specs.Answered.{IsParting};
 ghost use Rattle.amqp_endpoint.specs.Plan.{Plans};
@@ -12,10 +12,13 @@ use crate::violation::{Violation, ViolationKind};
 use amqp_deliveries::Change;
 use amqp_frames::{DetachBody, Performative};
 use amqp_links::fate::Fate;
+use amqp_links::link::Link;
+use std::alloc::AllocError;
 
-/// A link that the peer leaves: where it is, its number, our handle of it, and whether it is attached.
+/// A link that the peer leaves: it, where it is, its number, our handle of it, and whether it is attached.
 #[derive(Clone, Copy)]
-pub(crate) struct Parting {
+pub(crate) struct Parting<'a> {
+    pub(crate) link: &'a Link,
     pub(crate) key: usize,
     pub(crate) number: u32,
     pub(crate) handle: u32,
@@ -24,7 +27,7 @@ pub(crate) struct Parting {
 
 impl Endpoint {
     /// What the frame violates, or the link that is left.
-    pub(crate) fn check_peer_detach(&self, body: &DetachBody) -> Result<Parting, Violation>
+    pub(crate) fn check_peer_detach(&self, body: &DetachBody) -> Result<Parting<'_>, Violation>
         ensures { MatchResult result (IsParting self.now body.now) (λ e. detach_heard_answer self.now body.now ≡ Err e) }
     {
         if !self.session.takes_frames() {
@@ -35,11 +38,24 @@ impl Endpoint {
         };
         let l = found.link;
         Ok(Parting {
+            link: l,
             key: found.key,
             number: l.number(),
             handle: l.our_handle(),
             attached: l.is_attached(),
         })
+    }
+
+    /// What is told of an attached link that the peer leaves: that it is gone, or what goes with it where the peer does not close it.
+    fn tell_parting(&self, body: &DetachBody, link: &Link) -> Result<Given, AllocError>
+        ensures { IfOk result (λ g. g ≡ parting self.now body.now link.now) }
+    {
+        let number = link.number();
+        if body.closed.unwrap_or(false) {
+            return Ok(Given::Gone(number));
+        }
+        let aside = self.put_aside(link)?;
+        Ok(Given::Parted(number, aside))
     }
 
     /// The peer leaves a link; where it is attached it is answered by a detach that is closed as the peer's is. O(log n) for n
@@ -61,6 +77,9 @@ impl Endpoint {
                 Given::Gone(number),
             ));
         }
+        let Ok(given) = self.tell_parting(body, parting.link) else {
+            return Err(Violation::unlinked(ViolationKind::NoMemory));
+        };
         let answer = DetachBody {
             handle: parting.handle,
             closed: body.closed,
@@ -72,7 +91,7 @@ impl Endpoint {
             fate,
             Change::Leaves(number),
             Some(Performative::Detach(answer)),
-            Given::Gone(number),
+            given,
         )
     }
 }

@@ -16,7 +16,7 @@ use amqp_deliveries::{Change, Disposition};
 use amqp_frames::DispositionBody;
 use amqp_links::credit::opposite;
 use amqp_links::fate::Fate;
-use amqp_rules::copying::copy_state;
+use amqp_performatives::copying::copy_state;
 use std::alloc::AllocError;
 
 /// What it says. An absent last is the first, an absent settled is false.

@@ -96,6 +96,7 @@ impl Endpoint {
             Op::Refresh { echo } => self.refuse_draft(self.draft_refresh(*echo), &[]),
             Op::Take { link } => self.check_take(*link).err(),
             Op::Detach { link, error } => self.check_detach(*link, error).err(),
+            Op::Suspend { link } => self.check_suspend(*link).err(),
             Op::End { error } => self.refuse_end(error),
             Op::Beat => self.refuse_draft(self.draft_beat(), &[]),
         }
@@ -192,6 +193,7 @@ impl Endpoint {
             Op::Drained { link } => self.plan_draft(self.draft_drained(*link), &Bytes::new()),
             Op::Refresh { echo } => self.plan_draft(self.draft_refresh(*echo), &Bytes::new()),
             Op::Detach { link, error } => self.plan_detach(*link, error),
+            Op::Suspend { link } => self.plan_suspend(*link),
             Op::End { error } => self.plan_end(error),
             Op::Beat => self.plan_draft(self.draft_beat(), &Bytes::new()),
             Op::Start { .. } | Op::Learn { .. } | Op::Take { .. } => unreachable!(),

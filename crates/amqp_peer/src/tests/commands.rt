@@ -2,14 +2,19 @@
 
 use crate::command_line::{Request, read_request};
 use amqp_endpoint::config::Config;
+use amqp_frames::FrameFault;
 use amqp_pair::Options;
+use amqp_rules::refusal::Refusal;
+use amqp_rules::violation::ViolationKind;
+use amqp_script::explain::Explained;
 use amqp_script::options::USUAL;
+use amqp_trace::Direction;
 use std::test::Fail;
 
 #[test]
 fn command_lines(rt: HostRuntime) -> Result<(), Fail> {
     let alloc = rt.alloc();
-    let faults: [&[&str]; 9] = [
+    let faults: [&[&str]; 14] = [
         &["amqp_peer"],
         &["amqp_peer", "listen"],
         &["amqp_peer", "script", "--limit", "0"],
@@ -19,6 +24,11 @@ fn command_lines(rt: HostRuntime) -> Result<(), Fail> {
         &["amqp_peer", "script", "--window", "0"],
         &["amqp_peer", "conn", "--window", "0"],
         &["amqp_peer", "script", "first-path.script"],
+        &["amqp_peer", "explain"],
+        &["amqp_peer", "explain", "29"],
+        &["amqp_peer", "explain", "--violation", "16"],
+        &["amqp_peer", "explain", "--fault", "0"],
+        &["amqp_peer", "explain", "--fault", "--violation", "1"],
     ];
     for words in faults {
         let Err(error) = read_request(alloc, words) else {
@@ -94,6 +104,41 @@ fn kept_entries(rt: HostRuntime) -> Result<(), Fail> {
 }
 
 #[test]
+fn traces_and_explanations(rt: HostRuntime) -> Result<(), Fail> {
+    let alloc = rt.alloc();
+    let goods: [(&[&str], Request); 6] = [
+        (
+            &["amqp_peer", "trace"],
+            Request::Trace(Direction::Sent, false),
+        ),
+        (
+            &["amqp_peer", "trace", "--heard"],
+            Request::Trace(Direction::Heard, false),
+        ),
+        (
+            &["amqp_peer", "trace", "--raw"],
+            Request::Trace(Direction::Sent, true),
+        ),
+        (
+            &["amqp_peer", "explain", "14"],
+            Request::Explain(Explained::Refusal(Refusal::NoCredit)),
+        ),
+        (
+            &["amqp_peer", "explain", "--violation", "12"],
+            Request::Explain(Explained::Violation(ViolationKind::Credit)),
+        ),
+        (
+            &["amqp_peer", "explain", "--fault", "3"],
+            Request::Explain(Explained::Fault(FrameFault::TooBig)),
+        ),
+    ];
+    for (words, wanted) in goods {
+        assert_eq!(rt; read_request(alloc, words)?, wanted);
+    }
+    Ok(())
+}
+
+#[test]
 fn conn_settings(rt: HostRuntime) -> Result<(), Fail> {
     let words: &[&str] = &[
         "amqp_peer",
@@ -145,6 +190,7 @@ fn pair_settings(rt: HostRuntime) -> Result<(), Fail> {
         credit: 1000,
         size: 0,
         first_id: 4294967295,
+        keep: None,
     };
     assert_eq!(rt; request, Request::Pair(options));
     Ok(())

@@ -12,6 +12,17 @@ const WRAPPING: Options = Options {
     credit: 16,
     size: 70000,
     first_id: 4294967290,
+    keep: None,
+};
+
+/// Few entries are kept of many.
+const FORGETTING: Options = Options {
+    count: 99,
+    consumers: 2,
+    credit: 10,
+    size: 300,
+    first_id: 0,
+    keep: Some(8),
 };
 
 fn options(count: u32, consumers: u32, credit: u32, size: u32) -> Options {
@@ -21,13 +32,15 @@ fn options(count: u32, consumers: u32, credit: u32, size: u32) -> Options {
         credit,
         size,
         first_id: 0,
+        keep: None,
     }
 }
 
 #[test]
 fn runs(rt: HostRuntime) -> Result<(), Fail> {
     let alloc = rt.alloc();
-    let rows: [(Options, &[u8]); 4] = [
+    let rows: [(Options, &[u8]); 5] = [
+        (FORGETTING, b"queued 99\nconsumed 99\naccepted 99\nleft 0\n"),
         (
             WRAPPING,
             b"queued 200\nconsumed 200\naccepted 200\nleft 0\n",

@@ -2,7 +2,7 @@
 ghost use Rattle.std.specs.Prelude.{◌≡◌, vec_len};
 ghost use Rattle.amqp_shared.specs.Passes.{IsNamed};
 
-use super::{GREETING, comes_to, does, hear, left_and_taken, seed};
+use super::{CLOSE, GREETING, comes_to, does, hear, left_and_taken, seed};
 use amqp_conn::Conn;
 use amqp_frames::{DeliveryState, Role};
 use amqp_journal::receipt::Receipt;
@@ -404,4 +404,36 @@ fn accepted_on<N: Name + Send + Sync, R: Threads + Wait + Sync>(
     let mut done = run_consumers(rt, shared, passes, works, link, 2)?;
     let consumed = done.pop().ok_or("nothing consumed")?;
     Ok((consumed.pass, (consumed.count, consumed.stopped)))
+}
+
+#[test]
+fn deliveries_come_with_a_close(rt: HostRuntime) -> Result<(), Fail> {
+    left_to_two::<Brand, HostRuntime>(&rt, rt.alloc(), seed(rt.alloc(), 4)?)
+}
+
+/// Two consumers begin when the peer has closed: together they have both deliveries, as what the link left.
+fn left_to_two<N: Name + Send + Sync, R: Threads + Wait + Abort + Sync>(
+    rt: &R,
+    alloc: Global,
+    seed: Seed,
+) -> Result<(), Fail>
+    requires { IsNamed seed N.name N.parts N.ring }
+{
+    let (shared, mut pass, _) = open_shared::<N>(seed);
+    with_deliveries(rt, alloc, &shared, &mut pass)?;
+    hear(rt, &shared, &mut pass, &CLOSE);
+    let mut passes = Vec::new(alloc);
+    let mut works = Vec::new(alloc);
+    for _ in 0..2u8 {
+        passes.push(pass.split().ok_or("no part")?)?;
+        works.push(Accepting)?;
+    }
+    let mut left = 0u64;
+    for consumed in run_consumers(rt, &shared, passes, works, 1, 2)? {
+        assert_eq!(rt; (consumed.count, consumed.pass.made()), (0, 0));
+        assert_eq!(rt; consumed.stopped, Refusal::NotRunning);
+        left = left.saturating_add(consumed.left);
+    }
+    assert_eq!(rt; left, 2);
+    Ok(())
 }

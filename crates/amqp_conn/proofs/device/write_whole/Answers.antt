@@ -1,4 +1,4 @@
-use Rattle.std.proofs.Common.{◌≤◌, ◌+◌, ℕ, length, take, drop, arith, subst, sym, length-drop}
+use Rattle.std.proofs.Common.{◌+◌, ℕ, take, arith, subst, sym, length-drop}
 use Rattle.std.specs.Io.KnownBytes.{Appends}
 use Rattle.amqp_conn.proofs.Fronts.{front_at, appends_kept, appends_more}
 use Rattle.amqp_conn.proofs.device.write_whole.Goals.{in-Ok, in-Err+else-ne}

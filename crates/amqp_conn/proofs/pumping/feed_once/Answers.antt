@@ -1,4 +1,4 @@
-use Rattle.std.proofs.Common.{◌≡◌, ℕ, drop, subst, sym}
+use Rattle.std.proofs.Common.{ℕ, drop, subst, sym}
 use Rattle.amqp_conn.specs.Turning.{GoesOn, Took}
 use Rattle.amqp_conn.proofs.Loops.{goes-on, took-fed, took-fault}
 use Rattle.amqp_conn.proofs.Telling.{tells-fed, tells-none, fault-adds-none}

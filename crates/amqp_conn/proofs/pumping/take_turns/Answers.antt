@@ -1,8 +1,8 @@
-use Rattle.std.proofs.Common.{◌<◌, ◌≤◌, ◌-◌, ◌^◌, ℕ, Option, refl, sym, ◌∙◌, subst, arith}
+use Rattle.std.proofs.Common.{◌<◌, ◌-◌, ◌^◌, ℕ, Option, refl, sym, ◌∙◌, subst, arith}
 use Rattle.amqp_conn.specs.declared.pumping.PumpEnd.{PumpEnd}
 use Rattle.amqp_conn.specs.Pumping.{line}
 use Rattle.amqp_conn.specs.Turning.{Turned}
-use Rattle.amqp_conn.proofs.Pumps.{turning-none, turning-on, turning-over, turning-ends, turning-fails, first-fails}
+use Rattle.amqp_conn.proofs.Pumps.{turning-none, turning-on, turning-ends, turning-fails}
 use Rattle.amqp_conn.proofs.Telling.{tells-then}
 use Rattle.amqp_conn.proofs.pumping.take_turns.Goals as goal
 

@@ -1,4 +1,4 @@
-use Rattle.std.proofs.Common.{ℕ, List, refl, subst}
+use Rattle.std.proofs.Common.{ℕ, List, subst}
 use Rattle.std.specs.Io.KnownBytes.{Appends}
 use Rattle.amqp_conn.specs.Pumping.{AppendsFront}
 use Rattle.amqp_conn.proofs.Pumps.{carries-unit, breaks-unit, pops-less}

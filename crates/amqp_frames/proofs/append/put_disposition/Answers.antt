@@ -2,14 +2,14 @@ use Rattle.std.proofs.Common.{arith, refl, take, [], ◌∷◌, Bool, Option, So
 use Rattle.std.specs.Prelude.{option_map}
 use Rattle.amqp_performatives.specs.declared.bodies.DispositionBody.{DispositionBody}
 use Rattle.amqp_performatives.specs.Bodies.{disposition_fields, state, optional}
-use Rattle.amqp_frames.specs.declared.append.BareState.{BareState}
+use Rattle.amqp_frames.specs.declared.append.PlainState.{PlainState}
 use Rattle.amqp_frames.specs.Plain.{Holds, IsShown, AreShown, uint_octets, boolean_octets, bare_octets}
 use Rattle.amqp_frames.proofs.Steps.{at_start}
 use Rattle.amqp_frames.proofs.Plain.{fewer, state_shown, role_shown}
 use Rattle.amqp_frames.proofs.append.put_disposition.Goals as goal
 use Rattle.amqp_frames.proofs.append.put_disposition.Goals.{After-boolean-end}
 
-abbrev octets_of : DispositionBody → Bool → BareState → List (Option (List ℕ))
+abbrev octets_of : DispositionBody → Bool → PlainState → List (Option (List ℕ))
 octets_of b v r =
     Some (boolean_octets (v)) ∷ Some (uint_octets b.first) ∷ option_map uint_octets b.last ∷ option_map boolean_octets b.settled ∷ bare_octets r ∷ option_map boolean_octets b.batchable ∷ []
 

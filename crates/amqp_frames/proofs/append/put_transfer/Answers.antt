@@ -2,14 +2,14 @@ use Rattle.std.proofs.Common.{arith, refl, take, [], ◌∷◌, Option, Some, Li
 use Rattle.std.specs.Prelude.{option_map}
 use Rattle.amqp_performatives.specs.declared.bodies.TransferBody.{TransferBody}
 use Rattle.amqp_performatives.specs.Bodies.{transfer_fields, state, optional}
-use Rattle.amqp_frames.specs.declared.append.BareState.{BareState}
+use Rattle.amqp_frames.specs.declared.append.PlainState.{PlainState}
 use Rattle.amqp_frames.specs.Plain.{Holds, IsShown, AreShown, uint_octets, boolean_octets, ubyte_octets, binary_octets, bare_octets}
 use Rattle.amqp_frames.proofs.Steps.{at_start}
 use Rattle.amqp_frames.proofs.Plain.{fewer, state_shown}
 use Rattle.amqp_frames.proofs.append.put_transfer.Goals as goal
 use Rattle.amqp_frames.proofs.append.put_transfer.Goals.{After-boolean-last}
 
-abbrev octets_of : TransferBody → BareState → List (Option (List ℕ))
+abbrev octets_of : TransferBody → PlainState → List (Option (List ℕ))
 octets_of b r =
     Some (uint_octets b.handle) ∷ option_map uint_octets b.delivery_id ∷ option_map binary_octets b.delivery_tag ∷ option_map uint_octets b.message_format ∷ option_map boolean_octets b.settled ∷ option_map boolean_octets b.more ∷ option_map ubyte_octets b.rcv_settle_mode ∷ bare_octets r ∷ option_map boolean_octets b.resume ∷ option_map boolean_octets b.aborted ∷ option_map boolean_octets b.batchable ∷ []
 

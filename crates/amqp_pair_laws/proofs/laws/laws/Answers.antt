@@ -1,5 +1,7 @@
 use Rattle.amqp_pair_laws.proofs.SaidKnown.{hears-said}
-use Rattle.amqp_pair_laws.proofs.TakenFront.{takes-all, takes-sent}
+use Rattle.amqp_pair_laws.proofs.OwnStates.{has-what-it-said}
+use Rattle.amqp_pair_laws.proofs.LearntSaid.{learns-said}
+use Rattle.amqp_pair_laws.proofs.TakenFront.{takes-all, takes-ever, takes-on-attached, takes-sent}
 use Rattle.amqp_pair_laws.proofs.AllTaken.{next-taken}
 use Rattle.amqp_pair_laws.proofs.Opens.{window-is-open}
 use Rattle.amqp_pair_laws.proofs.Phases.{phases-known}
@@ -15,11 +17,23 @@ returns-clause-taken t = λ ca cb n a b f w waits. next-taken ca cb n a b f w wa
 pub returns-clause-sent : goal.returns-clause-sent
 returns-clause-sent t = λ ca cb n a b name y w found attached. takes-sent ca cb n a b name y w found attached
 
+pub returns-clause-ever : goal.returns-clause-ever
+returns-clause-ever t = λ ca cb n a b early name y w tail found attached. takes-ever ca cb n a b early name y w tail found attached
+
+pub returns-clause-only : goal.returns-clause-only
+returns-clause-only t = λ ca cb n a b k w. takes-on-attached ca cb n a b k w
+
 pub returns-clause-all : goal.returns-clause-all
 returns-clause-all t = λ ca cb n a b name x y w lives fx ours unleft fy unleft'. takes-all ca cb n a b name x y w lives fx ours unleft fy unleft'
 
 pub returns-clause-states : goal.returns-clause-states
 returns-clause-states t = λ ca cb n a b w lives. hears-said ca cb n a b w lives
+
+pub returns-clause-own : goal.returns-clause-own
+returns-clause-own t = λ ca cb n a b w lives. has-what-it-said ca cb n a b w lives
+
+pub returns-clause-learnt : goal.returns-clause-learnt
+returns-clause-learnt t = λ ca cb n a b w. learns-said ca cb n a b w
 
 pub returns-clause-window : goal.returns-clause-window
 returns-clause-window t = λ ca cb n a b f b' w waits is lives. window-is-open ca cb n a b f b' w waits is lives

@@ -22,7 +22,7 @@ overflow_add-count g c =
     let job = c.args.job in
     let first : Goer _ = record { pass = job.pass; work = job.work } in
     let now : Goer _ = record { pass = c.loop.pass; work = c.loop.work } in
-    let more = rounds-more g.W.Work.consumes job.link job.credit c.loop.count first now c.loop.invariant in
+    let more = rounds-more g.W.Work.consumes job.link job.credit job.renewal c.loop.count first now c.loop.invariant in
     let taken = ap (λ (t : Tally). t.made) c.in-Ok.ensures.takes.1 in
     let range = c.in-Ok.ensures.range in
     omega (arith, more, taken, range)
@@ -50,7 +50,7 @@ loop-preserved g c =
     let first : Goer _ = record { pass = job.pass; work = job.work } in
     let before : Goer _ = record { pass = c.loop.pass; work = c.loop.work } in
     let after : Goer _ = record { pass = c.settle-done.new.pass; work = c.consume-state.new.self } in
-    let last : Round g.W.Work.consumes job.link job.credit before _ after =
+    let last : Round g.W.Work.consumes job.link job.credit job.renewal before _ after =
     record {
       delivery = c.in-Ok.item;
       state = c.consume-state.result;
@@ -60,4 +60,4 @@ loop-preserved g c =
       settles = c.in_default.ensures;
     }
     in
-    subst (λ n. Rounds g.W.Work.consumes job.link job.credit n first after) (sym (add-one c.loop.count)) (before, c.loop.invariant, last)
+    subst (λ n. Rounds g.W.Work.consumes job.link job.credit job.renewal n first after) (sym (add-one c.loop.count)) (before, c.loop.invariant, last)

@@ -17,4 +17,5 @@ returns g c =
       works = sym (append-nil (map (λ j. j.work) jobs)) ∙ ap (λ r. map (λ j. j.work) jobs ++ r) (sym (nil_from_length works no_work)) ∙ was.1;
       links = sym (append-nil (map (λ j. j.link) jobs)) ∙ ap (λ r. map (λ j. j.link) jobs ++ map (λ (p : Tally). c.args.link) r) (sym past) ∙ was.2;
       credits = sym (append-nil (map (λ j. j.credit) jobs)) ∙ ap (λ r. map (λ j. j.credit) jobs ++ map (λ (p : Tally). c.args.credit) r) (sym past) ∙ was.3;
+      renewals = sym (append-nil (map (λ j. j.renewal) jobs)) ∙ ap (λ r. map (λ j. j.renewal) jobs ++ map (λ (p : Tally). c.args.renewal) r) (sym past) ∙ was.4;
     }

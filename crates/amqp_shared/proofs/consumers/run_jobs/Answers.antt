@@ -1,5 +1,5 @@
 use Rattle.std.proofs.Common.{◌≡◌, length, vec_len, slice_index_or, sym, subst, arith, rules}
-use Rattle.amqp_shared.specs.Consuming.{Runs}
+use Rattle.amqp_shared.specs.Consuming.{Finishes}
 use denote.Param.{param}
 use Rattle.amqp_shared.proofs.Crossing.{shared_sync}
 use Rattle.amqp_shared.proofs.Found.{if_ok-map}
@@ -11,7 +11,7 @@ returns-clause-each g c =
     if_ok-map _ _ c.map_vec.result (λ v h i j d low.
     let x = (h i d (omega (arith, size, low))).1 in
     let done = slice_index_or v.items i d in
-    subst (λ job. Runs g.W.Work.consumes job.link job.credit (record { pass = job.pass; work = job.work }) done.count done.stopped (record { pass = done.pass; work = done.work })) (sym (x.job_is j)) x.call.met) c.map_vec.ensures.each
+    subst (λ job. Finishes g.W.Work.consumes job.link job.credit job.renewal (record { pass = job.pass; work = job.work }) done.count done.left done.stopped (record { pass = done.pass; work = done.work })) (sym (x.job_is j)) x.call.met) c.map_vec.ensures.each
 
 -- a `&` to the runtime, which is `Sync` by its bound, and one to what threads share
 pub map_vec-requires-sync-F : goal.map_vec-requires-sync-F

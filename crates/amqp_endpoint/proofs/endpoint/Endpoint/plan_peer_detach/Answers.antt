@@ -12,4 +12,4 @@ pub returns : goal.returns
 returns c =
     let t = rw (← c.self.view_is) at c.in_ok-parting.ensures in
     rw (← c.self.view_is)
-    (plan-gone-told c.self.inside.steps c.self.inside.session c.self.inside.stores c.args.body.now c.in_ok-parting.parting c.plan_answering.result c.self.invariant t (search rules) c.plan_answering.ensures)
+    (plan-gone-told c.self.inside.steps c.self.inside.session c.self.inside.stores c.args.body.now c.in_ok-parting.parting c.in-Ok.given c.plan_answering.result c.self.invariant t (search rules) (rw (← c.self.view_is) at c.in-Ok.ensures) c.plan_answering.ensures)

@@ -1,10 +1,10 @@
-use Rattle.std.proofs.Common.{◌++◌, rules, subst, sym, inl, ◌<◌, ◌≤◌, length}
+use Rattle.std.proofs.Common.{◌++◌, rules, subst, inl, ◌<◌, ◌≤◌, length}
 use Rattle.amqp_journal.specs.Log.{Log}
 use Rattle.amqp_journal.specs.Kept.{IsKept}
 use Rattle.amqp_laws.specs.Past.{past}
 use Rattle.amqp_laws.specs.At.{at}
 use Rattle.amqp_journal.proofs.Due.{own-answers, own-next, own-appends, own-refused, own-full}
-use Rattle.amqp_journal.proofs.Keeping.{kept-step, steps-are, logged-parts}
+use Rattle.amqp_journal.proofs.Keeping.{kept-step, steps-are, logged-parts, own-leaves}
 use Rattle.amqp_journal.proofs.logged.Logged.apply.Goals as goal
 
 pub returns-then-steps-self-clause-refusal : goal.returns-then-steps-self-clause-refusal
@@ -22,6 +22,8 @@ invariant_of-self-in-Ok-own c =
     c.push_reserved.new.self.items
     c.self.inside.put.items
     c.self.inside.popped
+    c.self.inside.left.items
+    c.room_for_own.new.left.items
     c.self.inside.endpoint
     c.own.new.self
     c.self.inside.waiting.items
@@ -42,7 +44,7 @@ pub returns-in-Ok-own-clause-step : goal.returns-in-Ok-own-clause-step
 returns-in-Ok-own-clause-step c =
     let s = steps-are _ c.self.inside.endpoint c.self.inside.waiting.items c.self.invariant in
     let k = subst (λ (l : Log). IsKept l c.self.inside.endpoint c.self.inside.waiting.items) c.self.view_is c.self.invariant in
-    own-appends c.args.self.now _ c.self.inside.endpoint c.own.new.self c.self.inside.waiting.items c.args.op.now c.in-Ok.own c.in-Ok-own.done k (subst (λ (l : Log). length l.journal < l.config.journal_limit) c.self.view_is (search (rules, s))) c.in-Ok-own.ensures.done c.in-Ok.ensures.step (logged-parts c.args.self.now c.self.inside.config c.self.inside.gone.items c.self.inside.journal.items c.push_reserved.new.self.items c.self.inside.put.items c.self.inside.popped c.in-Ok.own c.in-Ok-own.done.reply c.self.view_is (search rules))
+    own-appends c.args.self.now _ c.self.inside.endpoint c.own.new.self c.self.inside.waiting.items c.args.op.now c.in-Ok.own c.in-Ok-own.done k (subst (λ (l : Log). length l.journal < l.config.journal_limit) c.self.view_is (search (rules, s))) c.in-Ok-own.ensures.done c.in-Ok.ensures.step (logged-parts c.args.self.now c.self.inside.config c.self.inside.gone.items c.self.inside.journal.items c.push_reserved.new.self.items c.self.inside.put.items c.self.inside.popped c.self.inside.left.items c.room_for_own.new.left.items c.in-Ok.own c.in-Ok-own.done.reply c.self.view_is (search rules) (own-leaves c.self.inside.config (c.self.inside.gone.items ++ c.self.inside.journal.items) c.self.inside.endpoint c.args.op.now c.in-Ok.own c.self.inside.left.items c.room_for_own.new.left.items c.self.invariant.is_at c.in-Ok.ensures.step c.in-Ok.ensures.left))
 
 pub returns-in-Err-own-clause-refusal : goal.returns-in-Err-own-clause-refusal
 returns-in-Err-own-clause-refusal c =

@@ -8,7 +8,7 @@ use Rattle.amqp_laws.specs.declared.entry.Step.TheVariants.{Heard}
 use Rattle.amqp_laws.specs.Past.{past}
 use Rattle.amqp_laws.specs.At.{at}
 use Rattle.amqp_journal.proofs.Due.{heard-answers, heard-next, heard-appends, heard-refused, heard-full}
-use Rattle.amqp_journal.proofs.Keeping.{kept-step, steps-are, logged-parts}
+use Rattle.amqp_journal.proofs.Keeping.{kept-step, steps-are, logged-parts, heard-leaves}
 use Rattle.amqp_journal.proofs.logged.Logged.hear.Goals as goal
 
 pub returns-then-steps-self-clause-violation : goal.returns-then-steps-self-clause-violation
@@ -28,6 +28,8 @@ invariant_of-self-in-Ok-heard c =
     c.push_reserved.new.self.items
     c.self.inside.put.items
     c.self.inside.popped
+    c.self.inside.left.items
+    c.room_to_hear.new.left.items
     c.self.inside.endpoint
     c.heard.new.self
     c.self.inside.waiting.items
@@ -48,7 +50,7 @@ pub returns-in-Ok-heard-clause-step : goal.returns-in-Ok-heard-clause-step
 returns-in-Ok-heard-clause-step c =
     let s = steps-are _ c.self.inside.endpoint c.self.inside.waiting.items c.self.invariant in
     let k = subst (λ (l : Log). IsKept l c.self.inside.endpoint c.self.inside.waiting.items) c.self.view_is c.self.invariant in
-    heard-appends c.args.self.now _ c.self.inside.endpoint c.heard.new.self c.self.inside.waiting.items c.args.frame (Heard c.args.frame) c.in-Ok-heard.done k (subst (λ (l : Log). length l.journal < l.config.journal_limit) c.self.view_is (search (rules, s))) (rw c.get-2.ensures at c.in-Ok-heard.ensures.done) refl (logged-parts c.args.self.now c.self.inside.config c.self.inside.gone.items c.self.inside.journal.items c.push_reserved.new.self.items c.self.inside.put.items c.self.inside.popped (Heard c.args.frame) c.in-Ok-heard.done.reply c.self.view_is (search rules))
+    heard-appends c.args.self.now _ c.self.inside.endpoint c.heard.new.self c.self.inside.waiting.items c.args.frame (Heard c.args.frame) c.in-Ok-heard.done k (subst (λ (l : Log). length l.journal < l.config.journal_limit) c.self.view_is (search (rules, s))) (rw c.get-2.ensures at c.in-Ok-heard.ensures.done) refl (logged-parts c.args.self.now c.self.inside.config c.self.inside.gone.items c.self.inside.journal.items c.push_reserved.new.self.items c.self.inside.put.items c.self.inside.popped c.self.inside.left.items c.room_to_hear.new.left.items (Heard c.args.frame) c.in-Ok-heard.done.reply c.self.view_is (search rules) (heard-leaves c.self.inside.config (c.self.inside.gone.items ++ c.self.inside.journal.items) c.self.inside.endpoint c.args.frame (Heard c.args.frame) c.self.inside.left.items c.room_to_hear.new.left.items c.self.invariant.is_at refl (rw c.get.ensures at c.in-Ok.ensures.left)))
 
 pub returns-in-Err-heard-clause-violation : goal.returns-in-Err-heard-clause-violation
 returns-in-Err-heard-clause-violation c =
@@ -60,4 +62,4 @@ pub returns-in-Err-clause-violation : goal.returns-in-Err-clause-violation
 returns-in-Err-clause-violation c =
     let s = steps-are _ c.self.inside.endpoint c.self.inside.waiting.items c.self.invariant in
     let k = subst (λ (l : Log). IsKept l c.self.inside.endpoint c.self.inside.waiting.items) c.self.view_is c.self.invariant in
-    heard-refused c.args.self.now c.self.inside.endpoint c.self.inside.waiting.items c.args.frame c.heard_refused-violation.result k (subst (λ (l : Log). length l.journal < l.config.journal_limit) c.self.view_is (search (rules, s))) (rw c.get.ensures at c.heard_refused-violation.ensures)
+    heard-refused c.args.self.now c.self.inside.endpoint c.self.inside.waiting.items c.args.frame c.heard_refused-violation.result k (subst (λ (l : Log). length l.journal < l.config.journal_limit) c.self.view_is (search (rules, s))) (rw c.get-in-Err.ensures at c.heard_refused-violation.ensures)

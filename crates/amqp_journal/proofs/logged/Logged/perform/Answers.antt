@@ -5,7 +5,7 @@ use Rattle.amqp_laws.specs.declared.entry.Step.TheVariants.{Own}
 use Rattle.amqp_laws.specs.Past.{past}
 use Rattle.amqp_laws.specs.At.{at}
 use Rattle.amqp_journal.proofs.Due.{own-answers, own-next, own-extends, own-refused, own-full}
-use Rattle.amqp_journal.proofs.Keeping.{kept-step, steps-are, logged-parts}
+use Rattle.amqp_journal.proofs.Keeping.{kept-step, steps-are, logged-parts, own-leaves}
 use Rattle.amqp_journal.proofs.logged.Logged.perform.Goals as goal
 
 pub returns-then-steps-self-clause-refusal : goal.returns-then-steps-self-clause-refusal
@@ -23,6 +23,8 @@ invariant_of-self-in-Ok-own_once c =
     c.push_reserved.new.self.items
     c.self.inside.put.items
     c.self.inside.popped
+    c.self.inside.left.items
+    c.room_to_do.new.left.items
     c.self.inside.endpoint
     c.own_once.new.self
     c.self.inside.waiting.items
@@ -43,7 +45,7 @@ pub returns-in-Ok-own_once-clause-step : goal.returns-in-Ok-own_once-clause-step
 returns-in-Ok-own_once-clause-step c =
     let s = steps-are _ c.self.inside.endpoint c.self.inside.waiting.items c.self.invariant in
     let k = subst (λ (l : Log). IsKept l c.self.inside.endpoint c.self.inside.waiting.items) c.self.view_is c.self.invariant in
-    own-extends c.args.self.now _ c.self.inside.endpoint c.own_once.new.self c.self.inside.waiting.items c.args.op c.in-Ok-own_once.both.0 c.in-Ok-own_once.both.1 k (subst (λ (l : Log). length l.journal < l.config.journal_limit) c.self.view_is (search (rules, s))) c.in-Ok-own_once.ensures.done (logged-parts c.args.self.now c.self.inside.config c.self.inside.gone.items c.self.inside.journal.items c.push_reserved.new.self.items c.self.inside.put.items c.self.inside.popped (Own c.args.op) c.in-Ok-own_once.both.0 c.self.view_is (search rules))
+    own-extends c.args.self.now _ c.self.inside.endpoint c.own_once.new.self c.self.inside.waiting.items c.args.op c.in-Ok-own_once.both.0 c.in-Ok-own_once.both.1 k (subst (λ (l : Log). length l.journal < l.config.journal_limit) c.self.view_is (search (rules, s))) c.in-Ok-own_once.ensures.done (logged-parts c.args.self.now c.self.inside.config c.self.inside.gone.items c.self.inside.journal.items c.push_reserved.new.self.items c.self.inside.put.items c.self.inside.popped c.self.inside.left.items c.room_to_do.new.left.items (Own c.args.op) c.in-Ok-own_once.both.0 c.self.view_is (search rules) (own-leaves c.self.inside.config (c.self.inside.gone.items ++ c.self.inside.journal.items) c.self.inside.endpoint c.args.op (Own c.args.op) c.self.inside.left.items c.room_to_do.new.left.items c.self.invariant.is_at refl c.in-Ok.ensures.left))
 
 pub returns-in-Err-own_once-clause-refusal : goal.returns-in-Err-own_once-clause-refusal
 returns-in-Err-own_once-clause-refusal c =

@@ -12,6 +12,7 @@ invariant_of-self-2 c =
     c.push_reserved.new.self.items
     c.self.inside.popped
     c.self.inside.endpoint.steps
+    c.self.inside.left.items
     c.self.inside.endpoint
     c.self.inside.waiting.items
     c.push_back_reserved.new.self.items

@@ -1,0 +1,42 @@
+-- What a connection leaves: what its steps left of links that are gone, and once it has ended what its links still have.
+use Rattle.std.specs.Prelude.{◌≡◌, ◌&&◌, not, Bool, true, false, cond, Option, Some, None, List, [], ◌∷◌, find, ℕ}
+use Rattle.amqp_performatives.specs.declared.bodies.Role.{Role}
+use Rattle.amqp_links.specs.declared.left.Left.{Left}
+use Rattle.amqp_rules.specs.View.{remove_first}
+use Rattle.amqp_journal.specs.Log.{leaving, is_left_by}
+use Rattle.amqp_conn.specs.declared.phase.Phase.{Phase}
+use Rattle.amqp_conn.specs.declared.phase.Phase.TheVariants as phase
+use Rattle.amqp_conn.specs.Connection.{Core}
+
+abbrev pub has_ended : Phase → Bool
+has_ended phase.AwaitHeader = false
+has_ended phase.AwaitOpen = false
+has_ended phase.Running = false
+has_ended phase.Closing = false
+has_ended phase.Closed = true
+
+-- the connection has ended, and its links still have what they had
+abbrev pub is_ungathered : Core → Bool
+is_ungathered k = has_ended k.phase && not k.gathered
+
+-- it is put behind what was left before
+abbrev pub gathering : Core → Core
+gathering k = cond (is_ungathered k) (record k { gathered = true; log = leaving k.log }) k
+
+-- all that is left, in order
+abbrev pub left_of : Core → List Left
+left_of k = (gathering k).log.left
+
+-- all that is not of what is left
+abbrev pub but_left : Core → Core
+but_left k = record k { gathered = false; log = record k.log { left = [] } }
+
+-- Where one is given it is the first of what is left, and is there no more; and nothing else has changed.
+abbrev pub Gives : Core → Option Left → Core → Type 0
+Gives k None l = (left_of k ≡ []) × (left_of l ≡ []) × (but_left l ≡ but_left k)
+Gives k (Some x) l = (left_of k ≡ x ∷ left_of l) × (but_left l ≡ but_left k)
+
+-- The same of the first that the link of this number left, of a receiver or of a sender.
+abbrev pub GivesOf : Role → ℕ → Core → Option Left → Core → Type 0
+GivesOf role link k None l = (find (is_left_by role link) (left_of k) ≡ None) × (left_of l ≡ left_of k) × (but_left l ≡ but_left k)
+GivesOf role link k (Some x) l = (find (is_left_by role link) (left_of k) ≡ Some x) × (left_of l ≡ remove_first (is_left_by role link) (left_of k)) × (but_left l ≡ but_left k)

@@ -1,0 +1,4 @@
+pub mod Printed
+pub mod Going
+pub mod Tables
+pub mod Entering

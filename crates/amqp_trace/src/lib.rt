@@ -1,0 +1,25 @@
+//! Frames as lines of text for people, as they are known from other programs' traces:
+//!
+//!     AMQP:FRAME:0 -> @transfer(20) [handle=0x0, delivery-id=0x0, delivery-tag=b"a", message-format=0x0] (9) \\x00Su\\xa0\\x04xxxx
+//!
+//! | module | what it has |
+//! |---|---|
+//! | `frame` | the line of a frame, and of a protocol header |
+//! | `fields`, `values` | performatives with their fields; values of any type |
+//! | `names` | the standard's names of types and fields |
+//! | `text` | a line, which has printable characters alone |
+//!
+//! - [`frame_line`], [`header_line`]: the line of what went in a [`Direction`]; [`Protocol`]: what a header says
+//! - [`Line`]: its text
+//! - [`type_name`], [`field_names`], [`each_field_has_a_name`]: the table of names
+#![tactic(auto)]
+
+mod fields;
+mod frame;
+mod names;
+mod text;
+mod values;
+
+pub use frame::{Direction, Protocol, each_field_has_a_name, frame_line, header_line};
+pub use names::{field_names, type_name};
+pub use text::Line;

@@ -1,0 +1,136 @@
+//! A line of text.
+ghost use Rattle.std.specs.Prelude.{◌≡◌, ◌++◌, ◌<◌, [], ◌∷◌, true, false, codes, decimal, OnOk, OnErr, IfOk};
+ghost use Rattle.std.specs.Fmt.{signed_decimal};
+ghost use Rattle.amqp_trace.specs.Printed.{are_printable, hex_digit, shown, escaped, Continues};
+
+use itoa::Buffer;
+use std::alloc::{AllocError, Global};
+use std::fmt;
+use std::marker::Model;
+
+/// A line of text: printable characters of ASCII alone, so it has no newline. Contracts see it as these.
+#[derive(Debug, Drop)]
+pub struct Line {
+    text: String,
+}
+
+impl Model for Line {
+    ghost use Rattle.std.specs.Prelude.{List, ℕ, ◌≡◌, true, string_bytes};
+    ghost use Rattle.amqp_trace.specs.Printed.{are_printable};
+
+    ghost Value = { List ℕ };
+
+    ghost view = { λ l. string_bytes l.text };
+
+    ghost invariant = { λ l. are_printable (string_bytes l.text) ≡ true };
+}
+
+impl Line {
+    /// A line of no characters. It allocates nothing.
+    pub fn new(alloc: Global) -> Line
+        ensures { result ≡ [] }
+    {
+        Line {
+            text: String::new(alloc),
+        }
+    }
+
+    /// The text.
+    pub fn as_str(&self) -> &str
+        ensures value { result.now ≡ self.now }
+        ensures printable { are_printable result.now ≡ true }
+    {
+        self.text.as_str()
+    }
+
+    /// Puts printable text behind the others.
+    pub(crate) fn put(&mut self, text: &str) -> Result<(), AllocError>
+        requires { are_printable text.now ≡ true }
+        ensures text { OnOk result (self.new ≡ self.old ++ text.now) }
+        ensures goes { OnOk result (Continues self.old self.new) }
+    {
+        self.text.push_str(text)
+    }
+
+    /// Puts the number behind the others.
+    #[tactic(auto, using(crate::proofs::Printed::decimal_printable))]
+    pub(crate) fn put_decimal(&mut self, n: u64) -> Result<(), AllocError>
+        ensures text { OnOk result (self.new ≡ self.old ++ decimal n) }
+        ensures goes { OnOk result (Continues self.old self.new) }
+    {
+        let mut buffer = Buffer::new();
+        self.put(buffer.format(n))
+    }
+
+    /// Puts the number, which may be negative, behind the others.
+    #[tactic(auto, using(crate::proofs::Printed::signed_printable))]
+    pub(crate) fn put_signed(&mut self, n: i64) -> Result<(), AllocError>
+        ensures text { OnOk result (self.new ≡ self.old ++ signed_decimal n) }
+        ensures goes { OnOk result (Continues self.old self.new) }
+    {
+        let mut buffer = Buffer::new();
+        self.put(buffer.format(n))
+    }
+
+    /// Puts the number in hexadecimal behind the others.
+    #[tactic(auto, using(crate::proofs::Going::goes_on, crate::proofs::Going::goes_far))]
+    pub(crate) fn put_hex(&mut self, n: u64) -> Result<(), AllocError>
+        ensures { OnOk result (Continues self.old self.new) }
+    {
+        self.put("0x")?;
+        let count = (67 - n.leading_zeros().min(63)) / 4;
+        for place in (0..count).rev() {
+            let digit = (n >> (4 * place)) % 16;
+            self.put_digit(digit as u8)?;
+        }
+        Ok(())
+    }
+
+    /// Puts a hexadecimal digit behind the others.
+    #[tactic(auto, using(crate::proofs::Printed::digit_printable))]
+    pub(crate) fn put_digit(&mut self, n: u8) -> Result<(), AllocError>
+        requires { n < 16 }
+        ensures text { OnOk result (self.new ≡ self.old ++ hex_digit n ∷ []) }
+        ensures goes { OnOk result (Continues self.old self.new) }
+    {
+        let digit = if n < 10 { b'0' + n } else { b'a' - 10 + n };
+        self.text.push(char::from(digit))
+    }
+
+    /// Puts an octet of a text behind the others.
+    fn put_octet(&mut self, octet: u8) -> Result<(), AllocError>
+        ensures text { OnOk result (self.new ≡ self.old ++ shown octet) }
+        ensures goes { OnOk result (Continues self.old self.new) }
+    {
+        match octet {
+            b'"' | b'\\' => {
+                self.put("\\")?;
+                self.text.push(char::from(octet))
+            }
+            0x20..=0x7e => self.text.push(char::from(octet)),
+            _ => {
+                self.put("\\x")?;
+                self.put_digit(octet / 16)?;
+                self.put_digit(octet % 16)
+            }
+        }
+    }
+
+    /// Puts octets behind the others, escaped where they are not printable.
+    pub(crate) fn escape(&mut self, octets: &[u8]) -> Result<(), AllocError>
+        ensures text { OnOk result (self.new ≡ self.old ++ escaped octets.now) }
+        ensures goes { OnOk result (Continues self.old self.new) }
+    {
+        for octet in octets {
+            self.put_octet(*octet)?;
+        }
+        Ok(())
+    }
+}
+
+/// The text of the line.
+impl fmt::Display for Line {
+    fn fmt<W: fmt::Write>(&self, f: &mut fmt::Formatter<W>) -> fmt::Result {
+        f.write_str(self.as_str())
+    }
+}

@@ -1,0 +1,6 @@
+mod Entries
+mod Growing
+mod Meeting
+mod FirstPlaces
+mod ReadBack
+mod Values

@@ -1,0 +1,12 @@
+-- Frames that were sent, by their places in a journal.
+pub mod Places
+-- Ids of deliveries that were sent and heard, and ranges of them.
+pub mod Ranges
+pub mod SentIds
+pub mod HeardIds
+-- Two ends go on as two ends with each entry of one.
+pub mod Appending
+pub mod Meeting
+pub mod Promising
+pub mod Sending
+pub mod Finding

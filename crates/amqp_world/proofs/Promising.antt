@@ -1,0 +1,83 @@
+-- What holds of every two ends, by the laws of worlds; and two ends that have not begun.
+use Rattle.std.proofs.Common.{ℕ, ◌≡◌, ◌≤◌, [], inl, inr, arith, refl}
+use Rattle.amqp_rules.specs.declared.config.Config.{Config}
+use Rattle.amqp_rules.specs.Limits.{IsWithinLimits}
+use Rattle.amqp_rules.specs.Opened.{no_reply}
+use Rattle.amqp_laws.specs.declared.entry.Step.TheVariants.{Opened}
+use Rattle.amqp_laws.specs.Past.{past}
+use Rattle.amqp_journal.specs.Log.{Log}
+use Rattle.amqp_pair_laws.specs.World.{IsFair, Tight}
+use Rattle.amqp_pair_laws.specs.Taken.{NextIsTaken}
+use Rattle.amqp_pair_laws.specs.Takes as takes
+use Rattle.amqp_pair_laws.specs.States as states
+use Rattle.amqp_pair_laws.specs.Learns as learns
+use Rattle.amqp_world.specs.declared.heard.Hearing.{Hearing}
+use Rattle.amqp_world.specs.declared.side.Side.{Side}
+use Rattle.amqp_world.specs.declared.side.Side.TheVariants.{A, B}
+use Rattle.amqp_world.specs.Sides.{Sides, of, opened, other}
+use Rattle.amqp_world.specs.Knowing.{Meets, IsPair, unheard}
+use Rattle.amqp_world.specs.Promises.{AreReached, HasHeardAll, HearsWhatWasSaid, LearnsWhatWasSaid, TakesAll, TakesEver, TakesNext, TakesWhatWasSent}
+
+-- # The start
+
+fair-open : (c : Config) (max_frame : ℕ) → IsWithinLimits c → IsFair c (record { step = Opened max_frame; reply = no_reply }) []
+fair-open c max_frame limits = record { limits = limits; room = (let some : 1 ≤ c.journal_limit = limits.some in omega (arith, some)); answers = refl; told = tt }
+
+pub start-meets : (mine theirs : Config) (max_frame their_max : ℕ) → IsWithinLimits mine → IsWithinLimits theirs → Meets (unheard theirs.first_id) (opened mine max_frame) (opened theirs their_max)
+start-meets mine theirs max_frame their_max limits their_limits =
+    record {
+      limits = limits;
+      their_limits = their_limits;
+      whole = refl;
+      moves = 2;
+      world = inr (inl ((tt, tt), record { fair = fair-open theirs their_max their_limits; next = tt }), record { fair = fair-open mine max_frame limits; next = tt });
+      knows = record { frames = refl; ids = refl; few = omega arith; ended = refl };
+      first = refl;
+      within = omega arith;
+      all = refl;
+    }
+
+pub start-pair : (a_hears b_hears : Hearing) (a b : Log) (ca cb : Config) (ma mb : ℕ) → IsWithinLimits ca → IsWithinLimits cb → a_hears ≡ unheard cb.first_id → b_hears ≡ unheard ca.first_id
+    → a ≡ opened ca mb → b ≡ opened cb ma → IsPair a_hears b_hears a b
+start-pair a_hears b_hears a b ca cb ma mb la lb ha hb is-a is-b =
+    rw (ha, hb, is-a, is-b) (record { a_meets = start-meets ca cb mb ma la lb; b_meets = start-meets cb ca ma mb lb la })
+
+-- # Either end
+
+pub record Met (mine theirs : Log) : Type 0 where
+  pub hearing : Hearing
+  pub meets : Meets hearing mine theirs
+
+pub either : (a_hears b_hears : Hearing) (w : Sides) → IsPair a_hears b_hears w.a w.b → (side : Side) → Met (of side w) (of (other side) w)
+either a_hears b_hears w p A = record { hearing = a_hears; meets = p.a_meets }
+either a_hears b_hears w p B = record { hearing = b_hears; meets = p.b_meets }
+
+-- # The laws
+
+tight-there : (mine theirs : Log) (m : Met mine theirs) → HasHeardAll mine theirs → Tight theirs.config mine.config m.meets.moves (past theirs.journal) (past mine.journal)
+tight-there mine theirs m all = record { world = m.meets.world; tight = all }
+
+pub reached : (mine theirs : Log) → Met mine theirs → AreReached mine theirs
+reached mine theirs m = (m.meets.moves, m.meets.world)
+
+pub takes-next : NextIsTaken → (mine theirs : Log) → Met mine theirs → TakesNext mine theirs
+takes-next law mine theirs m = λ f waits. law theirs.config mine.config m.meets.moves (past theirs.journal) (past mine.journal) f m.meets.world waits
+
+pub takes-sent : takes.TakesWhatWasSent → (mine theirs : Log) → Met mine theirs → TakesWhatWasSent mine theirs
+takes-sent law mine theirs m = λ name y found attached. law theirs.config mine.config m.meets.moves (past theirs.journal) (past mine.journal) name y m.meets.world found attached
+
+pub takes-all : takes.TakesAll → (mine theirs : Log) → Met mine theirs → TakesAll mine theirs
+takes-all law mine theirs m =
+    λ all lives name x y there ours stays here stays'.
+    law theirs.config mine.config m.meets.moves (past theirs.journal) (past mine.journal) name x y (tight-there mine theirs m all) lives there ours stays here stays'
+
+pub hears-said : states.HearsWhatWasSaid → (mine theirs : Log) → Met mine theirs → HearsWhatWasSaid mine theirs
+hears-said law mine theirs m = λ all lives. law theirs.config mine.config m.meets.moves (past theirs.journal) (past mine.journal) (tight-there mine theirs m all) lives
+
+pub takes-ever : takes.TakesEver → (mine theirs : Log) → Met mine theirs → TakesEver mine theirs
+takes-ever law mine theirs m =
+    λ early name y tail found attached.
+    law theirs.config mine.config m.meets.moves (past theirs.journal) (past mine.journal) early name y m.meets.world tail found attached
+
+pub learns-said : learns.LearnsWhatWasSaid → (mine theirs : Log) → Met mine theirs → LearnsWhatWasSaid mine theirs
+learns-said law mine theirs m = law theirs.config mine.config m.meets.moves (past theirs.journal) (past mine.journal) m.meets.world

@@ -1,0 +1,10 @@
+-- What a reader must believe, in the order to read it.
+
+-- two ends
+pub mod Sides
+-- what calls answer and change
+pub mod Calls
+-- what holds of every two ends
+pub mod Promises
+-- what the code keeps beside the journals
+pub mod Knowing

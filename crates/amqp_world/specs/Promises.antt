@@ -1,0 +1,64 @@
+-- What holds of every two ends that speak with each other, said of one that hears the other. `amqp_pair_laws` has these for journals; here they are of the
+-- journals of a World.
+use Rattle.std.specs.Prelude.{ℕ, ◌≡◌, true, false, Some, List, ◌++◌, IsOk, find, is_some, map}
+use Rattle.amqp_performatives.specs.declared.bodies.Role.TheVariants.{Sender, Receiver}
+use Rattle.amqp_frames.specs.declared.frame.Frame.{Frame}
+use Rattle.amqp_rules.specs.Answer.{heard_answer}
+use Rattle.amqp_rules.specs.Sound.{Every}
+use Rattle.amqp_rules.specs.View.{View, LinkView, has_name, is_attached, is_over}
+use Rattle.amqp_laws.specs.declared.entry.Entry.{Entry}
+use Rattle.amqp_laws.specs.Past.{past}
+use Rattle.amqp_laws.specs.At.{at}
+use Rattle.amqp_journal.specs.Log.{Log}
+use Rattle.amqp_pair_laws.specs.Moves.{IsTail, count}
+use Rattle.amqp_pair_laws.specs.World.{World, hears, sends}
+use Rattle.amqp_pair_laws.specs.Passing.{content_of, passed_on, taken_on}
+use Rattle.amqp_pair_laws.specs.Takes.{IsFront, Source}
+use Rattle.amqp_pair_laws.specs.States.{said_state}
+use Rattle.amqp_pair_laws.specs.Learns.{WasSaid, all_learnt}
+use Rattle.amqp_world.specs.Calls.{waiting}
+
+-- the two journals are reached by moves: operations of an end, and the hearing of the other's next frame
+abbrev pub AreReached : Log → Log → Type 0
+AreReached mine theirs = (moves : ℕ) × World theirs.config mine.config moves (past theirs.journal) (past mine.journal)
+
+abbrev pub view : Log → View
+view l = at l.config (past l.journal)
+
+-- the frame that waits is no violation
+abbrev pub TakesNext : Log → Log → Type 0
+TakesNext mine theirs = (f : Frame) → waiting mine theirs ≡ Some f → IsOk (heard_answer (view mine) f)
+
+-- what was taken on an attached link is the front of the deliveries that were sent complete on the link whose attach was heard
+abbrev pub TakesWhatWasSent : Log → Log → Type 0
+TakesWhatWasSent mine theirs =
+    (name : List ℕ) (y : LinkView) → find (has_name Receiver name) (view mine).links ≡ Some y → is_attached y ≡ true
+    → (x : Source theirs.config (past theirs.journal) (past mine.journal) name) × IsFront (taken_on y.number (past mine.journal)) (passed_on x.link.number (past theirs.journal))
+
+-- so it is on a link that was attached in an earlier state, whether it is left now, or gone, or not
+abbrev pub TakesEver : Log → Log → Type 0
+TakesEver mine theirs =
+    (early : List Entry) (name : List ℕ) (y : LinkView) → IsTail early (past mine.journal)
+    → find (has_name Receiver name) (at mine.config early).links ≡ Some y → is_attached y ≡ true
+    → (x : Source theirs.config (past theirs.journal) early name) × IsFront (taken_on y.number (past mine.journal)) (passed_on x.link.number (past theirs.journal))
+
+abbrev pub HasHeardAll : Log → Log → Type 0
+HasHeardAll mine theirs = count sends (past theirs.journal) ≡ count hears (past mine.journal)
+
+-- where all was heard and the session is not over: what was taken on a link and what waits there is what was sent complete on the other's link of that
+-- name, as long as neither has left it
+abbrev pub TakesAll : Log → Log → Type 0
+TakesAll mine theirs =
+    HasHeardAll mine theirs → is_over (view mine).session ≡ false → (name : List ℕ) (x y : LinkView)
+    → find (has_name Sender name) (view theirs).links ≡ Some x → is_some x.ours ≡ true → x.left ≡ false
+    → find (has_name Receiver name) (view mine).links ≡ Some y → y.left ≡ false
+    → taken_on y.number (past mine.journal) ++ map content_of y.ready ≡ passed_on x.number (past theirs.journal)
+
+-- where all was heard and the session is not over: of each unsettled delivery that was sent, the last state that was heard is the last one that was given
+abbrev pub HearsWhatWasSaid : Log → Log → Type 0
+HearsWhatWasSaid mine theirs =
+    HasHeardAll mine theirs → is_over (view mine).session ≡ false → Every (λ s. s.item.remote ≡ said_state s.item.id (past theirs.journal)) (view mine).sent
+
+-- all that was learnt the other had said: by the first of its operations that settled that delivery or gave it an outcome
+abbrev pub LearnsWhatWasSaid : Log → Log → Type 0
+LearnsWhatWasSaid mine theirs = Every (WasSaid theirs.config (past theirs.journal)) (all_learnt (past mine.journal))

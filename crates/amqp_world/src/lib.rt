@@ -1,0 +1,23 @@
+//! Two sessions that speak with each other: each has its journal, and hears the frames that the other sent, one at a time and in order. No socket, no
+//! octets: it is what two programs make of each other over connections that lose nothing.
+//!
+//! | module | what it has |
+//! |---|---|
+//! | `world` | both ends, kept together; what holds of every two ends that speak with each other |
+//! | `side` | which of the two |
+//! | `settings` | what is settled of an end before it starts |
+//! | `refusal` | why an operation is refused, and why nothing is heard |
+//! | `heard` | how much an end heard of the other |
+//!
+//! The application of an end may do what `amqp_journal` lets it do, but for one thing: it disposes no delivery whose first transfer it has not heard.
+//! Then no frame of one end is a violation for the other, whatever both do and whenever they hear (`World::hear` has no such answer), and
+//! what comes out of one end went into the other (`World::laws`).
+#![tactic(auto)]
+
+mod ahead;
+pub mod heard;
+mod next;
+pub mod refusal;
+pub mod settings;
+pub mod side;
+pub mod world;

@@ -1,0 +1,217 @@
+//! Two ends that speak with each other.
+ghost use Rattle.std.specs.Prelude.{ℕ, ◌≡◌, IfOk, IfErr, OnErr, length, true, false, Some, IsOk};
+ghost use Rattle.amqp_frames.specs.declared.frame.Frame.{Frame};
+ghost use Rattle.amqp_rules.specs.Limits.{IsWithinLimits};
+ghost use Rattle.amqp_laws.specs.Past.{past};
+ghost use Rattle.amqp_laws.specs.Live.{live};
+ghost use Rattle.amqp_journal.specs.Log.{Log};
+ghost use Rattle.amqp_pair_laws.specs.Moves.{count};
+ghost use Rattle.amqp_pair_laws.specs.World.{hears, World};
+ghost use Rattle.amqp_pair_laws.specs.Premise.{ids_heard};
+ghost use Rattle.amqp_world.specs.Sides.{of, other, opened};
+ghost use Rattle.amqp_world.specs.declared.side.Side.{Side};
+ghost use Rattle.amqp_world.specs.Promises.{AreReached, TakesNext, TakesWhatWasSent, TakesEver, TakesAll, HearsWhatWasSaid, LearnsWhatWasSaid};
+ghost use Rattle.amqp_world.specs.Calls.{Does, IsRefused, Hears, IsUnheard};
+ghost use Rattle.amqp_world.specs.Knowing.{Knows, Meets};
+ghost use Rattle.amqp_world.specs.declared.heard.Hearing.{Hearing};
+
+use crate::ahead::reaches_ahead;
+use crate::heard::{Heard, Hearing};
+use crate::next::{next_frame, whole};
+use crate::refusal::{HearRefusal, WorldRefusal};
+use crate::settings::Settings;
+use crate::side::Side;
+use amqp_journal::logged::Logged;
+use amqp_pair_laws::laws::laws;
+use amqp_rules::op::Op;
+use amqp_rules::reply::Given;
+use amqp_rules::violation::ViolationKind;
+use std::alloc::{AllocError, Global};
+use std::marker::Model;
+
+/// Two ends that speak with each other: the two sessions with their journals. An entry comes in by `own` and `hear` alone, and the journals are whole.
+#[derive(Drop)]
+pub struct World {
+    a: Logged,
+    b: Logged,
+    /// How far each has heard the other.
+    a_hears: Hearing,
+    b_hears: Hearing,
+}
+
+impl Model for World {
+    ghost use Rattle.amqp_world.specs.Sides.{Sides};
+    ghost use Rattle.amqp_world.specs.Knowing.{IsPair};
+    ghost use Rattle.amqp_types.specs.contracts.value.Value as value;
+    ghost use Rattle.std.specs.Coded.{codes};
+
+    ghost Value = { Sides };
+
+    ghost coded = { Prim.hlevel (codes, value.the_row.coded) };
+
+    ghost view = { λ w. record { a = w.a; b = w.b } };
+
+    ghost invariant = { λ w. IsPair w.a_hears w.b_hears w.a w.b };
+}
+
+impl World {
+    /// Two ends whose opens were told; neither has begun its session.
+    pub fn new(alloc: Global, a: &Settings, b: &Settings) -> Result<World, AllocError>
+        requires a { IsWithinLimits a.now.session }
+        requires b { IsWithinLimits b.now.session }
+        ensures { IfOk result (λ world. world ≡ record { a = opened a.now.session b.now.max_frame; b = opened b.now.session a.now.max_frame }) }
+    {
+        let a_logged = open(alloc, a, b)?;
+        let b_logged = open(alloc, b, a)?;
+        Ok(World {
+            a: a_logged,
+            b: b_logged,
+            a_hears: Hearing::new(b.session.first_id),
+            b_hears: Hearing::new(a.session.first_id),
+        })
+    }
+
+    /// Does an operation at one end: its journal has one entry more. It costs what `Logged::apply` does.
+    ///
+    /// # Errors
+    ///
+    /// `ReachesAhead` is told first, then what the session refuses.
+    pub fn own(&mut self, side: Side, op: &Op) -> Result<Given, WorldRefusal>
+        ensures given { IfOk result (λ given. Does (of side self.old) op.now given (of side self.new)) }
+        ensures other { of (other side) self.new ≡ of (other side) self.old }
+        ensures refusal { IfErr result (λ refusal. IsRefused (of side self.old) op.now refusal) }
+        ensures err { OnErr result (self.new ≡ self.old) }
+    {
+        match side {
+            Side::A => own_by(&mut self.a, &mut self.a_hears, op),
+            Side::B => own_by(&mut self.b, &mut self.b_hears, op),
+        }
+    }
+
+    /// One end hears the next frame that the other sent: its journal has one entry more. It costs what `Logged::receive` does, and a look at the entries that
+    /// sent nothing before it.
+    ///
+    /// # Errors
+    ///
+    /// `Empty` exactly where it has heard all, then `JournalFull` and want of memory; so no frame of the other is ever a violation.
+    pub fn hear(&mut self, side: Side) -> Result<Given, HearRefusal>
+        ensures given { IfOk result (λ given. Hears (of side self.old) (of (other side) self.old) given (of side self.new)) }
+        ensures other { of (other side) self.new ≡ of (other side) self.old }
+        ensures refusal { IfErr result (λ refusal. IsUnheard (of side self.old) (of (other side) self.old) refusal) }
+        ensures err { OnErr result (self.new ≡ self.old) }
+    {
+        match side {
+            Side::A => hear_from(&mut self.a, &self.b, &mut self.a_hears),
+            Side::B => hear_from(&mut self.b, &self.a, &mut self.b_hears),
+        }
+    }
+
+    /// The session of one end, with its whole journal.
+    pub fn side(&self, side: Side) -> &Logged
+        ensures value { result.now ≡ of side self.now }
+        ensures whole { (of side self.now).forgotten ≡ 0 }
+    {
+        match side {
+            Side::A => &self.a,
+            Side::B => &self.b,
+        }
+    }
+
+    /// What holds of every two ends that speak with each other, of each side that hears the other. It does nothing.
+    ///
+    /// The frame that waits is no violation (`next`); what was taken on an attached link is the front of the complete deliveries that were sent on
+    /// the link whose attach was heard, with ids, tags, formats, payloads and whether they were settled (`sent`), also once the link is left or gone
+    /// (`ever`), and all of them, with those that wait, where all frames were heard (`all`); and then the last state that was heard of a delivery is the
+    /// last one that was given (`states`). What was learnt of a delivery the other had said of it, as its own, when it settled it or gave it an outcome
+    /// first (`learnt`).
+    pub fn laws(&self)
+        ensures reached { (side : Side) → AreReached (of side self.now) (of (other side) self.now) }
+        ensures next { (side : Side) → TakesNext (of side self.now) (of (other side) self.now) }
+        ensures sent { (side : Side) → TakesWhatWasSent (of side self.now) (of (other side) self.now) }
+        ensures ever { (side : Side) → TakesEver (of side self.now) (of (other side) self.now) }
+        ensures all { (side : Side) → TakesAll (of side self.now) (of (other side) self.now) }
+        ensures states { (side : Side) → HearsWhatWasSaid (of side self.now) (of (other side) self.now) }
+        ensures learnt { (side : Side) → LearnsWhatWasSaid (of side self.now) (of (other side) self.now) }
+    {
+        let _ = &self.a;
+        laws();
+    }
+
+    /// How much one end heard of the other.
+    pub fn heard(&self, side: Side) -> Heard
+        ensures frames { result.frames ≡ count hears (past (of side self.now).journal) }
+        ensures firsts { result.firsts ≡ length (ids_heard (live (past (of side self.now).journal))) }
+    {
+        let hearing = match side {
+            Side::A => self.a_hears,
+            Side::B => self.b_hears,
+        };
+        Heard {
+            frames: hearing.frames,
+            firsts: hearing.firsts,
+        }
+    }
+}
+
+/// A session that was told the longest frame that the other takes.
+fn open(alloc: Global, settings: &Settings, other: &Settings) -> Result<Logged, AllocError>
+    requires { IsWithinLimits settings.now.session }
+    ensures { IfOk result (λ logged. logged ≡ opened settings.now.session other.now.max_frame) }
+{
+    let mut logged = Logged::new(alloc, &settings.session);
+    match logged.opened(other.max_frame) {
+        Ok(()) => Ok(logged),
+        Err(_) => Err(AllocError),
+    }
+}
+
+/// Does an operation, unless it reaches ahead.
+fn own_by(mine: &mut Logged, hearing: &mut Hearing, op: &Op) -> Result<Given, WorldRefusal>
+    requires { Knows hearing.old (past mine.old.journal) }
+    ensures given { IfOk result (λ given. Does mine.old op.now given mine.new) }
+    ensures refusal { IfErr result (λ refusal. IsRefused mine.old op.now refusal) }
+    ensures err { OnErr result (mine.new ≡ mine.old) }
+    ensures meets { (theirs : Log) → Meets hearing.old mine.old theirs → Meets hearing.new mine.new theirs }
+    ensures met { (h : Hearing) (theirs : Log) → Meets h theirs mine.old → Meets h theirs mine.new }
+{
+    if reaches_ahead(op, hearing) {
+        return Err(WorldRefusal::ReachesAhead);
+    }
+    match mine.apply(op) {
+        Ok(given) => {
+            hearing.own(op);
+            Ok(given)
+        }
+        Err(refusal) => Err(WorldRefusal::Refused(refusal)),
+    }
+}
+
+/// Hears the next frame that the other sent.
+fn hear_from(
+    mine: &mut Logged,
+    theirs: &Logged,
+    hearing: &mut Hearing,
+) -> Result<Given, HearRefusal>
+    requires { Meets hearing.old mine.old theirs.now }
+    ensures given { IfOk result (λ given. Hears mine.old theirs.now given mine.new) }
+    ensures refusal { IfErr result (λ refusal. IsUnheard mine.old theirs.now refusal) }
+    ensures err { OnErr result (mine.new ≡ mine.old) }
+    ensures meets { Meets hearing.new mine.new theirs.now }
+    ensures met { (h : Hearing) → Meets h theirs.now mine.old → Meets h theirs.now mine.new }
+{
+    let Some(frame) = next_frame(whole(theirs), &mut hearing.place) else {
+        return Err(HearRefusal::Empty);
+    };
+    laws();
+    match mine.receive(frame) {
+        Ok(given) => {
+            hearing.hear(frame);
+            Ok(given)
+        }
+        Err(violation) => match violation.kind {
+            ViolationKind::JournalFull => Err(HearRefusal::JournalFull),
+            ViolationKind::NoMemory => Err(HearRefusal::NoMemory),
+            _ => unreachable!(),
+        },
+    }
+}
