@@ -9,6 +9,7 @@
 //! | `decoder` | performatives in front of octets |
 //! | `frames` | frames written and read, however they are cut |
 //! | `deliveries` | unsettled deliveries, and deliveries that are cut over transfers |
+//! | `waiting` | what becomes of each delivery that waits to be resumed, and the maps that attaches tell, as octets |
 //! | `messages` | messages, their sections and fields; the ends of a link |
 //! | `growth` | each growth of memory that these calls ask for, refused in turn |
 #![tactic(auto)]
@@ -29,3 +30,5 @@ mod messages;
 mod performatives;
 #[cfg(test)]
 mod types;
+#[cfg(test)]
+mod waiting;
