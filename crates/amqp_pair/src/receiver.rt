@@ -143,10 +143,15 @@ fn split_off<N: Name>(
 ) -> Result<Vec<Pass<N>>, PairFault> {
     let mut passes = Vec::new(alloc);
     for _ in 0..count {
-        let Some(part) = pass.split() else {
-            return Err(PairFault::Options);
-        };
-        put(&mut passes, part)?;
+        split_one(&mut passes, pass)?;
     }
     Ok(passes)
+}
+
+/// A pass behind the others: a part of this one.
+fn split_one<N: Name>(passes: &mut Vec<Pass<N>>, pass: &mut Pass<N>) -> Result<(), PairFault> {
+    match pass.split() {
+        Some(part) => put(passes, part),
+        None => Err(PairFault::Options),
+    }
 }

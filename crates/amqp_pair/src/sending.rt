@@ -143,13 +143,25 @@ impl Messages {
         }
         let mut least = 0u64;
         for (number, receipt) in receipts.iter().enumerate() {
-            let operation = self.operation(number)?;
-            if receipt.place < least || !logged.stands(&operation, receipt) {
+            if receipt.place < least || !self.stands_for(logged, number, receipt)? {
                 return Ok(false);
             }
             least = receipt.place.saturating_add(1);
         }
         Ok(true)
+    }
+
+    /// The receipt stands in the journal for the operation of this number.
+    fn stands_for(
+        &self,
+        logged: &Logged,
+        number: usize,
+        receipt: &Receipt,
+    ) -> Result<bool, Refusal> {
+        let operation = self.operation(number)?;
+        let stands = logged.stands(&operation, receipt);
+        drop(operation);
+        Ok(stands)
     }
 
     /// The session has used an id for each message, and one for each transfer, from the first ones on (part 2, 2.5.6 and 2.8.9).
@@ -290,13 +302,42 @@ fn send_one<'b, N: Name, R: Wait>(
     number: u32,
 ) -> Result<Guard<'b, N>, Refusal> {
     let size = messages.payload.len();
-    let start = messages.start(number)?;
-    let (mut guard, _) = call(rt, shared, guard, hand, &start)?;
+    let mut guard = send_part(rt, shared, guard, hand, messages.start(number))?;
     for from in (MAX_PAYLOAD..size).step_by(MAX_PAYLOAD) {
-        let carry = messages.carry(from)?;
-        (guard, _) = call(rt, shared, guard, hand, &carry)?;
+        guard = send_part(rt, shared, guard, hand, messages.carry(from))?;
     }
     Ok(guard)
+}
+
+/// One transfer of a message. The operation and what it gave are let go here.
+fn send_part<'b, N: Name, R: Wait>(
+    rt: &R,
+    shared: &Shared<N>,
+    guard: Guard<'b, N>,
+    hand: &mut Hand<N>,
+    part: Result<Op, Refusal>,
+) -> Result<Guard<'b, N>, Refusal> {
+    match part {
+        Ok(op) => {
+            let called = call(rt, shared, guard, hand, &op);
+            drop(op);
+            only_guard(called)
+        }
+        Err(refusal) => Err(refusal),
+    }
+}
+
+/// The guard, without what was given.
+fn only_guard<N: Name>(
+    called: Result<(Guard<'_, N>, Given), Refusal>,
+) -> Result<Guard<'_, N>, Refusal> {
+    match called {
+        Ok((guard, given)) => {
+            drop(given);
+            Ok(guard)
+        }
+        Err(refusal) => Err(refusal),
+    }
 }
 
 /// Learns of so many messages, under one lock but for where it waits: how many were accepted.

@@ -102,13 +102,40 @@ fn does<N: Name, R: Wait>(
     rt: &R,
     shared: &Shared<N>,
     pass: &mut Pass<N>,
-    op: &Op,
+    op: Op,
 ) -> Option<Receipt> {
     let mut guard = shared.lock(rt);
-    match shared.call(&mut guard, pass, op) {
+    match shared.call(&mut guard, pass, &op) {
         Ok((receipt, _)) => Some(receipt),
         Err(_) => None,
     }
+}
+
+/// Attaches a link of this name, of this role of ours and receiving mode: whether that was done. What is made for it is let go here, since a wide
+/// value that a test holds is dear to prove.
+fn attaches<N: Name, R: Wait>(
+    rt: &R,
+    alloc: Global,
+    shared: &Shared<N>,
+    pass: &mut Pass<N>,
+    name: &str,
+    role: Role,
+    rcv: u8,
+) -> bool {
+    let Ok(name) = Text::new(alloc, name) else {
+        return false;
+    };
+    let attach = Op::Attach {
+        name,
+        role,
+        snd: 2,
+        rcv,
+        source: None,
+        target: None,
+        count: 0,
+        max_message: 0,
+    };
+    does(rt, shared, pass, attach).is_some()
 }
 
 fn left_and_taken<N: Name>(
@@ -136,7 +163,9 @@ fn ring_row<N: Name + Send + Sync, R: Threads + Wait + Abort + Sync>(
 {
     let (shared, mut pass, writer) = open_shared::<N>(seed);
     hear(rt, &shared, &mut pass, &GREETING);
-    let receipt = does(rt, &shared, &mut pass, &Op::Begin).ok_or("no begin")?;
+    let Some(receipt) = does(rt, &shared, &mut pass, Op::Begin) else {
+        panic!(rt; "no begin");
+    };
     assert_eq!(rt; shared.wait_units(rt, 0), (3, false));
     lends_the_session(rt, &shared);
     let (writer, first) = took_alone(rt, writer);
@@ -147,8 +176,10 @@ fn ring_row<N: Name + Send + Sync, R: Threads + Wait + Abort + Sync>(
     let (writer, second) = took_alone(rt, writer);
     assert_eq!(rt; second, (Some(1), None));
     let mut passes = Vec::new(alloc);
-    passes.push(pass)?;
-    let closed = left_and_taken(shared, passes, writer).ok_or("not closed")?;
+    assert!(rt; passes.push(pass).is_ok());
+    let Some(closed) = left_and_taken(shared, passes, writer) else {
+        panic!(rt; "not closed");
+    };
     assert!(rt; closed.conn.phase() == Phase::Running);
     assert_eq!(rt; closed.taken, 2);
     let numbers = (
@@ -202,26 +233,30 @@ fn kept_back<N: Name, R: Wait + Abort>(rt: &R, alloc: Global, seed: Seed) -> Res
     requires { IsNamed seed N.name N.parts N.ring }
 {
     let (shared, mut pass, writer) = open_shared::<N>(seed);
-    let mut other = pass.split().ok_or("no part")?;
+    let Some(mut other) = pass.split() else {
+        panic!(rt; "no part");
+    };
     assert!(rt; other.split().is_none());
     hear(rt, &shared, &mut pass, &GREETING);
-    assert!(rt; does(rt, &shared, &mut other, &Op::Begin).is_some());
-    assert!(rt; does(rt, &shared, &mut other, &Op::Beat).is_some());
+    assert!(rt; does(rt, &shared, &mut other, Op::Begin).is_some());
+    assert!(rt; does(rt, &shared, &mut other, Op::Beat).is_some());
     hear(rt, &shared, &mut pass, &CLOSE[..5]);
     let mut passes = Vec::new(alloc);
-    passes.push(pass)?;
+    assert!(rt; passes.push(pass).is_ok());
     let Err(refusal) = shared.close(passes, writer) else {
-        return Err("closed").map_err(Fail::from);
+        panic!(rt; "closed");
     };
     assert_eq!(rt;
         refusal.reason,
         CloseReason::PassesMissing { made: 1, steps: 3 }
     );
     let (shared, mut passes, writer) = refusal.into_parts();
-    assert!(rt; does(rt, &shared, &mut other, &Op::Beat).is_some());
+    assert!(rt; does(rt, &shared, &mut other, Op::Beat).is_some());
     hear(rt, &shared, &mut other, &CLOSE[5..]);
-    passes.push(other)?;
-    let closed = left_and_taken(shared, passes, writer).ok_or("not closed")?;
+    assert!(rt; passes.push(other).is_ok());
+    let Some(closed) = left_and_taken(shared, passes, writer) else {
+        panic!(rt; "not closed");
+    };
     assert!(rt; closed.conn.phase() == Phase::Closed);
     assert_eq!(rt; (closed.taken, closed.left.len()), (0, 6));
     Ok(())
@@ -238,11 +273,11 @@ fn filled<N: Name, R: Wait + Abort>(rt: &R, seed: Seed) -> Result<(), Fail>
 {
     let (shared, mut pass, mut writer) = open_shared::<N>(seed);
     hear(rt, &shared, &mut pass, &GREETING);
-    assert!(rt; does(rt, &shared, &mut pass, &Op::Begin).is_some());
+    assert!(rt; does(rt, &shared, &mut pass, Op::Begin).is_some());
     assert_eq!(rt; next_number(&mut writer), Some(0));
     assert_eq!(rt; next_number(&mut writer), Some(1));
     assert_eq!(rt; next_number(&mut writer), None);
-    assert!(rt; does(rt, &shared, &mut pass, &Op::Beat).is_some());
+    assert!(rt; does(rt, &shared, &mut pass, Op::Beat).is_some());
     assert_eq!(rt; next_number(&mut writer), Some(2));
     assert_eq!(rt; next_number(&mut writer), Some(3));
     assert_eq!(rt; next_number(&mut writer), None);
@@ -287,14 +322,16 @@ fn closes_full<N: Name, R: Wait + Abort>(rt: &R, alloc: Global, seed: Seed) -> R
 {
     let (shared, mut pass, writer) = open_shared::<N>(seed);
     hear(rt, &shared, &mut pass, &GREETING);
-    assert!(rt; does(rt, &shared, &mut pass, &Op::Begin).is_none());
+    assert!(rt; does(rt, &shared, &mut pass, Op::Begin).is_none());
     let mut guard = shared.lock(rt);
     assert!(rt; shared.shut(&mut guard, None).is_ok());
     drop(guard);
     hear(rt, &shared, &mut pass, &CLOSE);
     let mut passes = Vec::new(alloc);
-    passes.push(pass)?;
-    let closed = left_and_taken(shared, passes, writer).ok_or("not closed")?;
+    assert!(rt; passes.push(pass).is_ok());
+    let Some(closed) = left_and_taken(shared, passes, writer) else {
+        panic!(rt; "not closed");
+    };
     assert!(rt; closed.conn.phase() == Phase::Closed);
     assert_eq!(rt; (closed.taken, closed.left.len()), (0, 3));
     Ok(())
@@ -312,7 +349,7 @@ fn many_units<N: Name, R: Wait + Abort>(rt: &R, seed: Seed) -> Result<(), Fail>
     let (shared, mut pass, mut writer) = open_shared::<N>(seed);
     hear(rt, &shared, &mut pass, &GREETING);
     for _ in 0..66_000u32 {
-        assert!(rt; does(rt, &shared, &mut pass, &Op::Beat).is_some());
+        assert!(rt; does(rt, &shared, &mut pass, Op::Beat).is_some());
     }
     for number in 0..65_536u64 {
         assert_eq!(rt; next_number(&mut writer), Some(number));
@@ -331,23 +368,12 @@ fn with_link<N: Name, R: Wait + Abort>(
     alloc: Global,
     shared: &Shared<N>,
     pass: &mut Pass<N>,
-) -> Result<(), Fail> {
+) {
     hear(rt, shared, pass, &GREETING);
-    assert!(rt; does(rt, shared, pass, &Op::Begin).is_some());
+    assert!(rt; does(rt, shared, pass, Op::Begin).is_some());
     hear(rt, shared, pass, &ANSWER[..28]);
-    let attach = Op::Attach {
-        name: Text::new(alloc, "q")?,
-        role: Role::Sender,
-        snd: 2,
-        rcv: 0,
-        source: None,
-        target: None,
-        count: 0,
-        max_message: 0,
-    };
-    assert!(rt; does(rt, shared, pass, &attach).is_some());
+    assert!(rt; attaches(rt, alloc, shared, pass, "q", Role::Sender, 0));
     hear(rt, shared, pass, &ANSWER[28..]);
-    Ok(())
 }
 
 #[test]
@@ -363,8 +389,10 @@ fn waits<N: Name + Send + Sync, R: Threads + Wait + Abort + Sync>(
     requires { IsNamed seed N.name N.parts N.ring }
 {
     let (shared, mut pass, _) = open_shared::<N>(seed);
-    with_link(rt, alloc, &shared, &mut pass)?;
-    let own = pass.split().ok_or("no part")?;
+    with_link(rt, alloc, &shared, &mut pass);
+    let Some(own) = pass.split() else {
+        panic!(rt; "no part");
+    };
     let told = side_by_side(rt, alloc, &shared, own, pass, 6);
     assert_eq!(rt; told, Some((7, false)));
     Ok(())
@@ -383,11 +411,13 @@ fn waits_shut<N: Name + Send + Sync, R: Threads + Wait + Abort + Sync>(
     requires { IsNamed seed N.name N.parts N.ring }
 {
     let (shared, mut pass, _) = open_shared::<N>(seed);
-    with_link(rt, alloc, &shared, &mut pass)?;
+    with_link(rt, alloc, &shared, &mut pass);
     hear(rt, &shared, &mut pass, &SHUT);
     let refusal = refused_start(rt, alloc, &shared, &mut pass);
     assert_eq!(rt; refusal, Some(Refusal::NoWindow));
-    let own = pass.split().ok_or("no part")?;
+    let Some(own) = pass.split() else {
+        panic!(rt; "no part");
+    };
     let told = side_by_side(rt, alloc, &shared, own, pass, 7);
     assert_eq!(rt; told, Some((7, false)));
     Ok(())
@@ -474,7 +504,7 @@ fn tells_in_turn<N: Name, R: Wait + Abort>(
     for _ in 0..1000u16 {
         thread::yield_now();
     }
-    assert!(rt; does(rt, shared, &mut pass, &Op::Beat).is_some());
+    assert!(rt; does(rt, shared, &mut pass, Op::Beat).is_some());
 }
 
 /// Whether the journal comes to have so many steps.

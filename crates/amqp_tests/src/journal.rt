@@ -86,8 +86,8 @@ fn operation(alloc: Global, place: u32) -> Result<Op, AllocError> {
     }
 }
 
-fn does(conn: &mut Conn, op: &Op) -> Result<(), Fail> {
-    match conn.apply(op) {
+fn does(conn: &mut Conn, op: Op) -> Result<(), Fail> {
+    match conn.apply(&op) {
         Ok(given) => {
             drop(given);
             Ok(())
@@ -123,8 +123,7 @@ fn shows(alloc: Global, forgets: bool) -> Result<Vec<Shown>, Fail> {
         if forgets {
             conn.forget();
         }
-        let op = operation(alloc, place)?;
-        does(&mut conn, &op)?;
+        does(&mut conn, operation(alloc, place)?)?;
         shown.push(show(&mut conn))?;
     }
     Ok(shown)
@@ -141,12 +140,12 @@ fn readers_show_the_same(rt: HostRuntime) -> Result<(), Fail> {
 /// How many entries the journal gives after three steps, after these are forgotten, and after two more.
 fn lengths(alloc: Global) -> Result<[usize; 3], Fail> {
     let mut conn = begun(alloc)?;
-    does(&mut conn, &Op::Begin)?;
+    does(&mut conn, Op::Begin)?;
     let before = conn.logged().journal().len();
     conn.forget();
     let after = conn.logged().journal().len();
-    does(&mut conn, &Op::Beat)?;
-    does(&mut conn, &Op::Beat)?;
+    does(&mut conn, Op::Beat)?;
+    does(&mut conn, Op::Beat)?;
     Ok([before, after, conn.logged().journal().len()])
 }
 
@@ -156,21 +155,26 @@ fn entries_are_gone(rt: HostRuntime) -> Result<(), Fail> {
     Ok(())
 }
 
+fn stands(conn: &Conn, op: Op, receipt: &Receipt) -> bool {
+    let stands = conn.logged().stands(&op, receipt);
+    drop(op);
+    stands
+}
+
 /// Whether the begin's receipt stands, whether it does once it is forgotten, and whether the next step's does.
 fn standing(alloc: Global) -> Result<[bool; 3], Fail> {
     let mut conn = begun(alloc)?;
-    does(&mut conn, &Op::Begin)?;
-    let before = conn.logged().stands(&Op::Begin, &BEGIN);
+    does(&mut conn, Op::Begin)?;
+    let before = stands(&conn, Op::Begin, &BEGIN);
     conn.forget();
-    let after = conn.logged().stands(&Op::Begin, &BEGIN);
-    let op = attach(alloc)?;
-    does(&mut conn, &op)?;
+    let after = stands(&conn, Op::Begin, &BEGIN);
+    does(&mut conn, attach(alloc)?)?;
     let next = Receipt {
         place: 3,
         link: Some(0),
         id: None,
     };
-    Ok([before, after, conn.logged().stands(&op, &next)])
+    Ok([before, after, stands(&conn, attach(alloc)?, &next)])
 }
 
 #[test]

@@ -54,14 +54,16 @@ fn many_threads<N: Name + Send + Sync, R: Threads + Wait + Abort + Sync>(
     requires { IsNamed seed N.name N.parts N.ring }
 {
     let (shared, mut pass, writer) = open_shared::<N>(seed);
-    with_link(rt, alloc, &shared, &mut pass)?;
+    with_link(rt, alloc, &shared, &mut pass);
     let mut flow = FLOW;
     flow[29] = CALLERS * TURNS;
     hear(rt, &shared, &mut pass, &flow);
     let callers = callers(alloc, &mut pass)?;
     let (writer, called) = call_and_write(rt, &shared, writer, callers);
     let (passes, receipts) = gather(alloc, pass, called?)?;
-    let closed = left_and_taken(shared, passes, writer).ok_or("not closed")?;
+    let Some(closed) = left_and_taken(shared, passes, writer) else {
+        panic!(rt; "not closed");
+    };
     assert_eq!(rt; (closed.taken, closed.left.len()), (UNITS, 0));
     assert_eq!(rt; closed.conn.logged().journal().len(), STEPS);
     assert!(rt; all_stand(alloc, &closed.conn, receipts.as_slice()));
@@ -74,14 +76,30 @@ fn many_threads<N: Name + Send + Sync, R: Threads + Wait + Abort + Sync>(
 fn callers<N: Name>(alloc: Global, pass: &mut Pass<N>) -> Result<Vec<Caller<N>>, Fail> {
     let mut callers = Vec::new(alloc);
     for number in 0..CALLERS {
-        let pass = pass.split().ok_or("no part")?;
-        callers.push(Caller {
-            pass,
-            number,
-            alloc,
-        })?;
+        put_caller(alloc, &mut callers, pass, number)?;
     }
     Ok(callers)
+}
+
+/// A caller of this number behind the others, with a part of the pass.
+fn put_caller<N: Name>(
+    alloc: Global,
+    callers: &mut Vec<Caller<N>>,
+    pass: &mut Pass<N>,
+    number: u8,
+) -> Result<(), Fail> {
+    let Some(part) = pass.split() else {
+        return Err(Fail::new("no part"));
+    };
+    let caller = Caller {
+        pass: part,
+        number,
+        alloc,
+    };
+    match callers.push(caller) {
+        Ok(()) => Ok(()),
+        Err(_) => Err(Fail::new("memory")),
+    }
 }
 
 /// All passes, and the receipts of each caller, whose pass counts them.
@@ -159,7 +177,7 @@ fn start_all<N: Name, R: Wait>(rt: &R, shared: &Shared<N>, caller: Caller<N>) ->
     let mut receipts = Vec::new(alloc);
     for turn in 0..TURNS {
         let op = start(alloc, [number, turn])?;
-        let receipt = does(rt, shared, &mut pass, &op)?;
+        let receipt = does(rt, shared, &mut pass, op)?;
         receipts.push(receipt).ok()?;
     }
     Some(Called {

@@ -2,7 +2,7 @@
 ghost use Rattle.std.specs.Prelude.{◌≡◌, vec_len};
 ghost use Rattle.amqp_shared.specs.Passes.{IsNamed};
 
-use super::{CLOSE, GREETING, comes_to, does, hear, left_and_taken, seed};
+use super::{CLOSE, GREETING, attaches, comes_to, does, hear, left_and_taken, seed};
 use amqp_conn::Conn;
 use amqp_frames::{DeliveryState, Role};
 use amqp_journal::receipt::Receipt;
@@ -10,7 +10,6 @@ use amqp_rules::op::Op;
 use amqp_rules::refusal::Refusal;
 use amqp_rules::reply::Taken;
 use amqp_shared::{Consumed, Name, Pass, Seed, Shared, Work, open_shared, run_consumers};
-use amqp_types::Text;
 use std::alloc::{AllocError, Global};
 use std::marker::Brand;
 use std::process::Abort;
@@ -37,29 +36,15 @@ fn with_deliveries<N: Name, R: Wait + Abort>(
     alloc: Global,
     shared: &Shared<N>,
     pass: &mut Pass<N>,
-) -> Result<(), Fail> {
+) {
     hear(rt, shared, pass, &GREETING);
-    assert!(rt; does(rt, shared, pass, &Op::Begin).is_some());
+    assert!(rt; does(rt, shared, pass, Op::Begin).is_some());
     hear(rt, shared, pass, &SESSION[..28]);
-    assert!(rt; does(rt, shared, pass, &attach(alloc, "p")?).is_some());
+    assert!(rt; attaches(rt, alloc, shared, pass, "p", Role::Receiver, 1));
     hear(rt, shared, pass, &SESSION[28..]);
-    assert!(rt; does(rt, shared, pass, &attach(alloc, "q")?).is_some());
-    assert!(rt; does(rt, shared, pass, &grant()).is_some());
+    assert!(rt; attaches(rt, alloc, shared, pass, "q", Role::Receiver, 1));
+    assert!(rt; does(rt, shared, pass, grant()).is_some());
     hear(rt, shared, pass, &DELIVERIES);
-    Ok(())
-}
-
-fn attach(alloc: Global, name: &str) -> Result<Op, AllocError> {
-    Ok(Op::Attach {
-        name: Text::new(alloc, name)?,
-        role: Role::Receiver,
-        snd: 2,
-        rcv: 1,
-        source: None,
-        target: None,
-        count: 0,
-        max_message: 0,
-    })
 }
 
 /// Two deliveries may begin on link 1.
@@ -138,15 +123,19 @@ fn settled_and_second<N: Name + Send + Sync, R: Threads + Wait + Abort + Sync>(
     requires { IsNamed seed N.name N.parts N.ring }
 {
     let (shared, mut pass, writer) = open_shared::<N>(seed);
-    with_deliveries(rt, alloc, &shared, &mut pass)?;
-    let own = pass.split().ok_or("no part")?;
+    with_deliveries(rt, alloc, &shared, &mut pass);
+    let Some(own) = pass.split() else {
+        panic!(rt; "no part");
+    };
     let (own, told) = ended_by_two(rt, alloc, &shared, own)?;
     assert_eq!(rt; told, (2, 2, Refusal::NotRunning));
     assert_eq!(rt; own.made(), 4);
     let mut passes = Vec::new(alloc);
-    passes.push(pass)?;
-    passes.push(own)?;
-    let closed = left_and_taken(shared, passes, writer).ok_or("not closed")?;
+    assert!(rt; passes.push(pass).is_ok());
+    assert!(rt; passes.push(own).is_ok());
+    let Some(closed) = left_and_taken(shared, passes, writer) else {
+        panic!(rt; "not closed");
+    };
     assert_eq!(rt; closed.conn.logged().journal().len(), 13);
     let disposed = Op::Dispose {
         role: Role::Receiver,
@@ -178,7 +167,7 @@ fn ended_by_two<N: Name + Send + Sync, R: Threads + Wait + Abort + Sync>(
     pass: Pass<N>,
 ) -> Result<(Pass<N>, (u64, u64, Refusal)), Fail> {
     let mut passes = Vec::new(alloc);
-    passes.push(pass)?;
+    assert!(rt; passes.push(pass).is_ok());
     let mut works = Vec::new(alloc);
     works.push(Ending {
         rt,
@@ -187,7 +176,9 @@ fn ended_by_two<N: Name + Send + Sync, R: Threads + Wait + Abort + Sync>(
         right: 0,
     })?;
     let mut done = run_consumers(rt, shared, passes, works, 1, 2)?;
-    let consumed = done.pop().ok_or("nothing consumed")?;
+    let Some(consumed) = done.pop() else {
+        panic!(rt; "nothing consumed");
+    };
     let told = (consumed.count, consumed.work.right, consumed.stopped);
     Ok((consumed.pass, told))
 }
@@ -244,8 +235,10 @@ fn settled_meanwhile<N: Name + Send + Sync, R: Threads + Wait + Abort + Sync>(
     requires { IsNamed seed N.name N.parts N.ring }
 {
     let (shared, mut pass, _) = open_shared::<N>(seed);
-    with_deliveries(rt, alloc, &shared, &mut pass)?;
-    let own = pass.split().ok_or("no part")?;
+    with_deliveries(rt, alloc, &shared, &mut pass);
+    let Some(own) = pass.split() else {
+        panic!(rt; "no part");
+    };
     let (own, told) = settled_by_peer(rt, alloc, &shared, own, pass)?;
     assert_eq!(rt; told, (2, Refusal::NotRunning));
     assert_eq!(rt; own.made(), 3);
@@ -264,11 +257,13 @@ fn settled_by_peer<N: Name + Send + Sync, R: Threads + Wait + Abort + Sync>(
     pass: Pass<N>,
 ) -> Result<(Pass<N>, (u64, Refusal)), Fail> {
     let mut passes = Vec::new(alloc);
-    passes.push(own)?;
+    assert!(rt; passes.push(own).is_ok());
     let mut works = Vec::new(alloc);
     works.push(Settling { rt, shared, pass })?;
     let mut done = run_consumers(rt, shared, passes, works, 1, 2)?;
-    let consumed = done.pop().ok_or("nothing consumed")?;
+    let Some(consumed) = done.pop() else {
+        panic!(rt; "nothing consumed");
+    };
     let told = (consumed.count, consumed.stopped);
     Ok((consumed.pass, told))
 }
@@ -316,7 +311,7 @@ fn three_at_once<N: Name + Send + Sync, R: Threads + Wait + Abort + Sync>(
     requires { IsNamed seed N.name N.parts N.ring }
 {
     let (shared, mut pass, _) = open_shared::<N>(seed);
-    with_deliveries(rt, alloc, &shared, &mut pass)?;
+    with_deliveries(rt, alloc, &shared, &mut pass);
     let mut passes = Vec::new(alloc);
     let mut works = Vec::new(alloc);
     for _ in 0..3u8 {
@@ -372,14 +367,14 @@ fn stopped_by_a_grant<N: Name + Send + Sync, R: Threads + Wait + Abort + Sync>(
     requires { IsNamed seed N.name N.parts N.ring }
 {
     let (shared, mut pass, _) = open_shared::<N>(seed);
-    with_deliveries(rt, alloc, &shared, &mut pass)?;
+    with_deliveries(rt, alloc, &shared, &mut pass);
     let more = Op::Grant {
         link: 1,
         credit: 5,
         drain: false,
         echo: false,
     };
-    assert!(rt; does(rt, &shared, &mut pass, &more).is_some());
+    assert!(rt; does(rt, &shared, &mut pass, more).is_some());
     let (pass, told) = accepted_on(rt, alloc, &shared, pass, 1)?;
     assert_eq!(rt; told, (1, Refusal::CreditRecedes));
     let made = pass.made();
@@ -420,7 +415,7 @@ fn left_to_two<N: Name + Send + Sync, R: Threads + Wait + Abort + Sync>(
     requires { IsNamed seed N.name N.parts N.ring }
 {
     let (shared, mut pass, _) = open_shared::<N>(seed);
-    with_deliveries(rt, alloc, &shared, &mut pass)?;
+    with_deliveries(rt, alloc, &shared, &mut pass);
     hear(rt, &shared, &mut pass, &CLOSE);
     let mut passes = Vec::new(alloc);
     let mut works = Vec::new(alloc);

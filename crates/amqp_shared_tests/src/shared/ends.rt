@@ -2,12 +2,11 @@
 ghost use Rattle.std.specs.Prelude.{◌≡◌};
 ghost use Rattle.amqp_shared.specs.Passes.{IsNamed};
 
-use super::{comes_to, does, hear, seed_of, start, with_link};
+use super::{attaches, comes_to, does, hear, seed_of, start, with_link};
 use amqp_frames::Role;
 use amqp_rules::op::Op;
 use amqp_rules::refusal::Refusal;
 use amqp_shared::{Name, Pass, Seed, Shared, open_shared};
-use amqp_types::Text;
 use std::alloc::{AllocError, Global};
 use std::marker::Brand;
 use std::process::Abort;
@@ -108,8 +107,8 @@ fn end_in<N: Name, R: Wait + Abort>(rt: &R, shared: &Shared<N>, ender: Ender<N>)
     assert!(rt; comes_to(rt, shared, usize::from(steps)));
     match way {
         Way::Detaches => detach(rt, shared, &mut pass),
-        Way::Ends => drop(does(rt, shared, &mut pass, &Op::End { error: None })),
-        Way::Fills => drop(does(rt, shared, &mut pass, &Op::Beat)),
+        Way::Ends => drop(does(rt, shared, &mut pass, Op::End { error: None })),
+        Way::Fills => drop(does(rt, shared, &mut pass, Op::Beat)),
         Way::HearsDetaches => hear_all(rt, shared, &mut pass, &DETACHES),
         Way::HearsEnd => hear_all(rt, shared, &mut pass, &END),
         Way::HearsBadFrame => hear_all(rt, shared, &mut pass, &BAD),
@@ -125,7 +124,7 @@ fn detach<N: Name, R: Wait>(rt: &R, shared: &Shared<N>, pass: &mut Pass<N>) {
         link: 0,
         error: None,
     };
-    let _ = does(rt, shared, pass, &op);
+    let _ = does(rt, shared, pass, op);
 }
 
 /// Feeds the octets, to their end or to a fault.
@@ -159,24 +158,10 @@ fn with_links<N: Name, R: Wait + Abort>(
     alloc: Global,
     shared: &Shared<N>,
     pass: &mut Pass<N>,
-) -> Result<(), Fail> {
-    with_link(rt, alloc, shared, pass)?;
-    assert!(rt; does(rt, shared, pass, &receiving(alloc)?).is_some());
+) {
+    with_link(rt, alloc, shared, pass);
+    assert!(rt; attaches(rt, alloc, shared, pass, "p", Role::Receiver, 0));
     hear(rt, shared, pass, &SENDS);
-    Ok(())
-}
-
-fn receiving(alloc: Global) -> Result<Op, AllocError> {
-    Ok(Op::Attach {
-        name: Text::new(alloc, "p")?,
-        role: Role::Receiver,
-        snd: 2,
-        rcv: 0,
-        source: None,
-        target: None,
-        count: 0,
-        max_message: 0,
-    })
 }
 
 /// A thread for each of these numbers waits, and is refused so where what it waits for is taken away: one that takes or learns, and one that starts.
@@ -191,16 +176,11 @@ fn refused_all<N: Name + Send + Sync, R: Threads + Wait + Abort + Sync>(
     requires { IsNamed seed N.name N.parts N.ring }
 {
     let (shared, mut pass, _) = open_shared::<N>(seed);
-    with_links(rt, alloc, &shared, &mut pass)?;
+    with_links(rt, alloc, &shared, &mut pass);
     let mut waiters = Vec::new(alloc);
     let mut steps = SET_UP;
     for number in numbers.0..numbers.1 {
-        let pass = pass.split().ok_or("no part")?;
-        waiters.push(Waiter {
-            pass,
-            number,
-            alloc,
-        })?;
+        put_waiter(alloc, &mut waiters, &mut pass, number)?;
         steps = steps.saturating_add(1);
     }
     let told = wait_and_end(rt, &shared, waiters, Ender { pass, way, steps })?;
@@ -208,6 +188,27 @@ fn refused_all<N: Name + Send + Sync, R: Threads + Wait + Abort + Sync>(
         assert_eq!(rt; refused, Some(if number == 1 { due.1 } else { due.0 }));
     }
     Ok(())
+}
+
+/// A waiter of this number behind the others, with a part of the pass.
+fn put_waiter<N: Name>(
+    alloc: Global,
+    waiters: &mut Vec<Waiter<N>>,
+    pass: &mut Pass<N>,
+    number: u8,
+) -> Result<(), Fail> {
+    let Some(part) = pass.split() else {
+        return Err(Fail::new("no part"));
+    };
+    let waiter = Waiter {
+        pass: part,
+        number,
+        alloc,
+    };
+    match waiters.push(waiter) {
+        Ok(()) => Ok(()),
+        Err(_) => Err(Fail::new("memory")),
+    }
 }
 
 fn wait_and_end<N: Name + Send + Sync, R: Threads + Wait + Abort + Sync>(

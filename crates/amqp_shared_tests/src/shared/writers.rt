@@ -72,8 +72,10 @@ fn two_wait<N: Name + Send + Sync, R: Threads + Wait + Abort + Sync>(
 {
     let (shared, mut pass, _) = open_shared::<N>(seed);
     hear(rt, &shared, &mut pass, &GREETING);
-    assert!(rt; does(rt, &shared, &mut pass, &Op::Begin).is_some());
-    let own = pass.split().ok_or("no part")?;
+    assert!(rt; does(rt, &shared, &mut pass, Op::Begin).is_some());
+    let Some(own) = pass.split() else {
+        panic!(rt; "no part");
+    };
     assert_eq!(rt; told_in_turn(rt, &shared, own, pass), (5, false));
     Ok(())
 }
@@ -110,11 +112,11 @@ fn answer_in_turn<N: Name, R: Wait + Abort>(rt: &R, shared: &Shared<N>, own: Pas
     let mut own = own;
     let (count, is_closed) = shared.wait_units(rt, 3);
     assert_eq!(rt; (count, is_closed), (4, false));
-    assert!(rt; does(rt, shared, &mut own, &Op::Beat).is_some());
+    assert!(rt; does(rt, shared, &mut own, Op::Beat).is_some());
 }
 
 fn beat<N: Name, R: Wait + Abort>(rt: &R, shared: &Shared<N>, pass: Pass<N>) {
     let mut pass = pass;
     pause();
-    assert!(rt; does(rt, shared, &mut pass, &Op::Beat).is_some());
+    assert!(rt; does(rt, shared, &mut pass, Op::Beat).is_some());
 }
