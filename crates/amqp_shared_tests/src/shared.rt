@@ -12,7 +12,9 @@ use amqp_frames::Role;
 use amqp_journal::receipt::Receipt;
 use amqp_rules::op::Op;
 use amqp_rules::refusal::Refusal;
-use amqp_shared::{CloseReason, Closed, Name, Pass, Seed, Shared, WriterEnd, open_shared};
+use amqp_shared::{
+    CloseReason, Closed, Name, NotClosed, Pass, Seed, Shared, WriterEnd, open_shared,
+};
 use amqp_types::{Tag, Text};
 use bytes::Bytes;
 use std::alloc::Global;
@@ -225,41 +227,70 @@ fn took_two<N: Name>(writer: WriterEnd<N>) -> (WriterEnd<N>, (Option<u64>, Optio
 
 #[test]
 fn a_pass_is_kept_back(rt: HostRuntime) -> Result<(), Fail> {
-    kept_back::<Brand, HostRuntime>(&rt, rt.alloc(), seed(rt.alloc(), 4)?)
+    kept_back::<Brand, HostRuntime>(&rt, rt.alloc(), seed(rt.alloc(), 4)?);
+    Ok(())
 }
 
 /// What was handed back goes on, with the octets of a close whose first half came before.
-fn kept_back<N: Name, R: Wait + Abort>(rt: &R, alloc: Global, seed: Seed) -> Result<(), Fail>
+fn kept_back<N: Name, R: Wait + Abort>(rt: &R, alloc: Global, seed: Seed)
     requires { IsNamed seed N.name N.parts N.ring }
 {
     let (shared, mut pass, writer) = open_shared::<N>(seed);
+    let other = half_closed(rt, &shared, &mut pass);
+    let kept = not_closed(rt, alloc, shared, pass, writer);
+    assert!(rt; kept.reason == CloseReason::PassesMissing { made: 1, steps: 3 });
+    close_by_both(rt, kept, other);
+}
+
+/// A part of the pass that made two steps; half of the peer's close was heard.
+fn half_closed<N: Name, R: Wait + Abort>(
+    rt: &R,
+    shared: &Shared<N>,
+    pass: &mut Pass<N>,
+) -> Pass<N> {
     let Some(mut other) = pass.split() else {
         panic!(rt; "no part");
     };
     assert!(rt; other.split().is_none());
-    hear(rt, &shared, &mut pass, &GREETING);
-    assert!(rt; does(rt, &shared, &mut other, Op::Begin).is_some());
-    assert!(rt; does(rt, &shared, &mut other, Op::Beat).is_some());
-    hear(rt, &shared, &mut pass, &CLOSE[..5]);
+    hear(rt, shared, pass, &GREETING);
+    assert!(rt; does(rt, shared, &mut other, Op::Begin).is_some());
+    assert!(rt; does(rt, shared, &mut other, Op::Beat).is_some());
+    hear(rt, shared, pass, &CLOSE[..5]);
+    other
+}
+
+/// What is handed back where this pass alone is given.
+fn not_closed<N: Name, R: Abort>(
+    rt: &R,
+    alloc: Global,
+    shared: Shared<N>,
+    pass: Pass<N>,
+    writer: WriterEnd<N>,
+) -> NotClosed<N> {
     let mut passes = Vec::new(alloc);
     assert!(rt; passes.push(pass).is_ok());
-    let Err(refusal) = shared.close(passes, writer) else {
-        panic!(rt; "closed");
-    };
-    assert_eq!(rt;
-        refusal.reason,
-        CloseReason::PassesMissing { made: 1, steps: 3 }
-    );
-    let (shared, mut passes, writer) = refusal.into_parts();
+    match shared.close(passes, writer) {
+        Ok(_) => panic!(rt; "closed"),
+        Err(kept) => kept,
+    }
+}
+
+/// The other pass makes a step more and hears the rest of the peer's close, and then both are given.
+fn close_by_both<N: Name, R: Wait + Abort>(rt: &R, kept: NotClosed<N>, other: Pass<N>) {
+    let mut other = other;
+    let (shared, mut passes, writer) = kept.into_parts();
     assert!(rt; does(rt, &shared, &mut other, Op::Beat).is_some());
     hear(rt, &shared, &mut other, &CLOSE[5..]);
     assert!(rt; passes.push(other).is_ok());
     let Some(closed) = left_and_taken(shared, passes, writer) else {
         panic!(rt; "not closed");
     };
-    assert!(rt; closed.conn.phase() == Phase::Closed);
-    assert_eq!(rt; (closed.taken, closed.left.len()), (0, 6));
-    Ok(())
+    assert!(rt; has_ended(&closed));
+}
+
+/// The connection is closed, and nobody took its six units.
+fn has_ended(closed: &Closed) -> bool {
+    closed.conn.phase() == Phase::Closed && closed.taken == 0 && closed.left.len() == 6
 }
 
 #[test]

@@ -118,15 +118,27 @@ fn show(conn: &mut Conn) -> Shown {
 /// What is shown after each operation, where all entries are forgotten before it, or none ever.
 fn shows(alloc: Global, forgets: bool) -> Result<Vec<Shown>, Fail> {
     let mut conn = begun(alloc)?;
+    let shown = shows_of(&mut conn, alloc, forgets);
+    drop(conn);
+    shown
+}
+
+/// The same of a connection that is lent: a way out that lets one go is dear to prove.
+fn shows_of(conn: &mut Conn, alloc: Global, forgets: bool) -> Result<Vec<Shown>, Fail> {
     let mut shown = Vec::new(alloc);
     for place in 0..CALLS {
         if forgets {
             conn.forget();
         }
-        does(&mut conn, operation(alloc, place)?)?;
-        shown.push(show(&mut conn))?;
+        shown.push(shows_next(conn, alloc, place)?)?;
     }
     Ok(shown)
+}
+
+/// What is shown after the operation of this place.
+fn shows_next(conn: &mut Conn, alloc: Global, place: u32) -> Result<Shown, Fail> {
+    does(conn, operation(alloc, place)?)?;
+    Ok(show(conn))
 }
 
 #[test]
@@ -140,12 +152,18 @@ fn readers_show_the_same(rt: HostRuntime) -> Result<(), Fail> {
 /// How many entries the journal gives after three steps, after these are forgotten, and after two more.
 fn lengths(alloc: Global) -> Result<[usize; 3], Fail> {
     let mut conn = begun(alloc)?;
-    does(&mut conn, Op::Begin)?;
+    let lengths = lengths_of(&mut conn);
+    drop(conn);
+    lengths
+}
+
+fn lengths_of(conn: &mut Conn) -> Result<[usize; 3], Fail> {
+    does(conn, Op::Begin)?;
     let before = conn.logged().journal().len();
     conn.forget();
     let after = conn.logged().journal().len();
-    does(&mut conn, Op::Beat)?;
-    does(&mut conn, Op::Beat)?;
+    does(conn, Op::Beat)?;
+    does(conn, Op::Beat)?;
     Ok([before, after, conn.logged().journal().len()])
 }
 
@@ -164,17 +182,23 @@ fn stands(conn: &Conn, op: Op, receipt: &Receipt) -> bool {
 /// Whether the begin's receipt stands, whether it does once it is forgotten, and whether the next step's does.
 fn standing(alloc: Global) -> Result<[bool; 3], Fail> {
     let mut conn = begun(alloc)?;
-    does(&mut conn, Op::Begin)?;
-    let before = stands(&conn, Op::Begin, &BEGIN);
+    let standing = standing_of(&mut conn, alloc);
+    drop(conn);
+    standing
+}
+
+fn standing_of(conn: &mut Conn, alloc: Global) -> Result<[bool; 3], Fail> {
+    does(conn, Op::Begin)?;
+    let before = stands(conn, Op::Begin, &BEGIN);
     conn.forget();
-    let after = stands(&conn, Op::Begin, &BEGIN);
-    does(&mut conn, attach(alloc)?)?;
+    let after = stands(conn, Op::Begin, &BEGIN);
+    does(conn, attach(alloc)?)?;
     let next = Receipt {
         place: 3,
         link: Some(0),
         id: None,
     };
-    Ok([before, after, stands(&conn, attach(alloc)?, &next)])
+    Ok([before, after, stands(conn, attach(alloc)?, &next)])
 }
 
 #[test]
