@@ -23,10 +23,10 @@ fn send<S: Source, K: Sink>(
     let target = ops::target(alloc, Text::new(alloc, queue)?)?;
     let link = ops::attach(Text::new(alloc, queue)?, Role::Sender, None, Some(target));
     let tag = Tag::new(&[0]).context("a tag has at most 32 octets")?;
-    apply(&mut pump, from, to, &mut conn, ops::begin())?;
-    apply(&mut pump, from, to, &mut conn, link)?;
-    apply(&mut pump, from, to, &mut conn, ops::start(0, tag, message))?;
-    let outcome = apply(&mut pump, from, to, &mut conn, ops::learn(0))?;
+    apply(&mut pump, from, to, &mut conn, &ops::begin())?;
+    apply(&mut pump, from, to, &mut conn, &link)?;
+    apply(&mut pump, from, to, &mut conn, &ops::start(0, tag, message))?;
+    let outcome = apply(&mut pump, from, to, &mut conn, &ops::learn(0))?;
     conn.close(None)?;
     run(&mut pump, from, to, &mut conn, TURNS)?;
     Ok(outcome)
@@ -34,18 +34,6 @@ fn send<S: Source, K: Sink>(
 
 /// Does the operation as soon as what the peer says allows it.
 fn apply<S: Source, K: Sink>(
-    pump: &mut Pump,
-    from: &mut S,
-    to: &mut K,
-    conn: &mut Conn,
-    op: Op,
-) -> anyhow::Result<Given> {
-    let given = apply_in_turns(pump, from, to, conn, &op);
-    drop(op);
-    given
-}
-
-fn apply_in_turns<S: Source, K: Sink>(
     pump: &mut Pump,
     from: &mut S,
     to: &mut K,

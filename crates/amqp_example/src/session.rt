@@ -19,18 +19,18 @@ pub fn run<R: AllocGlobal + Print>(rt: &R) -> anyhow::Result<()> {
     let alloc = rt.alloc();
     let mut sender = End::new(alloc, "sender")?;
     let mut receiver = End::new(alloc, "receiver")?;
-    sender.apply(rt, ops::begin())?;
+    sender.apply(rt, &ops::begin())?;
     exchange(rt, &mut sender, &mut receiver)?;
-    receiver.apply(rt, ops::begin())?;
+    receiver.apply(rt, &ops::begin())?;
     exchange(rt, &mut sender, &mut receiver)?;
-    sender.apply(rt, attach(alloc, "news", Role::Sender)?)?;
-    receiver.apply(rt, attach(alloc, "news", Role::Receiver)?)?;
+    sender.apply(rt, &attach(alloc, "news", Role::Sender)?)?;
+    receiver.apply(rt, &attach(alloc, "news", Role::Receiver)?)?;
     exchange(rt, &mut sender, &mut receiver)?;
     // The link has no credit yet. A refusal has changed nothing, so the same operation may be tried again.
-    sender.apply(rt, start(alloc, 0)?)?;
-    receiver.apply(rt, ops::grant(0, 10))?;
+    sender.apply(rt, &start(alloc, 0)?)?;
+    receiver.apply(rt, &ops::grant(0, 10))?;
     exchange(rt, &mut sender, &mut receiver)?;
-    sender.apply(rt, start(alloc, 0)?)?;
+    sender.apply(rt, &start(alloc, 0)?)?;
     exchange(rt, &mut sender, &mut receiver)?;
     settle(rt, &mut sender, &mut receiver)
 }
@@ -41,10 +41,10 @@ fn settle<R: AllocGlobal + Print>(
     sender: &mut End,
     receiver: &mut End,
 ) -> anyhow::Result<()> {
-    receiver.apply(rt, ops::take(0))?;
-    receiver.apply(rt, ops::accept(0))?;
+    receiver.apply(rt, &ops::take(0))?;
+    receiver.apply(rt, &ops::accept(0))?;
     exchange(rt, sender, receiver)?;
-    sender.apply(rt, ops::learn(0))?;
+    sender.apply(rt, &ops::learn(0))?;
     sender.tell_steps(rt)?;
     receiver.tell_steps(rt)
 }
@@ -75,10 +75,8 @@ impl End {
     }
 
     /// Does an operation. What is to be sent waits as a unit.
-    fn apply<R: Print>(&mut self, rt: &R, op: Op) -> anyhow::Result<()> {
-        let applied = self.logged.apply(&op);
-        drop(op);
-        match applied {
+    fn apply<R: Print>(&mut self, rt: &R, op: &Op) -> anyhow::Result<()> {
+        match self.logged.apply(op) {
             Ok(given) => self.tell(rt, &given),
             Err(refusal) => Ok(println!(rt; "{}: refused, {refusal}", self.name)?),
         }

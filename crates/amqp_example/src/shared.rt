@@ -53,14 +53,19 @@ fn begin<N: Name, R: AllocGlobal + Print + Wait>(
     peer: &mut End,
 ) -> anyhow::Result<()> {
     exchange(rt, shared, pass, writer, peer)?;
-    apply(rt, shared, pass, ops::begin())?;
+    apply(rt, shared, pass, &ops::begin())?;
     exchange(rt, shared, pass, writer, peer)?;
-    peer.apply(rt, ops::begin())?;
+    peer.apply(rt, &ops::begin())?;
     exchange(rt, shared, pass, writer, peer)?;
-    apply(rt, shared, pass, attach(rt.alloc(), "there", Role::Sender)?)?;
+    apply(
+        rt,
+        shared,
+        pass,
+        &attach(rt.alloc(), "there", Role::Sender)?,
+    )?;
     exchange(rt, shared, pass, writer, peer)?;
-    peer.apply(rt, attach(rt.alloc(), "there", Role::Receiver)?)?;
-    peer.apply(rt, ops::grant(0, 10))?;
+    peer.apply(rt, &attach(rt.alloc(), "there", Role::Receiver)?)?;
+    peer.apply(rt, &ops::grant(0, 10))?;
     exchange(rt, shared, pass, writer, peer)
 }
 
@@ -104,17 +109,17 @@ fn send<N: Name, R: AllocGlobal + Wait>(
     let tag_of = Tag::new(&tag).context("a tag has at most 32 octets")?;
     let payload = Bytes::copy_from_slice(rt.alloc(), &tag)?;
     let start = ops::start(0, tag_of, payload);
-    apply(rt, shared, pass, start)
+    apply(rt, shared, pass, &start)
 }
 
 fn apply<N: Name, R: Wait>(
     rt: &R,
     shared: &Shared<N>,
     pass: &mut Pass<N>,
-    op: Op,
+    op: &Op,
 ) -> anyhow::Result<()> {
     let mut guard = shared.lock(rt);
-    match shared.call(&mut guard, pass, &op) {
+    match shared.call(&mut guard, pass, op) {
         Ok(_) => Ok(()),
         Err(refusal) => Err(refusal.into()),
     }

@@ -167,7 +167,7 @@ fn ended_by_two<N: Name + Send + Sync, R: Threads + Wait + Abort + Sync>(
     pass: Pass<N>,
 ) -> Result<(Pass<N>, (u64, u64, Refusal)), Fail> {
     let mut passes = Vec::new(alloc);
-    assert!(rt; passes.push(pass).is_ok());
+    passes.push(pass)?;
     let mut works = Vec::new(alloc);
     works.push(Ending {
         rt,
@@ -257,7 +257,7 @@ fn settled_by_peer<N: Name + Send + Sync, R: Threads + Wait + Abort + Sync>(
     pass: Pass<N>,
 ) -> Result<(Pass<N>, (u64, Refusal)), Fail> {
     let mut passes = Vec::new(alloc);
-    assert!(rt; passes.push(own).is_ok());
+    passes.push(own)?;
     let mut works = Vec::new(alloc);
     works.push(Settling { rt, shared, pass })?;
     let mut done = run_consumers(rt, shared, passes, works, 1, 2)?;
