@@ -1,16 +1,18 @@
 //! Worked examples, and a thousand deliveries whose ids wrap.
-use amqp_deliveries::{Disposition, Held, HeldItem, Partial};
+use amqp_deliveries::{Disposition, Held, HeldItem, Partial, Parts};
 use amqp_performatives::DeliveryState;
 use amqp_types::Tag;
 use bytes::Bytes;
-use std::alloc::Global;
+use std::alloc::{AllocError, Global};
 use std::test::Fail;
 
-/// Begins a delivery, where its id and tag may stand.
-fn begin(held: &mut Held, id: u32, link: u32, octets: &[u8]) -> Result<(), &'static str> {
-    let tag = Tag::new(octets).ok_or("a tag of at most 32 octets")?;
+/// Whether a delivery begins, as its id and tag may stand.
+fn begins(held: &mut Held, id: u32, link: u32, octets: &[u8]) -> bool {
+    let Some(tag) = Tag::new(octets) else {
+        return false;
+    };
     if !held.follows(id) || held.holds_tag(link, &tag) {
-        return Err("the id follows, and the tag is new");
+        return false;
     }
     let item = HeldItem {
         id,
@@ -20,10 +22,7 @@ fn begin(held: &mut Held, id: u32, link: u32, octets: &[u8]) -> Result<(), &'sta
         local: None,
         remote: None,
     };
-    match held.add(item) {
-        Ok(()) => Ok(()),
-        Err(_) => Err("memory"),
-    }
+    held.add(item).is_ok()
 }
 
 /// What settles these ids, or accepts them.
@@ -37,20 +36,26 @@ fn said(first: u32, last: u32, settled: bool) -> Disposition {
 }
 
 /// Ids 4294967295, 0 and 1, on links 0, 0 and 1, with tags 01, 02 and 01.
-fn three(alloc: Global) -> Result<Held, &'static str> {
+fn three(alloc: Global) -> Result<Held, Fail> {
     let mut held = Held::new(alloc);
-    begin(&mut held, 4294967295, 0, b"\x01")?;
-    begin(&mut held, 0, 0, b"\x02")?;
-    begin(&mut held, 1, 1, b"\x01")?;
-    Ok(held)
+    if begins(&mut held, 4294967295, 0, b"\x01")
+        && begins(&mut held, 0, 0, b"\x02")
+        && begins(&mut held, 1, 1, b"\x01")
+    {
+        Ok(held)
+    } else {
+        Err(Fail::new("three begin"))
+    }
 }
 
 /// A thousand from id 4294966796 on, on links 0 and 1 in turn, each with its id as its tag; every second ended, one by one.
-fn five_hundred(alloc: Global) -> Result<Held, &'static str> {
+fn five_hundred(alloc: Global) -> Result<Held, Fail> {
     let mut held = Held::new(alloc);
     for i in 0..1000u32 {
         let id = 4294966796u32.wrapping_add(i);
-        begin(&mut held, id, i / 2 % 2, &id.to_be_bytes())?;
+        if !begins(&mut held, id, i / 2 % 2, &id.to_be_bytes()) {
+            return Err(Fail::new("a thousand begin"));
+        }
     }
     for i in 0..500u32 {
         let id = 4294966797u32.wrapping_add(2 * i);
@@ -67,74 +72,110 @@ fn id_at(held: &Held, place: usize) -> Option<u32> {
     }
 }
 
+/// A range that ends twice ends once, and then the link of what is left.
+fn ends_once(held: &mut Held) -> bool {
+    let settled = said(4294967295, 0, true);
+    if held.say(&settled).is_err() || held.say(&settled).is_err() {
+        return false;
+    }
+    if held.len() != 1 || id_at(held, 0) != Some(1) {
+        return false;
+    }
+    held.end_link(1);
+    held.is_empty()
+}
+
 #[test]
 fn a_range_ends_once(rt: HostRuntime) -> Result<(), Fail> {
     let mut held = three(rt.alloc())?;
-    held.say(&said(4294967295, 0, true))?;
-    held.say(&said(4294967295, 0, true))?;
-    assert_eq!(rt; held.len(), 1);
-    assert_eq!(rt; id_at(&held, 0), Some(1));
-    held.end_link(1);
-    assert!(rt; held.is_empty());
+    assert!(rt; ends_once(&mut held));
     Ok(())
+}
+
+/// How many are told what is said.
+fn told(held: &Held, said: &Disposition) -> Option<usize> {
+    match held.tellings(said) {
+        Ok(tellings) => Some(tellings.len()),
+        Err(_) => None,
+    }
+}
+
+/// What was heard is not told again; and with an end of all, a delivery begins anew.
+fn is_told_once(held: &mut Held) -> bool {
+    let accepted = said(0, 1, false);
+    if told(held, &accepted) != Some(2) || held.hear(&accepted).is_err() {
+        return false;
+    }
+    if told(held, &said(4294967295, 1, true)) != Some(1) {
+        return false;
+    }
+    held.end_all();
+    begins(held, 7, 0, b"\x01")
 }
 
 #[test]
 fn a_state_is_told_once(rt: HostRuntime) -> Result<(), Fail> {
     let mut held = three(rt.alloc())?;
-    let accepted = said(0, 1, false);
-    assert_eq!(rt; held.tellings(&accepted)?.len(), 2);
-    held.hear(&accepted)?;
-    assert_eq!(rt; held.tellings(&said(4294967295, 1, true))?.len(), 1);
-    held.end_all();
-    assert!(rt; begin(&mut held, 7, 0, b"\x01").is_ok());
+    assert!(rt; is_told_once(&mut held));
     Ok(())
 }
 
 #[test]
 fn a_tag_is_in_use_on_its_link(rt: HostRuntime) -> Result<(), Fail> {
     let mut held = three(rt.alloc())?;
-    assert!(rt; begin(&mut held, 2, 1, b"\x01").is_err());
+    assert!(rt; !begins(&mut held, 2, 1, b"\x01"));
     held.go_on(1, None, true);
-    assert!(rt; begin(&mut held, 3, 1, b"\x01").is_ok());
+    assert!(rt; begins(&mut held, 3, 1, b"\x01"));
     Ok(())
+}
+
+/// Of five hundred, five in a range over the wrap; half of them end, and the second that is left is 2.
+fn ends_half(held: &mut Held) -> bool {
+    if held.len() != 500 || held.span(4294967291, 5).len() != 5 {
+        return false;
+    }
+    if held.say(&said(4294960000, 4294967295, true)).is_err() {
+        return false;
+    }
+    held.len() == 250 && id_at(held, 1) == Some(2)
 }
 
 #[test]
 fn a_range_of_a_thousand_ends(rt: HostRuntime) -> Result<(), Fail> {
     let mut held = five_hundred(rt.alloc())?;
-    assert_eq!(rt; held.len(), 500);
-    assert_eq!(rt; held.span(4294967291, 5).len(), 5);
-    held.say(&said(4294960000, 4294967295, true))?;
-    assert_eq!(rt; held.len(), 250);
-    assert_eq!(rt; id_at(&held, 1), Some(2));
+    assert!(rt; ends_half(&mut held));
     Ok(())
 }
 
-fn payload(octets: &'static [u8]) -> Bytes {
-    Bytes::from_static(octets)
+/// Whether each of these payloads comes.
+fn comes(partial: &mut Partial, payloads: &[&'static [u8]]) -> bool {
+    for octets in payloads {
+        if partial.append(Bytes::from_static(octets)).is_err() {
+            return false;
+        }
+    }
+    true
+}
+
+/// Whether so many payloads join to these octets.
+fn joins(parts: &Parts, payloads: u64, octets: &[u8]) -> bool {
+    match parts.join() {
+        Ok(joined) => parts.len() == payloads && joined.as_slice() == octets,
+        Err(_) => false,
+    }
 }
 
 #[test]
-fn payloads_join(rt: HostRuntime) -> Result<(), Fail> {
+fn payloads_join(rt: HostRuntime) {
     let mut partial = Partial::start(rt.alloc());
-    partial.append(payload(b"\x78"))?;
-    partial.append(payload(b""))?;
-    partial.append(payload(b"\x79"))?;
-    partial.append(payload(b"\x7a"))?;
+    assert!(rt; comes(&mut partial, &[b"\x78", b"", b"\x79", b"\x7a"]));
     partial.retract();
-    let parts = partial.finish();
-    assert_eq!(rt; parts.len(), 2);
-    assert_eq!(rt; parts.join()?.as_slice(), b"\x78\x79".as_slice());
-    Ok(())
+    assert!(rt; joins(&partial.finish(), 2, b"\x78\x79"));
 }
 
 #[test]
-fn no_payload_joins(rt: HostRuntime) -> Result<(), Fail> {
-    let parts = Partial::start(rt.alloc()).finish();
-    assert_eq!(rt; parts.len(), 0);
-    assert!(rt; parts.join()?.is_empty());
-    Ok(())
+fn no_payload_joins(rt: HostRuntime) {
+    assert!(rt; joins(&Partial::start(rt.alloc()).finish(), 0, b""));
 }
 
 /// Whether the tag at this place has these octets.
@@ -156,25 +197,39 @@ fn is_accepted(held: &Held, place: usize) -> bool {
     }
 }
 
+/// Whether these ids are answered.
+fn are_ids(ids: Result<Vec<u32>, AllocError>, expected: &[u32]) -> bool {
+    match ids {
+        Ok(ids) => ids.as_slice() == expected,
+        Err(_) => false,
+    }
+}
+
 #[test]
 fn ids_are_in_serial_order(rt: HostRuntime) -> Result<(), Fail> {
     let held = three(rt.alloc())?;
-    assert_eq!(rt;
-        held.ids_in(4294967295, 0)?.as_slice(),
-        [4294967295, 0].as_slice()
-    );
-    assert_eq!(rt; held.ids_of(1)?.as_slice(), [1].as_slice());
-    assert_eq!(rt; held.ids()?.as_slice(), [4294967295, 0, 1].as_slice());
+    assert!(rt; are_ids(held.ids_in(4294967295, 0), &[4294967295, 0]));
+    assert!(rt; are_ids(held.ids_of(1), &[1]));
+    assert!(rt; are_ids(held.ids(), &[4294967295, 0, 1]));
     Ok(())
+}
+
+/// Whether the tags of the first link are those of its two deliveries.
+fn are_tags(held: &Held) -> bool {
+    match held.tags_of(0) {
+        Ok(tags) => {
+            tags.len() == 2
+                && is_tag(tags.as_slice(), 0, b"\x01")
+                && is_tag(tags.as_slice(), 1, b"\x02")
+        }
+        Err(_) => false,
+    }
 }
 
 #[test]
 fn tags_are_those_of_a_link(rt: HostRuntime) -> Result<(), Fail> {
     let held = three(rt.alloc())?;
-    let tags = held.tags_of(0)?;
-    assert_eq!(rt; tags.len(), 2);
-    assert!(rt; is_tag(tags.as_slice(), 0, b"\x01"));
-    assert!(rt; is_tag(tags.as_slice(), 1, b"\x02"));
+    assert!(rt; are_tags(&held));
     Ok(())
 }
 
@@ -182,11 +237,11 @@ fn tags_are_those_of_a_link(rt: HostRuntime) -> Result<(), Fail> {
 fn a_range_that_ends_twice_ends_once(rt: HostRuntime) -> Result<(), Fail> {
     let mut held = three(rt.alloc())?;
     held.end_range(4294967295, 0);
-    assert_eq!(rt; held.ids()?.as_slice(), [1].as_slice());
+    assert!(rt; are_ids(held.ids(), &[1]));
     held.end_range(4294967295, 0);
-    assert_eq!(rt; held.ids()?.as_slice(), [1].as_slice());
+    assert!(rt; are_ids(held.ids(), &[1]));
     held.end_link(1);
-    assert!(rt; held.ids()?.is_empty());
+    assert!(rt; are_ids(held.ids(), &[]));
     Ok(())
 }
 
@@ -194,40 +249,40 @@ fn a_range_that_ends_twice_ends_once(rt: HostRuntime) -> Result<(), Fail> {
 fn all_end(rt: HostRuntime) -> Result<(), Fail> {
     let mut held = three(rt.alloc())?;
     held.end_all();
-    assert!(rt; held.ids()?.is_empty());
+    assert!(rt; are_ids(held.ids(), &[]));
     assert!(rt; held.find(0).is_none());
     Ok(())
+}
+
+/// Whether the state is set of the second and third delivery alone.
+fn sets_two(held: &mut Held) -> bool {
+    held.set_local(0, 1, &DeliveryState::Accepted).is_ok()
+        && !is_accepted(held, 0)
+        && is_accepted(held, 1)
+        && is_accepted(held, 2)
 }
 
 #[test]
 fn a_state_is_set_in_its_range(rt: HostRuntime) -> Result<(), Fail> {
     let mut held = three(rt.alloc())?;
-    held.set_local(0, 1, &DeliveryState::Accepted)?;
-    assert!(rt; !is_accepted(&held, 0));
-    assert!(rt; is_accepted(&held, 1));
-    assert!(rt; is_accepted(&held, 2));
+    assert!(rt; sets_two(&mut held));
     Ok(())
 }
 
 #[test]
-fn payloads_are_dropped(rt: HostRuntime) -> Result<(), Fail> {
+fn payloads_are_dropped(rt: HostRuntime) {
     let mut partial = Partial::start(rt.alloc());
-    partial.append(payload(b"\x78"))?;
-    partial.append(payload(b"\x79"))?;
+    assert!(rt; comes(&mut partial, &[b"\x78", b"\x79"]));
     partial.drop_all();
-    assert!(rt; partial.finish().join()?.is_empty());
-    Ok(())
+    assert!(rt; joins(&partial.finish(), 0, b""));
 }
 
 #[test]
-fn a_retracted_payload_is_not_joined(rt: HostRuntime) -> Result<(), Fail> {
+fn a_retracted_payload_is_not_joined(rt: HostRuntime) {
     let mut partial = Partial::start(rt.alloc());
-    partial.append(payload(b"\x78"))?;
-    partial.append(payload(b"\x79"))?;
-    assert_eq!(rt; partial.finish().join()?.as_slice(), b"\x78\x79".as_slice());
-    partial.append(payload(b"\x78"))?;
-    partial.append(payload(b"\x79"))?;
+    assert!(rt; comes(&mut partial, &[b"\x78", b"\x79"]));
+    assert!(rt; joins(&partial.finish(), 2, b"\x78\x79"));
+    assert!(rt; comes(&mut partial, &[b"\x78", b"\x79"]));
     partial.retract();
-    assert_eq!(rt; partial.finish().join()?.as_slice(), b"\x78".as_slice());
-    Ok(())
+    assert!(rt; joins(&partial.finish(), 1, b"\x78"));
 }

@@ -6,11 +6,7 @@ use std::process::Abort;
 #[test]
 fn examples_of_the_rfc(rt: HostRuntime) {
     for (from, n, to) in [(255, 1, 0), (100, 100, 200), (200, 100, 44)] {
-        assert_eq!(rt;
-            Serial(from << 24).plus(n << 24),
-            Serial(to << 24),
-            "{from} and {n}"
-        );
+        assert!(rt; Serial(from << 24).plus(n << 24) == Serial(to << 24));
     }
     for (later, earlier) in [
         (1, 0),
@@ -24,14 +20,8 @@ fn examples_of_the_rfc(rt: HostRuntime) {
         (0, 200),
         (44, 200),
     ] {
-        assert!(rt;
-            Serial(earlier << 24).is_before(Serial(later << 24)),
-            "{earlier} before {later}"
-        );
-        assert!(rt;
-            !Serial(later << 24).is_before(Serial(earlier << 24)),
-            "{later} before {earlier}"
-        );
+        assert!(rt; Serial(earlier << 24).is_before(Serial(later << 24)));
+        assert!(rt; !Serial(later << 24).is_before(Serial(earlier << 24)));
     }
 }
 
@@ -44,7 +34,7 @@ fn sums(rt: HostRuntime) {
         (4294967295, 3, 2),
         (2147483648, 2147483648, 0),
     ] {
-        assert_eq!(rt; Serial(from).plus(n), Serial(to), "{from} and {n} more");
+        assert!(rt; Serial(from).plus(n) == Serial(to));
     }
 }
 
@@ -63,7 +53,7 @@ fn order(rt: HostRuntime) {
         (2147483648, 0, false),
         (2147483649, 0, true),
     ] {
-        assert_eq!(rt; Serial(a).is_before(Serial(b)), before, "{a} before {b}");
+        assert!(rt; Serial(a).is_before(Serial(b)) == before);
     }
 }
 
@@ -82,14 +72,10 @@ fn ranges(rt: HostRuntime) {
         (7, 0, 2147483647, true),
         (7, 0, 2147483648, false),
     ] {
-        assert_eq!(rt;
-            Serial(x).in_range(Serial(first), Serial(last)),
-            inside,
-            "{x} in {first} to {last}"
-        );
+        assert!(rt; Serial(x).in_range(Serial(first), Serial(last)) == inside);
     }
-    assert_eq!(rt; Serial(4294967295).distance(Serial(2)), 3);
-    assert_eq!(rt; Serial(2).distance(Serial(4294967295)), 4294967293);
+    assert!(rt; Serial(4294967295).distance(Serial(2)) == 3);
+    assert!(rt; Serial(2).distance(Serial(4294967295)) == 4294967293);
 }
 
 fn told(next_incoming_id: Option<u32>, incoming_window: u32) -> SessionFlow {
@@ -104,16 +90,13 @@ fn told(next_incoming_id: Option<u32>, incoming_window: u32) -> SessionFlow {
 #[test]
 fn windows_begin(rt: HostRuntime) {
     let mut windows = Windows::new(4294967295, 2);
-    assert_eq!(rt; windows.next_incoming(), None);
+    assert!(rt; windows.next_incoming() == None);
     windows.on_begin(7, 2, 100);
-    assert_eq!(rt; windows.next_incoming(), Some(7));
-    assert_eq!(rt;
-        (windows.remote_incoming(), windows.remote_outgoing()),
-        (2, 100)
-    );
+    assert!(rt; windows.next_incoming() == Some(7));
+    assert!(rt; (windows.remote_incoming(), windows.remote_outgoing()) == (2, 100));
     let mut early = Windows::new(5, 1);
     early.on_early_flow(&told(Some(77), 3));
-    assert_eq!(rt; early.remote_incoming(), 3);
+    assert!(rt; early.remote_incoming() == 3);
 }
 
 /// The windows of a session that began with the id 4294967295, after two transfers went out.
@@ -131,8 +114,8 @@ fn after_two(rt: &impl Abort) -> Windows {
 #[test]
 fn transfers_go_out(rt: HostRuntime) {
     let windows = after_two(&rt);
-    assert_eq!(rt; windows.next_outgoing(), 1);
-    assert_eq!(rt; windows.remote_incoming(), 0);
+    assert!(rt; windows.next_outgoing() == 1);
+    assert!(rt; windows.remote_incoming() == 0);
 }
 
 #[test]
@@ -146,8 +129,8 @@ fn flows_are_heard(rt: HostRuntime) {
         (Some(0), 0, Ok(()), 0),
     ] {
         let mut windows = after_two(&rt);
-        assert_eq!(rt; windows.on_flow(&told(awaited, window)), answer);
-        assert_eq!(rt; windows.remote_incoming(), takes);
+        assert!(rt; windows.on_flow(&told(awaited, window)) == answer);
+        assert!(rt; windows.remote_incoming() == takes);
     }
 }
 
@@ -159,10 +142,10 @@ fn transfers_are_heard(rt: HostRuntime) {
         assert!(rt; windows.incoming() > 0);
         windows.received();
     }
-    assert_eq!(rt; windows.next_incoming(), Some(1));
-    assert_eq!(rt; (windows.incoming(), windows.remote_outgoing()), (0, 0));
+    assert!(rt; windows.next_incoming() == Some(1));
+    assert!(rt; (windows.incoming(), windows.remote_outgoing()) == (0, 0));
     windows.renew();
-    assert_eq!(rt; windows.incoming(), 2);
+    assert!(rt; windows.incoming() == 2);
 }
 
 fn credited(delivery_count: Option<u32>, link_credit: Option<u32>, drain: bool) -> LinkFlow {
@@ -176,35 +159,29 @@ fn credited(delivery_count: Option<u32>, link_credit: Option<u32>, drain: bool) 
 /// The credit of a link whose delivery-count began at 4294967294, after three of four deliveries.
 fn after_three(rt: &impl Abort) -> SenderCredit {
     let mut credit = SenderCredit::new(4294967294);
-    assert_eq!(rt; credit.on_flow(&credited(None, Some(4), false)), Ok(()));
+    assert!(rt; credit.on_flow(&credited(None, Some(4), false)) == Ok(()));
     for _ in 0..3 {
-        assert_eq!(rt; credit.begin(), Ok(()));
+        assert!(rt; credit.begin() == Ok(()));
     }
     credit
 }
 
 #[test]
 fn deliveries_begin(rt: HostRuntime) {
-    assert_eq!(rt; SenderCredit::new(0).begin(), Err(NoCredit));
+    assert!(rt; SenderCredit::new(0).begin() == Err(NoCredit));
     let credit = after_three(&rt);
-    assert_eq!(rt; (credit.count(), credit.credit()), (1, 1));
+    assert!(rt; (credit.count(), credit.credit()) == (1, 1));
 }
 
 #[test]
 fn sender_hears_flows(rt: HostRuntime) {
     let mut credit = after_three(&rt);
     // two deliveries are on their way
-    assert_eq!(rt;
-        credit.on_flow(&credited(Some(4294967295), Some(5), true)),
-        Ok(())
-    );
-    assert_eq!(rt; (credit.credit(), credit.is_draining()), (3, true));
-    assert_eq!(rt;
-        credit.on_flow(&credited(Some(2), None, false)),
-        Err(CountAhead)
-    );
+    assert!(rt; credit.on_flow(&credited(Some(4294967295), Some(5), true)) == Ok(()));
+    assert!(rt; (credit.credit(), credit.is_draining()) == (3, true));
+    assert!(rt; credit.on_flow(&credited(Some(2), None, false)) == Err(CountAhead));
     credit.drain();
-    assert_eq!(rt; (credit.count(), credit.credit()), (4, 0));
+    assert!(rt; (credit.count(), credit.credit()) == (4, 0));
     assert!(rt; !credit.is_draining());
 }
 
@@ -213,28 +190,25 @@ fn offered_link(rt: HostRuntime) {
     let mut offered = SenderCredit::new(0);
     offered.on_early_flow(&credited(Some(77), Some(5), false));
     offered.on_attach(4294967295);
-    assert_eq!(rt; (offered.count(), offered.credit()), (4294967295, 5));
+    assert!(rt; (offered.count(), offered.credit()) == (4294967295, 5));
 }
 
 /// The credit of a link whose delivery-count began at 4294967295, after one of five deliveries that are to be drained.
 fn after_one(rt: &impl Abort) -> ReceiverCredit {
     let mut credit = ReceiverCredit::new(4294967295);
-    assert_eq!(rt; credit.grant(5, true), Ok(()));
-    assert_eq!(rt; credit.begin(), Ok(()));
+    assert!(rt; credit.grant(5, true) == Ok(()));
+    assert!(rt; credit.begin() == Ok(()));
     credit
 }
 
 #[test]
 fn grants(rt: HostRuntime) {
     let mut credit = after_one(&rt);
-    assert_eq!(rt; (credit.count(), credit.credit()), (0, 4));
-    assert_eq!(rt;
-        credit.grant(2147483648, false),
-        Err(GrantRefusal::BadCredit)
-    );
-    assert_eq!(rt; credit.grant(3, true), Err(GrantRefusal::CreditRecedes));
-    assert_eq!(rt; credit.grant(6, false), Err(GrantRefusal::Draining));
-    assert_eq!(rt; ReceiverCredit::new(0).begin(), Err(NoCredit));
+    assert!(rt; (credit.count(), credit.credit()) == (0, 4));
+    assert!(rt; credit.grant(2147483648, false) == Err(GrantRefusal::BadCredit));
+    assert!(rt; credit.grant(3, true) == Err(GrantRefusal::CreditRecedes));
+    assert!(rt; credit.grant(6, false) == Err(GrantRefusal::Draining));
+    assert!(rt; ReceiverCredit::new(0).begin() == Err(NoCredit));
 }
 
 #[test]
@@ -247,15 +221,15 @@ fn receiver_hears_flows(rt: HostRuntime) {
         (Some(4), Ok(()), 4, 0),
     ] {
         let mut credit = after_one(&rt);
-        assert_eq!(rt; credit.on_flow(&credited(told, None, false)), answer);
-        assert_eq!(rt; (credit.count(), credit.credit()), (count, left));
+        assert!(rt; credit.on_flow(&credited(told, None, false)) == answer);
+        assert!(rt; (credit.count(), credit.credit()) == (count, left));
     }
 }
 
 #[test]
 fn heard_attach(rt: HostRuntime) {
     let mut credit = ReceiverCredit::new(0);
-    assert_eq!(rt; credit.grant(1, false), Ok(()));
+    assert!(rt; credit.grant(1, false) == Ok(()));
     credit.on_attach(9);
-    assert_eq!(rt; (credit.first_count(), credit.credit()), (9, 1));
+    assert!(rt; (credit.first_count(), credit.credit()) == (9, 1));
 }

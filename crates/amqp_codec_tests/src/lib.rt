@@ -7,7 +7,8 @@
 //! | `flow` | serial numbers, windows and credit |
 //! | `performatives` | copies of each kind of body, state and error |
 //! | `decoder` | performatives in front of octets |
-//! | `frames` | frames written and read, however they are cut |
+//! | `frames` | frames written for what was read, and those that are not written |
+//! | `framer` | frames read, however they are cut |
 //! | `deliveries` | unsettled deliveries, and deliveries that are cut over transfers |
 //! | `waiting` | what becomes of each delivery that waits to be resumed, and the maps that attaches tell, as octets |
 //! | `messages` | messages, their sections and fields; the ends of a link |
@@ -20,6 +21,8 @@ mod decoder;
 mod deliveries;
 #[cfg(test)]
 mod flow;
+#[cfg(test)]
+mod framer;
 #[cfg(test)]
 mod frames;
 #[cfg(test)]

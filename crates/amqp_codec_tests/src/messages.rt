@@ -4,8 +4,7 @@ ghost use Rattle.std.specs.Prelude.{◌≤◌, length};
 use amqp_messages::*;
 use amqp_types::{Value, read_value};
 use bytes::Bytes;
-use std::alloc::Global;
-use std::process::Abort;
+use std::alloc::{AllocError, Global};
 
 // A header that says durable, properties with a message-id, two data sections, and a footer by the name of its descriptor.
 const MESSAGE: &[u8] = &[
@@ -29,56 +28,47 @@ fn section(alloc: Global, octets: &Bytes, from: usize) -> Option<(SectionKind, B
     }
 }
 
-fn expect(
-    rt: &impl Abort,
-    alloc: Global,
-    from: usize,
-    kind: SectionKind,
-    payload: &[u8],
-    long: usize,
-) {
+// Whether the section that begins there is of the kind, has that body where it is a binary, and is so long.
+fn is_section(alloc: Global, from: usize, kind: SectionKind, payload: &[u8], long: usize) -> bool {
     let octets = Bytes::from_static(MESSAGE);
     if from > octets.len() {
-        assert!(rt; false, "{from}");
-        return;
+        return false;
     }
-    let is_there = match section(alloc, &octets, from) {
+    match section(alloc, &octets, from) {
         Some((found, binary, used)) => {
             found == kind && binary.as_slice() == payload && used == long
         }
         None => false,
-    };
-    assert!(rt; is_there, "{from}");
+    }
 }
 
-fn expect_none(rt: &impl Abort, alloc: Global, octets: &'static [u8]) {
-    let none = match read_section(alloc, &Bytes::from_static(octets), 0) {
+fn is_no_section(alloc: Global, octets: &'static [u8]) -> bool {
+    match read_section(alloc, &Bytes::from_static(octets), 0) {
         Err(SectionFault::NoSection) => true,
         _ => false,
-    };
-    assert!(rt; none, "{octets:?}");
+    }
 }
 
 #[test]
 fn each_section_in_turn(rt: HostRuntime) {
     let alloc = rt.alloc();
-    expect(&rt, alloc, 0, SectionKind::Header, &[], 7);
-    expect(&rt, alloc, 7, SectionKind::Properties, &[], 9);
-    expect(&rt, alloc, 16, SectionKind::Data, b"hi", 7);
-    expect(&rt, alloc, 23, SectionKind::Data, b"!", 16);
-    expect(&rt, alloc, 39, SectionKind::Footer, &[], 21);
+    assert!(rt; is_section(alloc, 0, SectionKind::Header, &[], 7));
+    assert!(rt; is_section(alloc, 7, SectionKind::Properties, &[], 9));
+    assert!(rt; is_section(alloc, 16, SectionKind::Data, b"hi", 7));
+    assert!(rt; is_section(alloc, 23, SectionKind::Data, b"!", 16));
+    assert!(rt; is_section(alloc, 39, SectionKind::Footer, &[], 21));
 }
 
 #[test]
 fn what_is_no_section(rt: HostRuntime) {
     let alloc = rt.alloc();
-    expect_none(&rt, alloc, &[]);
+    assert!(rt; is_no_section(alloc, &[]));
     // a number past the last
-    expect_none(&rt, alloc, &[0x00, 0x53, 0x79, 0x45]);
+    assert!(rt; is_no_section(alloc, &[0x00, 0x53, 0x79, 0x45]));
     // data that is a list
-    expect_none(&rt, alloc, &[0x00, 0x53, 0x75, 0x45]);
+    assert!(rt; is_no_section(alloc, &[0x00, 0x53, 0x75, 0x45]));
     // a header cut short
-    expect_none(&rt, alloc, &[0x00, 0x53, 0x70, 0xc0, 2, 1]);
+    assert!(rt; is_no_section(alloc, &[0x00, 0x53, 0x70, 0xc0, 2, 1]));
 }
 
 // As Proton's client sent it: durable, priority 9, five seconds to live; an annotation; an id, an address and a subject; a property; a map.
@@ -117,13 +107,10 @@ pub(crate) const TARGET: &[u8] = &[
     0x00, 0x53, 0x29, 0xc0, 0x0a, 0x07, 0xa1, 0x01, 0x61, 0x43, 0x40, 0x43, 0x42, 0x40, 0x40,
 ];
 
-fn message(rt: &impl Abort, alloc: Global, octets: &'static [u8]) -> Option<Message> {
+fn message(alloc: Global, octets: &'static [u8]) -> Option<Message> {
     match read_message(alloc, &Bytes::from_static(octets)) {
         Ok(message) => Some(message),
-        Err(fault) => {
-            assert!(rt; false, "{fault}");
-            None
-        }
+        Err(_) => None,
     }
 }
 
@@ -142,26 +129,28 @@ fn items_of(value: &Value) -> Option<&[Value]> {
     }
 }
 
+// Whether there are five sections, and behind the first of them annotations, properties of the application and a value.
+fn has_five(message: &Message) -> bool {
+    message.sections.len() == 5
+        && body_of(message, 1, SectionKind::MessageAnnotations).is_some()
+        && body_of(message, 3, SectionKind::ApplicationProperties).is_some()
+        && body_of(message, 4, SectionKind::AmqpValue).is_some()
+}
+
 #[test]
 fn a_message_of_a_peer(rt: HostRuntime) {
-    let Some(message) = message(&rt, rt.alloc(), FULL) else {
-        return;
+    let is_there = match message(rt.alloc(), FULL) {
+        Some(message) => has_five(&message),
+        None => false,
     };
-    assert!(rt; message.sections.len() == 5);
-    assert!(rt; body_of(&message, 1, SectionKind::MessageAnnotations).is_some());
-    assert!(rt; body_of(&message, 3, SectionKind::ApplicationProperties).is_some());
-    assert!(rt; body_of(&message, 4, SectionKind::AmqpValue).is_some());
+    assert!(rt; is_there);
 }
 
 fn header_of(message: &Message) -> Option<Header> {
     Header::read(items_of(body_of(message, 0, SectionKind::Header)?)?)
 }
 
-#[test]
-fn its_header(rt: HostRuntime) {
-    let Some(message) = message(&rt, rt.alloc(), FULL) else {
-        return;
-    };
+fn has_header(message: &Message) -> bool {
     let expected = Header {
         durable: Some(true),
         priority: Some(9),
@@ -169,8 +158,16 @@ fn its_header(rt: HostRuntime) {
         first_acquirer: None,
         delivery_count: None,
     };
-    let is_there = match header_of(&message) {
+    match header_of(message) {
         Some(header) => header == expected,
+        None => false,
+    }
+}
+
+#[test]
+fn its_header(rt: HostRuntime) {
+    let is_there = match message(rt.alloc(), FULL) {
+        Some(message) => has_header(&message),
         None => false,
     };
     assert!(rt; is_there);
@@ -194,20 +191,26 @@ fn is_text(value: Option<&Value>, text: &str) -> bool {
     }
 }
 
+fn has_properties(message: &Message) -> bool {
+    match properties_of(message) {
+        Some(properties) => {
+            is_ulong(properties.message_id, 7)
+                && properties.user_id.is_none()
+                && is_text(properties.to, "q")
+                && properties.subject == Some("s")
+                && properties.reply_to_group_id.is_none()
+        }
+        None => false,
+    }
+}
+
 #[test]
 fn its_properties(rt: HostRuntime) {
-    let Some(message) = message(&rt, rt.alloc(), FULL) else {
-        return;
+    let is_there = match message(rt.alloc(), FULL) {
+        Some(message) => has_properties(&message),
+        None => false,
     };
-    let Some(properties) = properties_of(&message) else {
-        assert!(rt; false);
-        return;
-    };
-    assert!(rt; is_ulong(properties.message_id, 7));
-    assert!(rt; properties.user_id.is_none());
-    assert!(rt; is_text(properties.to, "q"));
-    assert!(rt; properties.subject == Some("s"));
-    assert!(rt; properties.reply_to_group_id.is_none());
+    assert!(rt; is_there);
 }
 
 fn written(alloc: Global, message: &Message) -> Option<Vec<u8>> {
@@ -218,197 +221,233 @@ fn written(alloc: Global, message: &Message) -> Option<Vec<u8>> {
     }
 }
 
+// Whether the message is written as these octets, and so many are told.
+fn is_written(alloc: Global, message: &Message, octets: &[u8]) -> bool {
+    match written(alloc, message) {
+        Some(written) => {
+            message_size(message) == Some(octets.len() as u64) && written.as_slice() == octets
+        }
+        None => false,
+    }
+}
+
 #[test]
 fn a_message_is_written_as_a_peer_wrote_it(rt: HostRuntime) {
-    let Some(message) = message(&rt, rt.alloc(), HELLO) else {
-        return;
+    let is_there = match message(rt.alloc(), HELLO) {
+        Some(message) => is_written(rt.alloc(), &message, HELLO),
+        None => false,
     };
-    assert!(rt; message_size(&message) == Some(HELLO.len() as u64));
-    let Some(octets) = written(rt.alloc(), &message) else {
-        assert!(rt; false);
-        return;
+    assert!(rt; is_there);
+}
+
+// Whether fewer octets than these are written, and are the same message.
+fn is_written_shorter(alloc: Global, message: &Message, octets: &[u8]) -> bool {
+    let Some(shorter) = written(alloc, message) else {
+        return false;
     };
-    assert!(rt; octets.as_slice() == HELLO);
+    let Ok(copy) = Bytes::copy_from_slice(alloc, &shorter) else {
+        return false;
+    };
+    match read_message(alloc, &copy) {
+        Ok(again) => shorter.len() < octets.len() && again == *message,
+        Err(_) => false,
+    }
 }
 
 #[test]
 fn a_message_is_written_shorter(rt: HostRuntime) {
-    let Some(message) = message(&rt, rt.alloc(), FULL) else {
-        return;
+    let is_there = match message(rt.alloc(), FULL) {
+        Some(message) => is_written_shorter(rt.alloc(), &message, FULL),
+        None => false,
     };
-    let Some(octets) = written(rt.alloc(), &message) else {
-        assert!(rt; false);
-        return;
-    };
-    assert!(rt; octets.len() < FULL.len());
-    let Ok(copy) = Bytes::copy_from_slice(rt.alloc(), &octets) else {
-        assert!(rt; false);
-        return;
-    };
-    let Ok(again) = read_message(rt.alloc(), &copy) else {
-        assert!(rt; false);
-        return;
-    };
-    assert!(rt; again == message);
+    assert!(rt; is_there);
 }
 
-fn expect_fault(rt: &impl Abort, alloc: Global, octets: &'static [u8], expected: MessageFault) {
-    let is_there = match read_message(alloc, &Bytes::from_static(octets)) {
+fn has_fault(alloc: Global, octets: &'static [u8], expected: MessageFault) -> bool {
+    match read_message(alloc, &Bytes::from_static(octets)) {
         Ok(_) => false,
         Err(fault) => fault == expected,
-    };
-    assert!(rt; is_there, "{octets:?}");
+    }
 }
 
 #[test]
 fn what_is_no_message(rt: HostRuntime) {
     let alloc = rt.alloc();
-    expect_fault(&rt, alloc, &[], MessageFault::NoBody);
+    assert!(rt; has_fault(alloc, &[], MessageFault::NoBody));
     // a header alone
-    expect_fault(&rt, alloc, &[0x00, 0x53, 0x70, 0x45], MessageFault::NoBody);
+    assert!(rt; has_fault(alloc, &[0x00, 0x53, 0x70, 0x45], MessageFault::NoBody));
     // a number past the last, behind a header
     let none: &[u8] = &[0x00, 0x53, 0x70, 0x45, 0x00, 0x53, 0x79, 0x45];
-    expect_fault(&rt, alloc, none, MessageFault::NoSection { at: 4 });
+    assert!(rt; has_fault(alloc, none, MessageFault::NoSection { at: 4 }));
     // two headers
     let twice: &[u8] = &[0x00, 0x53, 0x70, 0x45, 0x00, 0x53, 0x70, 0x45];
-    expect_fault(&rt, alloc, twice, MessageFault::OutOfOrder { at: 4 });
+    assert!(rt; has_fault(alloc, twice, MessageFault::OutOfOrder { at: 4 }));
     // a value behind data
     let mixed: &[u8] = &[0x00, 0x53, 0x75, 0xa0, 0, 0x00, 0x53, 0x77, 0x40];
-    expect_fault(&rt, alloc, mixed, MessageFault::OutOfOrder { at: 5 });
+    assert!(rt; has_fault(alloc, mixed, MessageFault::OutOfOrder { at: 5 }));
+}
+
+fn has_data_twice(message: &Message) -> bool {
+    message.sections.len() == 5
+        && body_of(message, 2, SectionKind::Data).is_some()
+        && body_of(message, 3, SectionKind::Data).is_some()
 }
 
 #[test]
 fn data_may_repeat(rt: HostRuntime) {
-    let Some(message) = message(&rt, rt.alloc(), MESSAGE) else {
-        return;
+    let is_there = match message(rt.alloc(), MESSAGE) {
+        Some(message) => has_data_twice(&message),
+        None => false,
     };
-    assert!(rt; message.sections.len() == 5);
-    assert!(rt; body_of(&message, 2, SectionKind::Data).is_some());
-    assert!(rt; body_of(&message, 3, SectionKind::Data).is_some());
+    assert!(rt; is_there);
+}
+
+fn value(alloc: Global, octets: &[u8]) -> Option<Value> {
+    match read_value(alloc, octets) {
+        Ok((value, _)) => Some(value),
+        Err(_) => None,
+    }
+}
+
+fn is_source(value: &Value) -> bool {
+    match Source::read(value) {
+        Some(source) => {
+            is_text(source.address, "r")
+                && source.durable == Some(0)
+                && source.distribution_mode == Some("copy")
+                && source.filter.is_some()
+                && source.default_outcome.is_none()
+                && source.outcomes.is_some()
+        }
+        None => false,
+    }
 }
 
 #[test]
 fn the_source_of_an_attach(rt: HostRuntime) {
-    let Ok((value, _)) = read_value(rt.alloc(), SOURCE) else {
-        assert!(rt; false);
-        return;
+    let is_there = match value(rt.alloc(), SOURCE) {
+        Some(value) => is_source(&value) && Target::read(&value).is_none(),
+        None => false,
     };
-    let Some(source) = Source::read(&value) else {
-        assert!(rt; false);
-        return;
-    };
-    assert!(rt; is_text(source.address, "r"));
-    assert!(rt; source.durable == Some(0));
-    assert!(rt; source.distribution_mode == Some("copy"));
-    assert!(rt; source.filter.is_some());
-    assert!(rt; source.default_outcome.is_none());
-    assert!(rt; source.outcomes.is_some());
-    assert!(rt; Target::read(&value).is_none());
+    assert!(rt; is_there);
+}
+
+fn is_target(value: &Value) -> bool {
+    match Target::read(value) {
+        Some(target) => {
+            is_text(target.address, "a")
+                && target.dynamic == Some(false)
+                && target.capabilities.is_none()
+        }
+        None => false,
+    }
 }
 
 #[test]
 fn the_target_of_an_attach(rt: HostRuntime) {
-    let Ok((value, _)) = read_value(rt.alloc(), TARGET) else {
-        assert!(rt; false);
-        return;
+    let is_there = match value(rt.alloc(), TARGET) {
+        Some(value) => is_target(&value),
+        None => false,
     };
-    let Some(target) = Target::read(&value) else {
-        assert!(rt; false);
-        return;
-    };
-    assert!(rt; is_text(target.address, "a"));
-    assert!(rt; target.dynamic == Some(false));
-    assert!(rt; target.capabilities.is_none());
+    assert!(rt; is_there);
+}
+
+// Whether what was built is the section of its kind in the message.
+fn is_built(message: &Message, kind: SectionKind, built: Result<Section, AllocError>) -> bool {
+    match (built, message.find(kind)) {
+        (Ok(section), Some(body)) => section.body == *body,
+        _ => false,
+    }
+}
+
+fn is_header_built(alloc: Global, message: &Message) -> bool {
+    match header_of(message) {
+        Some(header) => is_built(message, SectionKind::Header, header.to_section(alloc)),
+        None => false,
+    }
 }
 
 #[test]
 fn a_header_is_built_as_it_was_read(rt: HostRuntime) {
-    let Some(message) = message(&rt, rt.alloc(), FULL) else {
-        return;
-    };
-    let Some(header) = header_of(&message) else {
-        assert!(rt; false);
-        return;
-    };
-    let Ok(section) = header.to_section(rt.alloc()) else {
-        assert!(rt; false);
-        return;
-    };
-    let is_same = match message.find(SectionKind::Header) {
-        Some(body) => section.body == *body,
+    let is_there = match message(rt.alloc(), FULL) {
+        Some(message) => is_header_built(rt.alloc(), &message),
         None => false,
     };
-    assert!(rt; is_same);
+    assert!(rt; is_there);
+}
+
+fn are_properties_built(alloc: Global, message: &Message) -> bool {
+    match properties_of(message) {
+        Some(properties) => {
+            is_built(
+                message,
+                SectionKind::Properties,
+                properties.to_section(alloc),
+            )
+        }
+        None => false,
+    }
 }
 
 #[test]
 fn properties_are_built_as_they_were_read(rt: HostRuntime) {
-    let Some(message) = message(&rt, rt.alloc(), FULL) else {
-        return;
-    };
-    let Some(properties) = properties_of(&message) else {
-        assert!(rt; false);
-        return;
-    };
-    let Ok(section) = properties.to_section(rt.alloc()) else {
-        assert!(rt; false);
-        return;
-    };
-    let is_same = match message.find(SectionKind::Properties) {
-        Some(body) => section.body == *body,
+    let is_there = match message(rt.alloc(), FULL) {
+        Some(message) => are_properties_built(rt.alloc(), &message),
         None => false,
     };
-    assert!(rt; is_same);
+    assert!(rt; is_there);
+}
+
+fn is_source_built(alloc: Global, value: &Value) -> bool {
+    match Source::read(value) {
+        Some(source) => match source.to_value(alloc) {
+            Ok(built) => built == *value,
+            Err(_) => false,
+        },
+        None => false,
+    }
 }
 
 #[test]
 fn a_source_is_built_as_it_was_read(rt: HostRuntime) {
-    let Ok((value, _)) = read_value(rt.alloc(), SOURCE) else {
-        assert!(rt; false);
-        return;
+    let is_there = match value(rt.alloc(), SOURCE) {
+        Some(value) => is_source_built(rt.alloc(), &value),
+        None => false,
     };
-    let Some(source) = Source::read(&value) else {
-        assert!(rt; false);
-        return;
-    };
-    let Ok(built) = source.to_value(rt.alloc()) else {
-        assert!(rt; false);
-        return;
-    };
-    assert!(rt; built == value);
+    assert!(rt; is_there);
+}
+
+fn has_target(value: &Value) -> bool {
+    match Target::read(value) {
+        Some(target) => is_text(target.address, "a") && target.dynamic == Some(false),
+        None => false,
+    }
+}
+
+fn is_target_built(alloc: Global, value: &Value) -> bool {
+    match Target::read(value) {
+        Some(target) => match target.to_value(alloc) {
+            Ok(built) => has_target(&built),
+            Err(_) => false,
+        },
+        None => false,
+    }
 }
 
 #[test]
 fn a_target_is_built_shorter(rt: HostRuntime) {
-    let Ok((value, _)) = read_value(rt.alloc(), TARGET) else {
-        assert!(rt; false);
-        return;
-    };
-    let Some(target) = Target::read(&value) else {
-        assert!(rt; false);
-        return;
-    };
-    let Ok(built) = target.to_value(rt.alloc()) else {
-        assert!(rt; false);
-        return;
-    };
-    let again = Target::read(&built);
-    let is_same = match again {
-        Some(again) => is_text(again.address, "a") && again.dynamic == Some(false),
+    let is_there = match value(rt.alloc(), TARGET) {
+        Some(value) => is_target_built(rt.alloc(), &value),
         None => false,
     };
-    assert!(rt; is_same);
+    assert!(rt; is_there);
 }
 
 #[test]
 fn a_message_of_data_is_written_as_a_peer_wrote_it(rt: HostRuntime) {
-    let Ok(message) = Message::of_data(rt.alloc(), Bytes::from_static(b"octets")) else {
-        assert!(rt; false);
-        return;
+    let is_there = match Message::of_data(rt.alloc(), Bytes::from_static(b"octets")) {
+        Ok(message) => is_written(rt.alloc(), &message, b"\x00\x53\x75\xa0\x06octets"),
+        Err(_) => false,
     };
-    let Some(octets) = written(rt.alloc(), &message) else {
-        assert!(rt; false);
-        return;
-    };
-    assert!(rt; octets.as_slice() == b"\x00\x53\x75\xa0\x06octets".as_slice());
+    assert!(rt; is_there);
 }

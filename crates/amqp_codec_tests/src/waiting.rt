@@ -4,7 +4,6 @@ use amqp_performatives::{AttachBody, DeliveryState, Performative, Role};
 use amqp_types::{Boxed, Tag, Text, Value, read_value, write_value};
 use amqp_waiting::*;
 use std::alloc::Global;
-use std::test::Fail;
 
 /// From 01 to null, from 02 to received, from 03 to accepted, and from 04 to a uint.
 const MAP: &[u8] = &[
@@ -39,211 +38,231 @@ const NOTHING: &[u8] = &[
 ];
 
 /// Items with tags of one octet, without a state.
-fn items(alloc: Global, tags: &[u8]) -> Result<Vec<SuspendedItem>, &'static str> {
+fn items(alloc: Global, tags: &[u8]) -> Option<Vec<SuspendedItem>> {
     let mut items = Vec::new(alloc);
     for octet in tags {
-        let tag = Tag::new(&[*octet]).ok_or("a tag of at most 32 octets")?;
+        let tag = Tag::new(&[*octet])?;
         if items.push(SuspendedItem { tag, state: None }).is_err() {
-            return Err("memory");
+            return None;
         }
     }
-    Ok(items)
+    Some(items)
 }
 
-/// What waits once the peer has told that, as each tag with its verdict.
+/// These items, each with a tag of its own, as they wait.
+fn waiting(alloc: Global, items: &[SuspendedItem]) -> Option<Waiting> {
+    if has_twice(items) {
+        return None;
+    }
+    Waiting::new(alloc, items).ok()
+}
+
+/// What waits, as each tag with its verdict.
+fn answers(alloc: Global, waiting: &Waiting) -> Option<Vec<(u8, Verdict)>> {
+    let mut answers = Vec::new(alloc);
+    for place in 0..waiting.len() {
+        if let Some((tag, verdict)) = waiting.at(place) {
+            let first = tag.octets().first().copied()?;
+            if answers.push((first, verdict)).is_err() {
+                return None;
+            }
+        }
+    }
+    Some(answers)
+}
+
+/// What waits once the peer has told that.
 fn met(
     alloc: Global,
     tags: &[u8],
     role: Role,
     unsettled: &Unsettled,
-) -> Result<Vec<(u8, Verdict)>, &'static str> {
+) -> Option<Vec<(u8, Verdict)>> {
     let items = items(alloc, tags)?;
-    if has_twice(items.as_slice()) {
-        return Err("no tag is there twice");
+    let mut waiting = waiting(alloc, items.as_slice())?;
+    if waiting.meet(role, unsettled).is_err() {
+        return None;
     }
-    let mut waiting = Waiting::new(alloc, items.as_slice()).ok().ok_or("memory")?;
-    waiting.meet(role, unsettled).ok().ok_or("memory")?;
     answers(alloc, &waiting)
 }
 
-fn answers(alloc: Global, waiting: &Waiting) -> Result<Vec<(u8, Verdict)>, &'static str> {
-    let mut answers = Vec::new(alloc);
-    for place in 0..waiting.len() {
-        if let Some((tag, verdict)) = waiting.at(place) {
-            let first = tag.octets().first().copied().ok_or("an octet")?;
-            if answers.push((first, verdict)).is_err() {
-                return Err("memory");
-            }
-        }
+/// Whether the peer has told something, and then this waits.
+fn are_met(
+    alloc: Global,
+    tags: &[u8],
+    role: Role,
+    told: Option<Unsettled>,
+    expected: &[(u8, Verdict)],
+) -> bool {
+    let Some(unsettled) = told else {
+        return false;
+    };
+    match met(alloc, tags, role, &unsettled) {
+        Some(answers) => answers.as_slice() == expected,
+        None => false,
     }
-    Ok(answers)
 }
 
 /// What an attach with this map tells.
-fn told(alloc: Global, map: &[u8], incomplete: bool) -> Result<Unsettled, &'static str> {
-    let name = Text::new(alloc, "q").ok().ok_or("memory")?;
+fn told(alloc: Global, map: &[u8], incomplete: bool) -> Option<Unsettled> {
+    let name = Text::new(alloc, "q").ok()?;
     let mut body = AttachBody::new(name, 0, Role::Sender);
     match read_value(alloc, map) {
         Ok((Value::Map(pairs), _)) => body.unsettled = Some(pairs),
-        _ => return Err("a map"),
+        _ => return None,
     }
     body.incomplete_unsettled = Some(incomplete);
-    unsettled_of(alloc, &body).ok().ok_or("memory")
+    unsettled_of(alloc, &body).ok()
 }
 
 /// What an attach tells that these octets are.
-fn told_by(alloc: Global, octets: &[u8]) -> Result<Unsettled, &'static str> {
+fn told_by(alloc: Global, octets: &[u8]) -> Option<Unsettled> {
     match read_performative(alloc, octets) {
-        Ok((Performative::Attach(body), _)) => unsettled_of(alloc, body.get()).ok().ok_or("memory"),
-        _ => Err("an attach"),
+        Ok((Performative::Attach(body), _)) => unsettled_of(alloc, body.get()).ok(),
+        _ => None,
     }
 }
 
 /// The octets of the map that an attach of these items has.
-fn map_written(alloc: Global, items: &[SuspendedItem]) -> Result<Vec<u8>, &'static str> {
+fn map_written(alloc: Global, items: &[SuspendedItem]) -> Option<Vec<u8>> {
     let mut octets = Vec::new(alloc);
     match map_of(alloc, items) {
         Ok(Some(pairs)) => match write_value(&Value::Map(pairs), &mut octets) {
-            Ok(()) => Ok(octets),
-            Err(_) => Err("a value that is written"),
+            Ok(()) => Some(octets),
+            Err(_) => None,
         },
-        Ok(None) => Ok(octets),
-        Err(_) => Err("memory"),
+        Ok(None) => Some(octets),
+        Err(_) => None,
     }
 }
 
 #[test]
-fn a_sender_learns_what_the_peer_has(rt: HostRuntime) -> Result<(), Fail> {
-    let all = told(rt.alloc(), MAP, false)?;
-    let met_all = met(rt.alloc(), &[5, 1, 2, 3, 4], Role::Sender, &all)?;
-    assert_eq!(rt;
-        met_all.as_slice(),
-        [
-            (5, Verdict::Absent),
-            (1, Verdict::Held),
-            (2, Verdict::Partial),
-            (3, Verdict::Outcome),
-            (4, Verdict::Held)
-        ]
-        .as_slice()
-    );
-    let some = told(rt.alloc(), MAP, true)?;
-    let met_some = met(rt.alloc(), &[5, 3], Role::Sender, &some)?;
-    assert_eq!(rt;
-        met_some.as_slice(),
-        [(5, Verdict::Unclear), (3, Verdict::Outcome)].as_slice()
-    );
-    Ok(())
+fn a_sender_learns_what_the_peer_has(rt: HostRuntime) {
+    let alloc = rt.alloc();
+    let all = [
+        (5, Verdict::Absent),
+        (1, Verdict::Held),
+        (2, Verdict::Partial),
+        (3, Verdict::Outcome),
+        (4, Verdict::Held),
+    ];
+    let told_all = told(alloc, MAP, false);
+    assert!(rt; are_met(alloc, &[5, 1, 2, 3, 4], Role::Sender, told_all, &all));
+    let some = [(5, Verdict::Unclear), (3, Verdict::Outcome)];
+    let told_some = told(alloc, MAP, true);
+    assert!(rt; are_met(alloc, &[5, 3], Role::Sender, told_some, &some));
 }
 
 #[test]
-fn a_receiver_keeps_what_the_peer_told(rt: HostRuntime) -> Result<(), Fail> {
-    let all = told(rt.alloc(), MAP, false)?;
-    let met_all = met(rt.alloc(), &[5, 3, 2], Role::Receiver, &all)?;
-    assert_eq!(rt;
-        met_all.as_slice(),
-        [(3, Verdict::Held), (2, Verdict::Held)].as_slice()
-    );
-    let some = told(rt.alloc(), MAP, true)?;
-    let met_some = met(rt.alloc(), &[5, 3], Role::Receiver, &some)?;
-    assert_eq!(rt;
-        met_some.as_slice(),
-        [(5, Verdict::Held), (3, Verdict::Held)].as_slice()
-    );
-    Ok(())
+fn a_receiver_keeps_what_the_peer_told(rt: HostRuntime) {
+    let alloc = rt.alloc();
+    let all = [(3, Verdict::Held), (2, Verdict::Held)];
+    let told_all = told(alloc, MAP, false);
+    assert!(rt; are_met(alloc, &[5, 3, 2], Role::Receiver, told_all, &all));
+    let some = [(5, Verdict::Held), (3, Verdict::Held)];
+    let told_some = told(alloc, MAP, true);
+    assert!(rt; are_met(alloc, &[5, 3], Role::Receiver, told_some, &some));
 }
 
 #[test]
-fn the_first_of_equal_keys_counts(rt: HostRuntime) -> Result<(), Fail> {
-    let twice = told(rt.alloc(), TWICE, false)?;
-    let met = met(rt.alloc(), &[1], Role::Sender, &twice)?;
-    assert_eq!(rt; met.as_slice(), [(1, Verdict::Partial)].as_slice());
-    Ok(())
+fn the_first_of_equal_keys_counts(rt: HostRuntime) {
+    let twice = told(rt.alloc(), TWICE, false);
+    let first = [(1, Verdict::Partial)];
+    assert!(rt; are_met(rt.alloc(), &[1], Role::Sender, twice, &first));
 }
 
 #[test]
-fn what_is_no_tag_and_what_is_no_state(rt: HostRuntime) -> Result<(), Fail> {
-    let odd = told(rt.alloc(), ODD, false)?;
-    let met = met(rt.alloc(), &[1, 2, 3, 4, 5], Role::Sender, &odd)?;
-    assert_eq!(rt;
-        met.as_slice(),
-        [
-            (1, Verdict::Absent),
-            (2, Verdict::Absent),
-            (3, Verdict::Held),
-            (4, Verdict::Held),
-            (5, Verdict::Outcome)
-        ]
-        .as_slice()
-    );
-    Ok(())
+fn what_is_no_tag_and_what_is_no_state(rt: HostRuntime) {
+    let odd = told(rt.alloc(), ODD, false);
+    let expected = [
+        (1, Verdict::Absent),
+        (2, Verdict::Absent),
+        (3, Verdict::Held),
+        (4, Verdict::Held),
+        (5, Verdict::Outcome),
+    ];
+    assert!(rt; are_met(rt.alloc(), &[1, 2, 3, 4, 5], Role::Sender, odd, &expected));
 }
 
 #[test]
-fn attaches_as_octets(rt: HostRuntime) -> Result<(), Fail> {
-    let accepted = told_by(rt.alloc(), ACCEPTED)?;
-    let sent = met(rt.alloc(), &[1, 2], Role::Sender, &accepted)?;
-    assert_eq!(rt;
-        sent.as_slice(),
-        [(1, Verdict::Absent), (2, Verdict::Outcome)].as_slice()
-    );
-    let nothing = told_by(rt.alloc(), NOTHING)?;
-    let received = met(rt.alloc(), &[1], Role::Receiver, &nothing)?;
-    assert!(rt; received.is_empty());
-    Ok(())
+fn attaches_as_octets(rt: HostRuntime) {
+    let alloc = rt.alloc();
+    let sent = [(1, Verdict::Absent), (2, Verdict::Outcome)];
+    let accepted = told_by(alloc, ACCEPTED);
+    assert!(rt; are_met(alloc, &[1, 2], Role::Sender, accepted, &sent));
+    let nothing = told_by(alloc, NOTHING);
+    assert!(rt; are_met(alloc, &[1], Role::Receiver, nothing, &[]));
 }
 
-#[test]
-fn the_map_that_is_sent(rt: HostRuntime) -> Result<(), Fail> {
-    let mut items = items(rt.alloc(), &[1, 2])?;
-    let plain = map_written(rt.alloc(), items.as_slice())?;
-    assert_eq!(rt;
-        plain.as_slice(),
-        [0xc1, 9, 4, 0xa0, 1, 1, 0x40, 0xa0, 1, 2, 0x40].as_slice()
-    );
-    items.clear();
-    let none = map_written(rt.alloc(), items.as_slice())?;
-    assert!(rt; none.is_empty());
-    let tag = Tag::new(&[7]).ok_or("a tag of at most 32 octets")?;
+/// Whether the map of these items is written so.
+fn is_map(alloc: Global, items: &[SuspendedItem], octets: &[u8]) -> bool {
+    match map_written(alloc, items) {
+        Some(written) => written.as_slice() == octets,
+        None => false,
+    }
+}
+
+/// Whether the map of one item is written so, whose delivery the peer may not have here.
+fn is_map_of_modified(alloc: Global, octets: &[u8]) -> bool {
+    let Some(tag) = Tag::new(&[7]) else {
+        return false;
+    };
     let state = Some(DeliveryState::Modified {
         delivery_failed: None,
         undeliverable_here: Some(true),
         message_annotations: None,
     });
-    items.push(SuspendedItem { tag, state })?;
-    let modified = map_written(rt.alloc(), items.as_slice())?;
-    assert_eq!(rt;
-        modified.as_slice(),
-        [
-            0xc1, 12, 2, 0xa0, 1, 7, 0x00, 0x53, 0x27, 0xc0, 3, 2, 0x40, 0x41
-        ]
-        .as_slice()
-    );
-    Ok(())
+    let mut items = Vec::new(alloc);
+    items.push(SuspendedItem { tag, state }).is_ok() && is_map(alloc, items.as_slice(), octets)
+}
+
+/// Whether the map of two items without a state is written so.
+fn is_map_of_two(alloc: Global, octets: &[u8]) -> bool {
+    match items(alloc, &[1, 2]) {
+        Some(items) => is_map(alloc, items.as_slice(), octets),
+        None => false,
+    }
 }
 
 #[test]
-fn the_peers_state_is_kept(rt: HostRuntime) -> Result<(), Fail> {
-    let all = told(rt.alloc(), MAP, false)?;
-    let items = items(rt.alloc(), &[2, 9])?;
-    assert!(rt; !has_twice(items.as_slice()));
-    if has_twice(items.as_slice()) {
-        return Ok(());
-    }
-    let mut waiting = Waiting::new(rt.alloc(), items.as_slice())?;
-    waiting.meet(Role::Sender, &all)?;
-    let second = Tag::new(&[2]).ok_or("a tag of at most 32 octets")?;
-    let is_received = match waiting.find(&second) {
+fn the_map_that_is_sent(rt: HostRuntime) {
+    let alloc = rt.alloc();
+    assert!(rt; is_map_of_two(alloc, b"\xc1\x09\x04\xa0\x01\x01\x40\xa0\x01\x02\x40"));
+    assert!(rt; is_map(alloc, &[], b""));
+    let modified = b"\xc1\x0c\x02\xa0\x01\x07\x00\x53\x27\xc0\x03\x02\x40\x41";
+    assert!(rt; is_map_of_modified(alloc, modified));
+}
+
+/// Whether the peer told of this tag what the map has for it.
+fn is_received(waiting: &Waiting, tag: &Tag) -> bool {
+    match waiting.find(tag) {
         Some(standing) => standing.theirs
             == Some(DeliveryState::Received {
                 section_number: 1,
                 section_offset: 2,
             }),
         None => false,
-    };
-    assert!(rt; is_received);
+    }
+}
+
+/// Whether of two that wait, of which the peer told one, that one has the peer's state, and goes.
+fn is_kept(alloc: Global, unsettled: &Unsettled) -> Option<bool> {
+    let items = items(alloc, &[2, 9])?;
+    let mut waiting = waiting(alloc, items.as_slice())?;
+    waiting.meet(Role::Sender, unsettled).ok()?;
+    let second = Tag::new(&[2])?;
+    if !is_received(&waiting, &second) {
+        return Some(false);
+    }
     waiting.remove(&second);
-    assert!(rt; !waiting.has(&second));
-    assert_eq!(rt; waiting.len(), 1);
-    Ok(())
+    Some(!waiting.has(&second) && waiting.len() == 1)
+}
+
+#[test]
+fn the_peers_state_is_kept(rt: HostRuntime) {
+    let is_there = match told(rt.alloc(), MAP, false) {
+        Some(all) => is_kept(rt.alloc(), &all) == Some(true),
+        None => false,
+    };
+    assert!(rt; is_there);
 }
