@@ -2,15 +2,17 @@
 use amqp_decoder::*;
 use amqp_performatives::{DeliveryState, Performative, Role};
 use std::alloc::Global;
+use std::process::Abort;
 
 // A performative's number, and three of its fields.
 type Seen = (u8, Option<u32>, Option<u32>, Option<u32>);
 
-fn is_none(alloc: Global, octets: &[u8]) -> bool {
-    match read_performative(alloc, octets) {
+fn expect_none(rt: &impl Abort, alloc: Global, octets: &[u8]) {
+    let none = match read_performative(alloc, octets) {
         Err(BodyFault::NoBody) => true,
         _ => false,
-    }
+    };
+    assert!(rt; none, "{octets:?}");
 }
 
 // The performative that the octets are, all of them, where the text in it is that.
@@ -129,7 +131,10 @@ fn opens(rt: HostRuntime) {
     let octets = [
         0x00, 0x53, 0x10, 0xc0, 0x0d, 4, 0xa1, 1, 0x61, 0x40, 0x70, 0, 1, 0, 0, 0x60, 0, 0,
     ];
-    assert!(rt; seen(rt.alloc(), &octets, "a") == Some((0x10, Some(65536), Some(0), None)));
+    assert_eq!(rt;
+        seen(rt.alloc(), &octets, "a"),
+        Some((0x10, Some(65536), Some(0), None))
+    );
 }
 
 #[test]
@@ -138,8 +143,9 @@ fn begins(rt: HostRuntime) {
         0x00, 0x53, 0x11, 0xc0, 0x0f, 4, 0x60, 0, 0, 0x43, 0x70, 0, 0, 8, 0, 0x70, 0x7f, 0xff,
         0xff, 0xff,
     ];
-    assert!(rt;
-        seen(rt.alloc(), &octets, "") == Some((0x11, Some(0), Some(2048), Some(2147483647)))
+    assert_eq!(rt;
+        seen(rt.alloc(), &octets, ""),
+        Some((0x11, Some(0), Some(2048), Some(2147483647)))
     );
 }
 
@@ -149,7 +155,10 @@ fn attaches(rt: HostRuntime) {
         0x00, 0x53, 0x12, 0xc0, 0x0f, 10, 0xa1, 1, 0x71, 0x43, 0x42, 0x50, 2, 0x50, 0, 0x40, 0x40,
         0x40, 0x40, 0x43,
     ];
-    assert!(rt; seen(rt.alloc(), &octets, "q") == Some((0x12, Some(0), Some(2), Some(0))));
+    assert_eq!(rt;
+        seen(rt.alloc(), &octets, "q"),
+        Some((0x12, Some(0), Some(2), Some(0)))
+    );
 }
 
 #[test]
@@ -157,12 +166,18 @@ fn transfers(rt: HostRuntime) {
     let octets = [
         0x00, 0x53, 0x14, 0xc0, 0x08, 4, 0x43, 0x52, 1, 0xa0, 1, 3, 0x43,
     ];
-    assert!(rt; seen(rt.alloc(), &octets, "") == Some((0x14, Some(1), Some(0), None)));
+    assert_eq!(rt;
+        seen(rt.alloc(), &octets, ""),
+        Some((0x14, Some(1), Some(0), None))
+    );
     let aborted = [
         0x00, 0x53, 0x14, 0xc0, 0x0b, 10, 0x43, 0x40, 0x40, 0x40, 0x41, 0x40, 0x40, 0x40, 0x40,
         0x41,
     ];
-    assert!(rt; seen(rt.alloc(), &aborted, "") == Some((0x14, None, None, Some(1))));
+    assert_eq!(rt;
+        seen(rt.alloc(), &aborted, ""),
+        Some((0x14, None, None, Some(1)))
+    );
 }
 
 #[test]
@@ -171,7 +186,10 @@ fn an_accepting_disposition(rt: HostRuntime) {
         0x00, 0x53, 0x15, 0xc0, 0x0d, 5, 0x41, 0x70, 0xff, 0xff, 0xff, 0xff, 0x43, 0x41, 0x00,
         0x53, 0x24, 0x45,
     ];
-    assert!(rt; seen(rt.alloc(), &octets, "") == Some((0x15, Some(4294967295), Some(0), Some(2))));
+    assert_eq!(rt;
+        seen(rt.alloc(), &octets, ""),
+        Some((0x15, Some(4294967295), Some(0), Some(2)))
+    );
 }
 
 #[test]
@@ -180,17 +198,26 @@ fn other_states(rt: HostRuntime) {
         0x00, 0x53, 0x15, 0xc0, 0x0e, 5, 0x41, 0x43, 0x40, 0x40, 0x00, 0x53, 0x23, 0xc0, 0x04, 2,
         0x43, 0x53, 7,
     ];
-    assert!(rt; seen(rt.alloc(), &received, "") == Some((0x15, Some(0), None, Some(1))));
+    assert_eq!(rt;
+        seen(rt.alloc(), &received, ""),
+        Some((0x15, Some(0), None, Some(1)))
+    );
     let modified = [
         0x00, 0x53, 0x15, 0xc0, 0x0c, 5, 0x41, 0x43, 0x40, 0x40, 0x00, 0x53, 0x27, 0xc0, 2, 1, 0x41,
     ];
-    assert!(rt; seen(rt.alloc(), &modified, "") == Some((0x15, Some(0), None, Some(5))));
+    assert_eq!(rt;
+        seen(rt.alloc(), &modified, ""),
+        Some((0x15, Some(0), None, Some(5)))
+    );
     // a transaction's state
     let transactional = [
         0x00, 0x53, 0x15, 0xc0, 0x0d, 5, 0x41, 0x43, 0x40, 0x40, 0x00, 0x53, 0x34, 0xc0, 3, 1,
         0xa0, 0,
     ];
-    assert!(rt; seen(rt.alloc(), &transactional, "") == Some((0x15, Some(0), None, Some(6))));
+    assert_eq!(rt;
+        seen(rt.alloc(), &transactional, ""),
+        Some((0x15, Some(0), None, Some(6)))
+    );
 }
 
 #[test]
@@ -200,27 +227,36 @@ fn an_end_with_an_error(rt: HostRuntime) {
         0x71, 0x70, 0x3a, 0x69, 0x6e, 0x76, 0x61, 0x6c, 0x69, 0x64, 0x2d, 0x66, 0x69, 0x65, 0x6c,
         0x64,
     ];
-    assert!(rt; seen(rt.alloc(), &octets, "amqp:invalid-field") == Some((0x17, None, None, None)));
+    assert_eq!(rt;
+        seen(rt.alloc(), &octets, "amqp:invalid-field"),
+        Some((0x17, None, None, None))
+    );
 }
 
 #[test]
 fn closes(rt: HostRuntime) {
     let octets = [0x00, 0x53, 0x18, 0x45];
-    assert!(rt; seen(rt.alloc(), &octets, "") == Some((0x18, None, None, None)));
+    assert_eq!(rt;
+        seen(rt.alloc(), &octets, ""),
+        Some((0x18, None, None, None))
+    );
     let by_name = [
         0x00, 0xa3, 0x0f, 0x61, 0x6d, 0x71, 0x70, 0x3a, 0x63, 0x6c, 0x6f, 0x73, 0x65, 0x3a, 0x6c,
         0x69, 0x73, 0x74, 0x45,
     ];
-    assert!(rt; seen(rt.alloc(), &by_name, "") == Some((0x18, None, None, None)));
+    assert_eq!(rt;
+        seen(rt.alloc(), &by_name, ""),
+        Some((0x18, None, None, None))
+    );
 }
 
 #[test]
 fn refused(rt: HostRuntime) {
-    assert!(rt; is_none(rt.alloc(), &[]));
+    expect_none(&rt, rt.alloc(), &[]);
     // no mandatory handle
-    assert!(rt; is_none(rt.alloc(), &[0x00, 0x53, 0x16, 0x45]));
+    expect_none(&rt, rt.alloc(), &[0x00, 0x53, 0x16, 0x45]);
     // a field past the last
-    assert!(rt; is_none(rt.alloc(), &[0x00, 0x53, 0x18, 0xc0, 3, 2, 0x40, 0x41]));
+    expect_none(&rt, rt.alloc(), &[0x00, 0x53, 0x18, 0xc0, 3, 2, 0x40, 0x41]);
 }
 
 #[test]
@@ -229,10 +265,10 @@ fn refused_within(rt: HostRuntime) {
     let accepted = [
         0x00, 0x53, 0x15, 0xc0, 0x0c, 5, 0x41, 0x43, 0x40, 0x40, 0x00, 0x53, 0x24, 0xc0, 2, 1, 0x41,
     ];
-    assert!(rt; is_none(rt.alloc(), &accepted));
+    expect_none(&rt, rt.alloc(), &accepted);
     // settle mode 3
     let mode = [
         0x00, 0x53, 0x12, 0xc0, 8, 4, 0xa1, 1, 0x71, 0x43, 0x42, 0x50, 3,
     ];
-    assert!(rt; is_none(rt.alloc(), &mode));
+    expect_none(&rt, rt.alloc(), &mode);
 }

@@ -1,5 +1,6 @@
 //! What no clause says: octets of known frames, and each call once. A frame is let go in the helper that makes it: a test holds octets and answers alone.
 
+use amqp_decoder::{BodyFault, read_performative};
 use amqp_frames::*;
 use amqp_types::{Boxed, Items, Text, Value};
 use bytes::Bytes;
@@ -541,4 +542,11 @@ fn unfair_errors(rt: HostRuntime) {
     assert!(rt; end(alloc, failure(alloc, "\u{e9}", None)) == UNFAIR);
     assert!(rt; detach(alloc, None) == None);
     assert!(rt; detach(alloc, failure(alloc, "x", null(alloc))) == UNFAIR);
+}
+
+/// A frame without a body is empty, so no stored run shows this.
+#[test]
+fn no_octets_are_no_performative(rt: HostRuntime) {
+    let read = read_performative(rt.alloc(), &[]);
+    assert!(rt; matches!(&read, Err(BodyFault::NoBody)));
 }
