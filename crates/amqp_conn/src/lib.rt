@@ -118,10 +118,11 @@ mod phase;
 mod pump;
 mod pumping;
 mod refused;
+mod saying;
 mod treating;
 mod writing;
 
-pub use amqp_frames::{AmqpError, DeliveryState, FrameFault, Role};
+pub use amqp_frames::{AmqpError, CloseBody, DeliveryState, Frame, FrameFault, OpenBody, Role};
 pub use amqp_journal::left::Left;
 pub use amqp_journal::logged::Logged;
 pub use amqp_journal::unit::Unit;
@@ -140,3 +141,4 @@ pub use phase::Phase;
 pub use pump::Pump;
 pub use pumping::{Hears, PumpEnd, PumpFault};
 pub use refused::{CloseRefusal, StartFault};
+pub use saying::error_of;

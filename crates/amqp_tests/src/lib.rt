@@ -6,6 +6,7 @@
 //! | `endpoint` | replies that an endpoint gives twice |
 //! | `conn` | a whole connection |
 //! | `journal` | what a connection shows that forgets its journal's entries |
+//! | `said` | what the peer said of itself, and of why it ended something |
 #![tactic(auto)]
 
 #[cfg(test)]
@@ -14,3 +15,5 @@ mod conn;
 mod endpoint;
 #[cfg(test)]
 mod journal;
+#[cfg(test)]
+mod said;
