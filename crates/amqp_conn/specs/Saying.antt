@@ -1,5 +1,5 @@
 -- What a peer said: of itself, in its newest frame, and of why it ended something.
-use Rattle.std.specs.Prelude.{ℕ, ◌-◌, Option, Some, None, List, [], length, drop, slice_get}
+use Rattle.std.specs.Prelude.{ℕ, ◌-◌, Bool, true, false, Option, Some, None, List, [], length, drop, slice_get}
 use Rattle.amqp_performatives.specs.declared.bodies.Role.{Role}
 use Rattle.amqp_performatives.specs.declared.bodies.OpenBody.{OpenBody}
 use Rattle.amqp_performatives.specs.declared.bodies.CloseBody.{CloseBody}
@@ -11,6 +11,16 @@ use Rattle.amqp_laws.specs.declared.entry.Entry.{Entry}
 use Rattle.amqp_laws.specs.declared.entry.Step.{Step}
 use Rattle.amqp_laws.specs.declared.entry.Step.TheVariants.{Opened, Own, Heard}
 use Rattle.amqp_journal.specs.Log.{Log}
+use Rattle.amqp_conn.specs.declared.phase.Phase.{Phase}
+use Rattle.amqp_conn.specs.declared.phase.Phase.TheVariants as phase
+
+-- the peer's open is not awaited any more
+abbrev pub has_met : Phase → Bool
+has_met phase.AwaitHeader = false
+has_met phase.AwaitOpen = false
+has_met phase.Running = true
+has_met phase.Closing = true
+has_met phase.Closed = true
 
 abbrev pub open_in : Option Performative → Option OpenBody
 open_in (Some (Open b)) = Some b

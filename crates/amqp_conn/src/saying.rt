@@ -33,7 +33,8 @@ fn lent(error: &Option<Boxed<AmqpError>>) -> Option<&AmqpError>
 pub(crate) fn open_in(frame: Frame) -> Option<Boxed<OpenBody>>
     ensures { result ≡ open_in frame.body }
 {
-    match frame.body {
+    let Frame { body, .. } = frame;
+    match body {
         Some(Performative::Open(body)) => Some(body),
         _ => None,
     }
@@ -43,7 +44,8 @@ pub(crate) fn open_in(frame: Frame) -> Option<Boxed<OpenBody>>
 pub(crate) fn close_in(frame: Frame) -> Option<CloseBody>
     ensures { result ≡ close_in frame.body }
 {
-    match frame.body {
+    let Frame { body, .. } = frame;
+    match body {
         Some(Performative::Close(body)) => Some(body),
         _ => None,
     }

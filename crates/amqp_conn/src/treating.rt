@@ -1,5 +1,5 @@
 //! A connection but the octets that it has not read: what a whole frame does to it (part 2, 2.4).
-ghost use Rattle.std.specs.Prelude.{◌≡◌, ◌≢◌, ◌⊎◌, [], ◌∷◌, Some, None, Ok, Err, OnOk, OnErr, IfOk, IfErr, IfSome, IfNone, IsSome, MatchResult, slice_get, length, find, option_map, true, false};
+ghost use Rattle.std.specs.Prelude.{◌≡◌, ◌≢◌, ◌⊎◌, [], ◌∷◌, Some, None, Ok, Err, OnOk, OnErr, IfOk, IfErr, IfSome, IfNone, IsSome, MatchResult, slice_get, length, find, option_map, true, false, cond, ◌==◌};
 ghost use Rattle.amqp_rules.specs.Refusing.{no_memory};
 ghost use Rattle.amqp_rules.specs.ViolationAnswer.{violation_answer, error_of};
 ghost use Rattle.amqp_frames.specs.Measuring.{IsMeasureOf};
@@ -12,7 +12,7 @@ ghost use Rattle.amqp_conn.specs.Calling.{IsFit, IsStartFault, Does, Closes, pee
 ghost use Rattle.amqp_conn.specs.Octets.{open_frame, close_frame, condition, last_words, session_of, new_core};
 ghost use Rattle.amqp_conn.specs.Connection.{in_phase, met, parted, sending};
 ghost use Rattle.amqp_conn.specs.Leaving.{Gives, GivesOf, is_ungathered, gathering, left_of, but_left};
-ghost use Rattle.amqp_conn.specs.Treating.{greeted, sending_last, fault_of, run, await_open, await_close, hearing, answering};
+ghost use Rattle.amqp_conn.specs.Treating.{ended, greeted, sending_last, fault_of, run, await_open, await_close, hearing, answering};
 ghost use Rattle.amqp_conn.specs.Saying.{error_of_close};
 ghost use Rattle.amqp_conn.specs.Treats.{Treats, TreatsAs, EndsWith};
 
@@ -437,24 +437,29 @@ impl Machine {
                 }
                 self.close_in_return(used, close_in(frame))
             }
-            Some(
-                Performative::Begin(_)
-                | Performative::Attach(_)
-                | Performative::Flow(_)
-                | Performative::Transfer(_)
-                | Performative::Disposition(_)
-                | Performative::Detach(_)
-                | Performative::End(_),
-            ) => {
-                if frame.channel != 0 {
-                    drop(frame);
-                    return Err(self.end(ConnFault::BadChannel));
-                }
-                let answer = self.hear(used, &frame);
-                drop(frame);
-                answer
-            }
+            Some(Performative::Begin(_)) => self.hear_on(used, frame.channel, frame),
+            Some(Performative::Attach(_)) => self.hear_on(used, frame.channel, frame),
+            Some(Performative::Flow(_)) => self.hear_on(used, frame.channel, frame),
+            Some(Performative::Transfer(_)) => self.hear_on(used, frame.channel, frame),
+            Some(Performative::Disposition(_)) => self.hear_on(used, frame.channel, frame),
+            Some(Performative::Detach(_)) => self.hear_on(used, frame.channel, frame),
+            Some(Performative::End(_)) => self.hear_on(used, frame.channel, frame),
         }
+    }
+
+    /// A frame of the session, on this channel.
+    #[inline(always)]
+    fn hear_on(&mut self, used: usize, channel: u16, frame: Frame) -> Result<Fed, ConnFault>
+        requires { self.old.phase ≡ Phase.Running }
+        ensures { TreatsAs (cond (channel == 0) (hearing self.old frame (heard_due self.old.log frame)) (ended ConnFault.BadChannel)) self.old frame used result self.new }
+    {
+        if channel != 0 {
+            drop(frame);
+            return Err(self.end(ConnFault::BadChannel));
+        }
+        let answer = self.hear(used, &frame);
+        drop(frame);
+        answer
     }
 
     fn hear(&mut self, used: usize, frame: &Frame) -> Result<Fed, ConnFault>
