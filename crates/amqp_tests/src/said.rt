@@ -16,12 +16,16 @@ const BEGIN: &str = "0000001702000000 005311c00a04 40 43 5205 707fffffff";
 
 /// The attach of a sender, `q`, on handle 0, and one delivery of it, which is unsettled.
 const ATTACH: &str = "0000001a02000000 005312c00d0a a10171 43 42 404040404040 43";
+
 const TRANSFER: &str = "0000001602000000 005314c00805 43 43 a00101 43 42 61";
 
 /// A close, an end and a detach that closes handle 0, each with the error `x`, described as `by`.
 const CLOSE: &str = "0000001b02000000 005318c00e01 00531dc00802 a30178 a1026279";
+
 const PLAIN: &str = "0000000c02000000 00531845";
+
 const END: &str = "0000001b02000000 005317c00e01 00531dc00802 a30178 a1026279";
+
 const DETACH: &str = "0000001d02000000 005316c01003 43 41 00531dc00802 a30178 a1026279";
 
 /// What is done with a connection.
@@ -77,7 +81,12 @@ fn shown_of(open: &OpenBody) -> Peer {
         None => false,
     };
     let named = is_named(&open.container_id, "b") && host && open.properties.is_some();
-    (open.max_frame_size, open.channel_max, open.idle_time_out, named)
+    (
+        open.max_frame_size,
+        open.channel_max,
+        open.idle_time_out,
+        named,
+    )
 }
 
 fn show(conn: &Conn) -> Shown {
@@ -178,12 +187,7 @@ fn the_open_is_kept(rt: HostRuntime) -> Result<(), Fail> {
         phase: Phase::Closed,
         ..RUNNING
     };
-    let ends = [
-        Do::Feed(HEADER),
-        Do::Feed(OPEN),
-        Do::Forget,
-        Do::Lost,
-    ];
+    let ends = [Do::Feed(HEADER), Do::Feed(OPEN), Do::Forget, Do::Lost];
     assert_eq!(rt; shows(alloc, &ends[..1])?, before);
     assert_eq!(rt; shows(alloc, &ends[..2])?, RUNNING);
     assert_eq!(rt; shows(alloc, &ends)?, lost);
@@ -203,12 +207,7 @@ fn the_close_is_kept(rt: HostRuntime) -> Result<(), Fail> {
         Do::Feed(CLOSE),
         Do::Feed(PLAIN),
     ];
-    let agreed = [
-        Do::Feed(HEADER),
-        Do::Feed(OPEN),
-        Do::Close,
-        Do::Feed(CLOSE),
-    ];
+    let agreed = [Do::Feed(HEADER), Do::Feed(OPEN), Do::Close, Do::Feed(CLOSE)];
     let plain = [
         Do::Feed(HEADER),
         Do::Feed(OPEN),
