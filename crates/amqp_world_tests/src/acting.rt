@@ -82,7 +82,7 @@ impl Tally {
             .min(self.carried)
             .min(self.aborted)
             .min(self.learnt);
-        few >= 10
+        few >= 5
     }
 }
 

@@ -12,7 +12,7 @@ use std::alloc::{AllocError, Global};
 use std::test::Fail;
 
 /// How many pairs of ends there are, each with dice of its own, and how often one of both does something.
-const PAIRS: u32 = 40;
+const PAIRS: u32 = 12;
 
 const STEPS: u32 = 1000;
 
