@@ -28,6 +28,8 @@ pub enum Request {
     Explain(Explained),
     /// A run of `pair`.
     Pair(Options),
+    /// A run of `rows`.
+    Rows,
 }
 
 /// What the words ask for, the first of which is the program's name. The error holds what is to be told: a fault of
@@ -39,6 +41,9 @@ pub fn read_request<'a, S: AsStr>(alloc: Global, words: &'a [S]) -> Result<Reque
     let matches = command.try_get_matches_from_mut(words)?;
     if matches.subcommand_matches("frames").is_some() {
         return Ok(Request::Frames);
+    }
+    if matches.subcommand_matches("rows").is_some() {
+        return Ok(Request::Rows);
     }
     if let Some(options) = matches.subcommand_matches("trace") {
         return Ok(Request::Trace(direction_of(options), options.get_flag("raw")));
@@ -74,6 +79,9 @@ fn program<'a>(alloc: Global) -> Result<Command<'a>, AllocError> {
     let frames = Command::new(alloc, "frames").about(
         "Reads octets in hexadecimal from standard input and names the frames in them",
     );
+    let rows = Command::new(alloc, "rows").about(
+        "Reads cases from standard input and tells which of them are answered otherwise than they want",
+    );
     Command::new(alloc, "amqp_peer")
         .about("One end of an AMQP 1.0 connection")
         .subcommand_required(true)
@@ -82,7 +90,8 @@ fn program<'a>(alloc: Global) -> Result<Command<'a>, AllocError> {
         .subcommand(frames)?
         .subcommand(options::trace(alloc)?)?
         .subcommand(options::explain(alloc)?)?
-        .subcommand(pair(alloc)?)
+        .subcommand(pair(alloc)?)?
+        .subcommand(rows)
 }
 
 fn pair<'a>(alloc: Global) -> Result<Command<'a>, AllocError> {

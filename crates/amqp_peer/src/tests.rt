@@ -1,4 +1,3 @@
-//! What no clause says: command lines, the settings that they give, and runs of `pair`.
+//! What no clause says and no row can show: that all threads of `pair` end where a socket is shut in mid-run.
 
-mod commands;
 mod pair;

@@ -1,90 +1,9 @@
-//! Runs of `pair`: what they tell, and that all their threads end where a socket is shut in mid-run.
+//! Runs of `pair` whose socket is shut in mid-run.
 
-use amqp_pair::{Options, PairFault, connected, run_over, run_pair};
+use amqp_pair::{Options, PairFault, connected, run_over};
 use std::net::{Shutdown, TcpStream};
 use std::test::Fail;
 use std::thread;
-
-/// Two hundred messages, each of two transfers, whose ids wrap.
-const WRAPPING: Options = Options {
-    count: 200,
-    consumers: 4,
-    credit: 16,
-    size: 70000,
-    first_id: 4294967290,
-    keep: None,
-};
-
-/// Few entries are kept of many.
-const FORGETTING: Options = Options {
-    count: 99,
-    consumers: 2,
-    credit: 10,
-    size: 300,
-    first_id: 0,
-    keep: Some(8),
-};
-
-fn options(count: u32, consumers: u32, credit: u32, size: u32) -> Options {
-    Options {
-        count,
-        consumers,
-        credit,
-        size,
-        first_id: 0,
-        keep: None,
-    }
-}
-
-#[test]
-fn runs(rt: HostRuntime) -> Result<(), Fail> {
-    let alloc = rt.alloc();
-    let rows: [(Options, &[u8]); 5] = [
-        (FORGETTING, b"queued 99\nconsumed 99\naccepted 99\nleft 0\n"),
-        (
-            WRAPPING,
-            b"queued 200\nconsumed 200\naccepted 200\nleft 0\n",
-        ),
-        (
-            options(1, 1, 1, 0),
-            b"queued 1\nconsumed 1\naccepted 1\nleft 0\n",
-        ),
-        (
-            options(99, 16, 1000, 1),
-            b"queued 99\nconsumed 99\naccepted 99\nleft 0\n",
-        ),
-        (
-            options(3, 2, 1, 1000000),
-            b"queued 3\nconsumed 3\naccepted 3\nleft 0\n",
-        ),
-    ];
-    for (options, wanted) in rows {
-        let mut out: Vec<u8> = Vec::new(alloc);
-        run_pair(&rt, alloc, &options, &mut out)?;
-        assert_eq!(rt; out.as_slice(), wanted);
-    }
-    Ok(())
-}
-
-#[test]
-fn options_out_of_range(rt: HostRuntime) {
-    let alloc = rt.alloc();
-    let rows = [
-        options(0, 1, 1, 0),
-        options(100001, 1, 1, 0),
-        options(1, 0, 1, 0),
-        options(1, 17, 1, 0),
-        options(1, 1, 0, 0),
-        options(1, 1, 1001, 0),
-        options(1, 1, 1, 1000001),
-    ];
-    for options in rows {
-        let mut out: Vec<u8> = Vec::new(alloc);
-        let run = run_pair(&rt, alloc, &options, &mut out);
-        assert!(rt; matches!(&run, Err(PairFault::Options)));
-        assert!(rt; out.is_empty());
-    }
-}
 
 /// Shuts the socket for both directions after so many turns of other threads.
 fn shut_after(stream: &TcpStream, turns: u32) {
@@ -99,7 +18,14 @@ fn shut_after(stream: &TcpStream, turns: u32) {
 #[test]
 fn socket_shut_in_mid_run(rt: HostRuntime) -> Result<(), Fail> {
     let alloc = rt.alloc();
-    let long = options(100000, 4, 16, 70000);
+    let long = Options {
+        count: 100000,
+        consumers: 4,
+        credit: 16,
+        size: 70000,
+        first_id: 0,
+        keep: None,
+    };
     let places = [
         (true, 0),
         (false, 0),
