@@ -1,5 +1,6 @@
 //! What no clause says: octets of known frames, and each call once. A frame is let go in the helper that makes it: a test holds octets and answers alone.
 
+use amqp_decoder::{BodyFault, read_performative};
 use amqp_frames::*;
 use amqp_halves::{Found, find_performative};
 use amqp_types::{Boxed, Items, Text, Value};
@@ -157,12 +158,6 @@ fn fed_and_unread(framer: &mut Framer, octets: &[u8]) -> Result<(usize, bool), F
         }
         Err(fault) => Err(fault),
     }
-}
-
-fn fault(alloc: Global, text: &str) -> Result<Option<FrameFault>, AllocError> {
-    let octets = octets(alloc, text)?;
-    let mut framer = Framer::new(alloc, 65536);
-    Ok(fed(&mut framer, octets.as_slice()).err())
 }
 
 /// Why a frame of this performative and payload is not written; told by both calls, or else none.
@@ -374,21 +369,6 @@ fn unread_octets_come_again(rt: HostRuntime) -> Result<(), Fail> {
         (27, true)
     );
     assert_eq!(rt; fed(&mut framer, transfer.as_slice())?, (27, true));
-    Ok(())
-}
-
-#[test]
-fn an_octet_at_a_time(rt: HostRuntime) -> Result<(), Fail> {
-    let transfer = octets(rt.alloc(), T)?;
-    let mut framer = Framer::new(rt.alloc(), 65536);
-    let mut frames = 0u32;
-    for octet in transfer.as_slice() {
-        if let (_, true) = fed(&mut framer, &[*octet])? {
-            frames = frames.wrapping_add(1);
-        }
-    }
-    assert_eq!(rt; frames, 1);
-    assert_eq!(rt; framer.pending(), 0);
     Ok(())
 }
 
@@ -649,31 +629,11 @@ fn room_of_what_is_written(rt: HostRuntime) -> Result<(), Fail> {
     Ok(())
 }
 
+/// A frame without a body is empty, so no stored run shows this.
 #[test]
-fn faults(rt: HostRuntime) -> Result<(), Fail> {
-    let alloc = rt.alloc();
-    assert_eq!(rt; fault(alloc, "00000007")?, Some(FrameFault::ShortSize));
-    assert_eq!(rt;
-        fault(alloc, "00000008 01000000")?,
-        Some(FrameFault::BadDoff)
-    );
-    assert_eq!(rt;
-        fault(alloc, "00010001 02000000")?,
-        Some(FrameFault::TooBig)
-    );
-    assert_eq!(rt;
-        fault(alloc, "00000008 02010000")?,
-        Some(FrameFault::BadKind)
-    );
-    assert_eq!(rt;
-        fault(alloc, "00000009 02000000 ff")?,
-        Some(FrameFault::BadBody)
-    );
-    assert_eq!(rt;
-        fault(alloc, "0000000d 02000000 0053184500")?,
-        Some(FrameFault::BadBody)
-    );
-    Ok(())
+fn no_octets_are_no_performative(rt: HostRuntime) {
+    let read = read_performative(rt.alloc(), &[]);
+    assert!(rt; matches!(&read, Err(BodyFault::NoBody)));
 }
 
 #[test]

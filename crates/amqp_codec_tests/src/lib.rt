@@ -6,7 +6,6 @@
 //! | `types` | spellings of values, both ways |
 //! | `flow` | serial numbers, windows and credit |
 //! | `performatives` | copies of each kind of body, state and error |
-//! | `decoder` | performatives in front of octets |
 //! | `frames` | frames written and read, however they are cut |
 //! | `deliveries` | unsettled deliveries, and deliveries that are cut over transfers |
 //! | `waiting` | what becomes of each delivery that waits to be resumed, and the maps that attaches tell, as octets |
@@ -14,8 +13,6 @@
 //! | `growth` | each growth of memory that these calls ask for, refused in turn |
 #![tactic(auto)]
 
-#[cfg(test)]
-mod decoder;
 #[cfg(test)]
 mod deliveries;
 #[cfg(test)]
