@@ -71,27 +71,37 @@ pub fn read_request<'a, S: AsStr>(alloc: Global, words: &'a [S]) -> Result<Reque
     Err(command.error(ErrorKind::ValueValidation, "a number is out of its range")?)
 }
 
+/// Each command is made where it is put in: one that is held meanwhile has to be let go on each way out.
 fn program<'a>(alloc: Global) -> Result<Command<'a>, AllocError> {
-    let script = Command::new(alloc, "script").about(
-        "Reads lines from standard input and answers each with a line",
-    );
-    let script = with_config(alloc, script)?.arg(options::keep(alloc)?)?;
-    let frames = Command::new(alloc, "frames").about(
-        "Reads octets in hexadecimal from standard input and names the frames in them",
-    );
-    let rows = Command::new(alloc, "rows").about(
-        "Reads cases from standard input and tells which of them are answered otherwise than they want",
-    );
     Command::new(alloc, "amqp_peer")
         .about("One end of an AMQP 1.0 connection")
         .subcommand_required(true)
-        .subcommand(script)?
+        .subcommand(script(alloc)?)?
         .subcommand(options::command(alloc)?)?
-        .subcommand(frames)?
+        .subcommand(frames(alloc))?
         .subcommand(options::trace(alloc)?)?
         .subcommand(options::explain(alloc)?)?
         .subcommand(pair(alloc)?)?
-        .subcommand(rows)
+        .subcommand(rows(alloc))
+}
+
+fn script<'a>(alloc: Global) -> Result<Command<'a>, AllocError> {
+    let script = Command::new(alloc, "script").about(
+        "Reads lines from standard input and answers each with a line",
+    );
+    with_config(alloc, script)?.arg(options::keep(alloc)?)
+}
+
+fn frames<'a>(alloc: Global) -> Command<'a> {
+    Command::new(alloc, "frames").about(
+        "Reads octets in hexadecimal from standard input and names the frames in them",
+    )
+}
+
+fn rows<'a>(alloc: Global) -> Command<'a> {
+    Command::new(alloc, "rows").about(
+        "Reads cases from standard input and tells which of them are answered otherwise than they want",
+    )
 }
 
 fn pair<'a>(alloc: Global) -> Result<Command<'a>, AllocError> {
