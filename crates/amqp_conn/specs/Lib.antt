@@ -10,3 +10,4 @@ pub mod Writes
 pub mod Numbers
 pub mod Leaving
 pub mod Saying
+pub mod Kinds

@@ -1,6 +1,7 @@
 //! What a peer said: of itself, in its newest frame, and of why it ended something.
 ghost use Rattle.std.specs.Prelude.{◌≡◌, option_map};
 ghost use Rattle.amqp_conn.specs.Saying.{open_in, close_in, error_of_close, error_in, newest, heard_in, heard_by, ended_by};
+ghost use Rattle.amqp_conn.specs.Kinds.{kind_of};
 
 use amqp_frames::{AmqpError, CloseBody, Frame, OpenBody, Performative, Role};
 use amqp_journal::entry::{Entry, Step};
@@ -26,6 +27,27 @@ fn lent(error: &Option<Boxed<AmqpError>>) -> Option<&AmqpError>
     match error {
         Some(error) => Some(error.get()),
         None => None,
+    }
+}
+
+/// Whom a frame concerns: the connection by an open or a close, or its session (part 2, 2.4).
+#[derive(Clone, Copy)]
+pub(crate) enum Kind {
+    /// It has no body.
+    Empty,
+    Open,
+    Close,
+    Session,
+}
+
+pub(crate) fn kind_of(body: &Option<Performative>) -> Kind
+    ensures { result ≡ kind_of body.now }
+{
+    match body {
+        None => Kind::Empty,
+        Some(Performative::Open(_)) => Kind::Open,
+        Some(Performative::Close(_)) => Kind::Close,
+        Some(_) => Kind::Session,
     }
 }
 

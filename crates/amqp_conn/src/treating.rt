@@ -1,5 +1,5 @@
 //! A connection but the octets that it has not read: what a whole frame does to it (part 2, 2.4).
-ghost use Rattle.std.specs.Prelude.{◌≡◌, ◌≢◌, ◌⊎◌, [], ◌∷◌, Some, None, Ok, Err, OnOk, OnErr, IfOk, IfErr, IfSome, IfNone, IsSome, MatchResult, slice_get, length, find, option_map, true, false, cond, ◌==◌};
+ghost use Rattle.std.specs.Prelude.{◌≡◌, ◌≢◌, ◌⊎◌, [], ◌∷◌, Some, None, Ok, Err, OnOk, OnErr, IfOk, IfErr, IfSome, IfNone, IsSome, MatchResult, slice_get, length, find, option_map, true, false};
 ghost use Rattle.amqp_rules.specs.Refusing.{no_memory};
 ghost use Rattle.amqp_rules.specs.ViolationAnswer.{violation_answer, error_of};
 ghost use Rattle.amqp_frames.specs.Measuring.{IsMeasureOf};
@@ -12,16 +12,17 @@ ghost use Rattle.amqp_conn.specs.Calling.{IsFit, IsStartFault, Does, Closes, pee
 ghost use Rattle.amqp_conn.specs.Octets.{open_frame, close_frame, condition, last_words, session_of, new_core};
 ghost use Rattle.amqp_conn.specs.Connection.{in_phase, met, parted, sending};
 ghost use Rattle.amqp_conn.specs.Leaving.{Gives, GivesOf, is_ungathered, gathering, left_of, but_left};
-ghost use Rattle.amqp_conn.specs.Treating.{ended, greeted, sending_last, fault_of, run, await_open, await_close, hearing, answering};
-ghost use Rattle.amqp_conn.specs.Saying.{error_of_close};
+ghost use Rattle.amqp_conn.specs.Treating.{taken, greeted, sending_last, fault_of, run, await_open, await_close, hearing, answering};
+ghost use Rattle.amqp_conn.specs.Saying.{error_of_close, close_in};
 ghost use Rattle.amqp_conn.specs.Treats.{Treats, TreatsAs, EndsWith};
+ghost use Rattle.amqp_conn.specs.Kinds.{on_channel, closed_by};
 
 use crate::config::Config;
 use crate::fault::ConnFault;
 use crate::fed::Fed;
 use crate::phase::Phase;
 use crate::refused::{CloseRefusal, StartFault};
-use crate::saying::{close_in, error_of_close, open_in};
+use crate::saying::{Kind, close_in, error_of_close, kind_of, open_in};
 use crate::writing::{HEADER, close_octets, last_close, measure_ours, open_octets, plain_close};
 use amqp_frames::{
     AmqpError, CloseBody, Frame, FrameRefusal, Measured, OpenBody, Performative, Role,
@@ -421,39 +422,39 @@ impl Machine {
         requires { self.old.phase ≡ Phase.Running }
         ensures { TreatsAs (run self.old frame frame.body) self.old frame used result self.new }
     {
-        match &frame.body {
-            None => {
+        match kind_of(&frame.body) {
+            Kind::Empty => {
                 drop(frame);
                 Ok(nothing(used))
             }
-            Some(Performative::Open(_)) => {
+            Kind::Open => {
                 drop(frame);
                 Err(self.end(ConnFault::OutOfPlace))
             }
-            Some(Performative::Close(_)) => {
-                if frame.channel != 0 {
-                    drop(frame);
-                    return Err(self.end(ConnFault::BadChannel));
-                }
-                self.close_in_return(used, close_in(frame))
-            }
-            Some(Performative::Begin(_)) => self.hear_on(used, frame.channel, frame),
-            Some(Performative::Attach(_)) => self.hear_on(used, frame.channel, frame),
-            Some(Performative::Flow(_)) => self.hear_on(used, frame.channel, frame),
-            Some(Performative::Transfer(_)) => self.hear_on(used, frame.channel, frame),
-            Some(Performative::Disposition(_)) => self.hear_on(used, frame.channel, frame),
-            Some(Performative::Detach(_)) => self.hear_on(used, frame.channel, frame),
-            Some(Performative::End(_)) => self.hear_on(used, frame.channel, frame),
+            Kind::Close => self.hear_close(used, frame),
+            Kind::Session => self.hear_on(used, frame),
         }
     }
 
-    /// A frame of the session, on this channel.
-    #[inline(always)]
-    fn hear_on(&mut self, used: usize, channel: u16, frame: Frame) -> Result<Fed, ConnFault>
+    /// The peer's close.
+    fn hear_close(&mut self, used: usize, frame: Frame) -> Result<Fed, ConnFault>
         requires { self.old.phase ≡ Phase.Running }
-        ensures { TreatsAs (cond (channel == 0) (hearing self.old frame (heard_due self.old.log frame)) (ended ConnFault.BadChannel)) self.old frame used result self.new }
+        ensures { TreatsAs (on_channel frame.channel (taken (closed_by (close_in frame.body) self.old))) self.old frame used result self.new }
     {
-        if channel != 0 {
+        if frame.channel != 0 {
+            drop(frame);
+            return Err(self.end(ConnFault::BadChannel));
+        }
+        self.close_in_return(used, close_in(frame))
+    }
+
+    /// A frame of the session.
+    #[inline(always)]
+    fn hear_on(&mut self, used: usize, frame: Frame) -> Result<Fed, ConnFault>
+        requires { self.old.phase ≡ Phase.Running }
+        ensures { TreatsAs (on_channel frame.channel (hearing self.old frame (heard_due self.old.log frame))) self.old frame used result self.new }
+    {
+        if frame.channel != 0 {
             drop(frame);
             return Err(self.end(ConnFault::BadChannel));
         }
@@ -513,7 +514,7 @@ impl Machine {
 
     /// Answers the peer's close, and keeps it.
     fn close_in_return(&mut self, used: usize, parting: Option<CloseBody>) -> Result<Fed, ConnFault>
-        ensures ok { IfOk result (λ fed. (fed ≡ record { used = used; stepped = false; given = Given.Nothing; violation = None }) × (self.new ≡ record (in_phase Phase.Closed (sending (octets_of (close_frame None)) self.old)) { parting = parting })) }
+        ensures ok { IfOk result (λ fed. (fed ≡ record { used = used; stepped = false; given = Given.Nothing; violation = None }) × (self.new ≡ closed_by parting self.old)) }
         ensures memory { IfErr result (λ e. e ≡ ConnFault.NoMemory) }
         ensures err { OnErr result (self.new ≡ self.old) }
     {
