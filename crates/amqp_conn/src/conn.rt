@@ -1,6 +1,9 @@
 //! A connection, as a program drives it (part 2, 2.2 and 2.4).
 ghost use Rattle.std.specs.Prelude.{◌≡◌, ◌≢◌, ◌≤◌, [], Some, None, IfSome, IfOk, OnOk, OnErr, MatchResult, IsTrue, slice_get, length, drop};
 ghost use Rattle.amqp_journal.specs.Units.{units, waiting};
+ghost use Rattle.amqp_laws.specs.At.{at};
+ghost use Rattle.amqp_laws.specs.Past.{past};
+ghost use Rattle.amqp_links.specs.Rejoining.{all_aside};
 ghost use Rattle.amqp_conn.specs.Connection.{IsQuiet, connection, reads_frames, in_phase};
 ghost use Rattle.amqp_conn.specs.Octets.{new_core};
 ghost use Rattle.amqp_conn.specs.Feeding.{Feeds, MovesOn};
@@ -21,7 +24,7 @@ use amqp_journal::logged::Logged;
 use amqp_journal::unit::Unit;
 use amqp_rules::op::Op;
 use amqp_rules::refusal::Refusal;
-use amqp_rules::reply::Given;
+use amqp_rules::reply::{Given, Suspended};
 use amqp_types::Boxed;
 use bytes::Bytes;
 use std::alloc::{AllocError, Global};
@@ -173,6 +176,14 @@ impl Conn {
         ensures { result.now ≡ self.now.core.log }
     {
         self.machine.logged()
+    }
+
+    /// The links of this role that can be rejoined, as each would be put aside, in order: for another connection, once the octets of this one ended
+    /// (part 2, 2.6.13). It may be asked in every phase, and changes nothing. O(n · u) for n links and u unsettled deliveries of the role.
+    pub fn links_aside(&self, role: Role) -> Result<Vec<Suspended>, AllocError>
+        ensures { IfOk result (λ v. v.items ≡ all_aside (at self.now.core.log.config (past self.now.core.log.journal)) role) }
+    {
+        self.logged().endpoint().links_aside(role)
     }
 
     /// The octets ended: the phase is `Closed`, and what was not read is dropped. Nothing else changes, and no close goes out.

@@ -17,6 +17,7 @@
 //! | detach, of either end | O(log n + u) |
 //! | suspend, and a detach of the peer's that does not close | O(log n + u), and O(log r) for each that is ready or put aside, for r ready ones |
 //! | end, of either end | O(n + u) |
+//! | what would be put aside of all links of a role, asked without a step | O(n · u) |
 //!
 //! | module | what it has |
 //! |---|---|

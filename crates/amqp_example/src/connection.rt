@@ -142,7 +142,8 @@ fn tell<R: Print>(rt: &R, name: &str, given: &Given) -> anyhow::Result<()> {
         | Given::Gone(_)
         | Given::Delivery(_)
         | Given::Suspended(_)
-        | Given::Parted(_, _) => Ok(()),
+        | Given::Parted(_, _)
+        | Given::Resumed(_) => Ok(()),
     }
 }
 

@@ -108,6 +108,7 @@ impl End {
             Given::Attached(link) => Ok(println!(rt; "{name}: link {link} is attached")?),
             Given::Gone(link) => Ok(println!(rt; "{name}: link {link} is gone")?),
             Given::Suspended(_) => Ok(println!(rt; "{name}: a link is put aside")?),
+            Given::Resumed(_) => Ok(println!(rt; "{name}: a delivery is resumed")?),
             Given::Parted(link, _) => Ok(println!(rt;
                 "{name}: link {link} is put aside by the peer"
             )?),

@@ -9,3 +9,4 @@ pub mod Fate
 pub mod Waits
 pub mod Left
 pub mod Suspend
+pub mod Rejoining

@@ -13,11 +13,12 @@
 //! | `telling` | what is told of deliveries waits on their links |
 //! | `found` | a link that was found, with its key |
 //! | `left` | what links leave that go |
-//! | `suspend` | what goes with a link that is put aside |
+//! | `suspend`, `rejoining` | what goes with a link that is put aside; all links of a role as they would be |
 //! | `fate` | what becomes of the links, as data |
 #![tactic(auto)]
 
 pub mod arrival;
+
 pub mod credit;
 pub mod end;
 pub mod fate;
@@ -32,6 +33,7 @@ pub mod marks;
 mod meeting;
 mod names;
 mod readers;
+mod rejoining;
 mod store;
 mod suspend;
 mod telling;

@@ -66,8 +66,10 @@ use Rattle.amqp_rules.specs.contracts.reply.Sent as sent
 use Rattle.amqp_rules.specs.contracts.reply.Learned as learned
 use Rattle.amqp_waiting.specs.contracts.item.SuspendedItem as suspended_item
 use Rattle.amqp_rules.specs.contracts.reply.Suspended as suspended
+use Rattle.amqp_rules.specs.contracts.reply.Resumed as resumed
 use Rattle.amqp_rules.specs.contracts.reply.Given as given
 use Rattle.amqp_rules.specs.contracts.reply.Reply as reply
+use Rattle.amqp_rules.specs.contracts.op.Rejoin as rejoin
 use Rattle.amqp_rules.specs.contracts.op.Op as op
 use Rattle.amqp_laws.specs.contracts.entry.Step as step
 use Rattle.amqp_laws.specs.contracts.entry.Entry as entry
@@ -149,14 +151,20 @@ suspended_item_send = search (sendable, crosses, tag.the_send, delivery_state_se
 pub suspended_send : IsSend (suspended.the_field).row
 suspended_send = search (sendable, crosses, text.the_send, items_crosses.the_send, suspended_item_send) depth 40 fits 20000
 
+pub resumed_send : IsSend (resumed.the_field).row
+resumed_send = search (sendable, crosses, delivery_state_send) depth 40 fits 20000
+
 pub given_send : IsSend (given.the_field).row
-given_send = search (sendable, crosses, taken_crosses.the_send, learned_send, suspended_send, bytes_send, tag.the_send) depth 40 fits 20000
+given_send = search (sendable, crosses, taken_crosses.the_send, learned_send, suspended_send, resumed_send, bytes_send, tag.the_send) depth 40 fits 20000
 
 pub reply_send : IsSend (reply.the_field).row
 reply_send = search (sendable, crosses, items_crosses.the_send, sent_send, given_send) depth 40 fits 20000
 
+pub rejoin_send : IsSend (rejoin.the_field).row
+rejoin_send = search (sendable, crosses, text.the_send, boxed.the_send, value_send, items_crosses.the_send, suspended_item_send) depth 40 fits 20000
+
 pub op_send : IsSend (op.the_field).row
-op_send = search (sendable, crosses, text.the_send, tag.the_send, bytes_send, boxed.the_send, value_send, delivery_state_send, amqp_error_send) depth 40 fits 20000
+op_send = search (sendable, crosses, text.the_send, tag.the_send, bytes_send, boxed.the_send, value_send, delivery_state_send, amqp_error_send, rejoin_send) depth 40 fits 20000
 
 pub step_send : IsSend (step.the_field).row
 step_send = search (sendable, crosses, op_send, frame_send) depth 40 fits 20000

@@ -1,13 +1,16 @@
 //! What an endpoint is asked: it takes no memory, and changes nothing.
-ghost use Rattle.std.specs.Prelude.{◌≡◌, length, option_map, slice_get};
+ghost use Rattle.std.specs.Prelude.{◌≡◌, length, option_map, slice_get, IfOk};
 ghost use Rattle.amqp_deliveries.specs.Change.{held_items};
+ghost use Rattle.amqp_links.specs.Rejoining.{all_aside};
 ghost use Rattle.amqp_rules.specs.Status.{status_of, windows_of};
 ghost use Rattle.amqp_endpoint.specs.Plan.{tables_in};
 
 use crate::endpoint::Endpoint;
+use crate::reply::Suspended;
 use crate::status::{LinkStatus, WindowView};
 use amqp_deliveries::HeldItem;
 use amqp_frames::Role;
+use std::alloc::AllocError;
 
 impl Endpoint {
     /// How many steps it has accepted.
@@ -61,5 +64,13 @@ impl Endpoint {
         ensures { option_map (λ x. x.now) result ≡ slice_get (held_items role (tables_in self.now)) i }
     {
         self.stores.tables.unsettled_at(role, i)
+    }
+
+    /// All links of the role that can be rejoined, as each would be put aside, in order: for a connection that was lost (part 2, 2.6.13). O(n · u) for
+    /// n links and u unsettled deliveries of the role.
+    pub fn links_aside(&self, role: Role) -> Result<Vec<Suspended>, AllocError>
+        ensures { IfOk result (λ v. v.items ≡ all_aside self.now role) }
+    {
+        self.stores.links.put_aside(role, self.stores.tables.of(role))
     }
 }
