@@ -9,6 +9,8 @@ pub mod Parts
 pub mod Headers
 pub mod Written
 pub mod Onward
+pub mod Running
+pub mod Meeting
 pub mod Popping
 pub mod Loops
 pub mod Pumps

@@ -1,5 +1,7 @@
 -- What stands and what grows, whatever octets do: settings and popped units stand, and units only come behind.
 use Rattle.std.proofs.Common.{◌≡◌, ℕ, zero, suc, List, [], ◌∷◌, ◌++◌, length, Bool, true, false, cond, Option, Some, None, Result, Ok, Err, refl, sym, ap, ◌∙◌, subst, inl, inr, ⊎_elim, ◌==◌, append_assoc, append-nil}
+use Rattle.amqp_performatives.specs.declared.bodies.OpenBody.{OpenBody}
+use Rattle.amqp_performatives.specs.declared.bodies.CloseBody.{CloseBody}
 use Rattle.amqp_performatives.specs.declared.performative.Performative.{Performative}
 use Rattle.amqp_performatives.specs.declared.performative.Performative.TheVariants.{Open, Begin, Attach, Flow, Transfer, Disposition, Detach, End, Close}
 use Rattle.amqp_frames.specs.declared.frame.Frame.{Frame}
@@ -17,7 +19,7 @@ use Rattle.amqp_conn.specs.declared.phase.Phase.{Phase}
 use Rattle.amqp_conn.specs.declared.phase.Phase.TheVariants as phase
 use Rattle.amqp_conn.specs.declared.fault.ConnFault.{ConnFault}
 use Rattle.amqp_conn.specs.declared.fault.ConnFault.TheVariants as fault
-use Rattle.amqp_conn.specs.Connection.{Core, Connection, more, in_phase, sending, stepping}
+use Rattle.amqp_conn.specs.Connection.{Core, Connection, more, in_phase, met, parted, sending, stepping}
 use Rattle.amqp_rules.specs.Sending.{octets_of}
 use Rattle.amqp_conn.specs.Octets.{last_words, open_frame}
 use Rattle.amqp_conn.specs.Treating.{Treatment, taken, again, ended, treat, treat_in, await_open, await_close, run, hearing, answering, answering_by, greeted, ending, sending_last, after, Moves}
@@ -55,6 +57,12 @@ then k l m p q =
 phased : (p : Phase) (k : Core) → Onward k (in_phase p k)
 phased p k = record { limits = refl; popped = refl; behind = λ w. record { within = w; more = []; all = sym (append-nil (units k.log)) } }
 
+meets : (b : OpenBody) (k : Core) → Onward k (met b k)
+meets b k = record { limits = refl; popped = refl; behind = λ w. record { within = w; more = []; all = sym (append-nil (units k.log)) } }
+
+parts : (b : CloseBody) (k : Core) → Onward k (parted b k)
+parts b k = record { limits = refl; popped = refl; behind = λ w. record { within = w; more = []; all = sym (append-nil (units k.log)) } }
+
 sent : (x : List ℕ) (k : Core) → Onward k (sending x k)
 sent x k = record { limits = refl; popped = refl; behind = λ w. record { within = put-within k.log x w; more = x ∷ []; all = put-behind k.log x } }
 
@@ -88,7 +96,7 @@ by-channel k false t g = tt
 
 open-goes : (k : Core) (channel : ℕ) (body : Option Performative) → Goes k (await_open k channel body)
 open-goes k channel None = stays k
-open-goes k channel (Some (Open b)) = by-channel k (channel == 0) _ (then k (stepping _ _ k) (in_phase phase.Running (stepping _ _ k)) (stepped _ _ k) (phased phase.Running (stepping _ _ k)))
+open-goes k channel (Some (Open b)) = by-channel k (channel == 0) _ (then k (stepping _ _ k) (met b (stepping _ _ k)) (stepped _ _ k) (meets b (stepping _ _ k)))
 open-goes k channel (Some (Begin b)) = tt
 open-goes k channel (Some (Attach b)) = tt
 open-goes k channel (Some (Flow b)) = tt
@@ -116,7 +124,7 @@ heard-goes k f = by-channel k (f.channel == 0) (hearing k f (heard_due k.log f))
 run-goes : (k : Core) (f : Frame) (body : Option Performative) → Goes k (run k f body)
 run-goes k f None = stays k
 run-goes k f (Some (Open b)) = tt
-run-goes k f (Some (Close b)) = by-channel k (f.channel == 0) _ (then k (sending _ k) (in_phase phase.Closed (sending _ k)) (sent _ k) (phased phase.Closed (sending _ k)))
+run-goes k f (Some (Close b)) = by-channel k (f.channel == 0) _ (then k (sending _ k) (parted b (sending _ k)) (sent _ k) (parts b (sending _ k)))
 run-goes k f (Some (Begin b)) = heard-goes k f
 run-goes k f (Some (Attach b)) = heard-goes k f
 run-goes k f (Some (Flow b)) = heard-goes k f
@@ -127,7 +135,7 @@ run-goes k f (Some (End b)) = heard-goes k f
 
 close-goes : (k : Core) (body : Option Performative) → Goes k (await_close k body)
 close-goes k None = stays k
-close-goes k (Some (Close b)) = phased phase.Closed k
+close-goes k (Some (Close b)) = parts b k
 close-goes k (Some (Open b)) = stays k
 close-goes k (Some (Begin b)) = stays k
 close-goes k (Some (Attach b)) = stays k

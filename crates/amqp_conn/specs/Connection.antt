@@ -1,5 +1,7 @@
 -- A connection as callers see it.
-use Rattle.std.specs.Prelude.{ℕ, ◌≡◌, ◌<◌, ◌≤◌, ◌++◌, Bool, true, false, List, [], length}
+use Rattle.std.specs.Prelude.{ℕ, ◌≡◌, ◌<◌, ◌≤◌, ◌++◌, Bool, true, false, Option, Some, List, [], length}
+use Rattle.amqp_performatives.specs.declared.bodies.OpenBody.{OpenBody}
+use Rattle.amqp_performatives.specs.declared.bodies.CloseBody.{CloseBody}
 use Rattle.amqp_rules.specs.declared.reply.Reply.{Reply}
 use Rattle.amqp_frames.specs.Framing.{IsUnfinished}
 use Rattle.amqp_laws.specs.declared.entry.Step.{Step}
@@ -8,13 +10,18 @@ use Rattle.amqp_conn.specs.declared.config.Config.{Config}
 use Rattle.amqp_conn.specs.declared.phase.Phase.{Phase}
 use Rattle.amqp_conn.specs.declared.phase.Phase.TheVariants as phase
 
--- All but the octets that were not read yet: the settings, how far header, open and close have come (part 2, 2.4.6), and the session's log.
+-- All but the octets that were not read yet: the settings, how far header, open and close have come (part 2, 2.4.6), the session's log, and what the
+-- peer said of itself and of the end.
 pub record Core : Type 0 where
   pub config : Config
   pub phase : Phase
   pub log : Log
   -- what the links of an ended connection have was put behind what links left before
   pub gathered : Bool
+  -- the peer's open, once it was taken (part 2, 2.7.1)
+  pub peer : Option OpenBody
+  -- the peer's close, once it was taken (part 2, 2.7.9)
+  pub parting : Option CloseBody
 
 pub record Connection : Type 0 where
   pub core : Core
@@ -49,6 +56,14 @@ IsQuiet c = HasRead c.core.phase c.core.config.max_frame c.unread
 
 abbrev pub in_phase : Phase → Core → Core
 in_phase p k = record k { phase = p }
+
+-- the peer's open is taken
+abbrev pub met : OpenBody → Core → Core
+met b k = record k { phase = phase.Running; peer = Some b }
+
+-- the peer's close is taken
+abbrev pub parted : CloseBody → Core → Core
+parted b k = record k { phase = phase.Closed; parting = Some b }
 
 -- octets are put out
 abbrev pub sending : List ℕ → Core → Core

@@ -9,3 +9,5 @@ pub mod Turning
 pub mod Writes
 pub mod Numbers
 pub mod Leaving
+pub mod Saying
+pub mod Kinds

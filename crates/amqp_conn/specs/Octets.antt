@@ -75,4 +75,4 @@ session_of c = record { first_id = c.first_id; window = c.window; journal_limit 
 
 -- at first: our header goes out
 abbrev pub new_core : Config → Core
-new_core s = sending header (record { config = s; phase = phase.AwaitHeader; log = new_log (session_of s); gathered = false })
+new_core s = sending header (record { config = s; phase = phase.AwaitHeader; log = new_log (session_of s); gathered = false; peer = None; parting = None })

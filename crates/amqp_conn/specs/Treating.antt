@@ -20,7 +20,7 @@ use Rattle.amqp_conn.specs.declared.phase.Phase.{Phase}
 use Rattle.amqp_conn.specs.declared.phase.Phase.TheVariants as phase
 use Rattle.amqp_conn.specs.declared.fault.ConnFault.{ConnFault}
 use Rattle.amqp_conn.specs.declared.fault.ConnFault.TheVariants as fault
-use Rattle.amqp_conn.specs.Connection.{Core, Connection, reads_frames, in_phase, sending, stepping}
+use Rattle.amqp_conn.specs.Connection.{Core, Connection, reads_frames, in_phase, met, parted, sending, stepping}
 use Rattle.amqp_conn.specs.Octets.{header, open_frame, close_frame, last_words}
 
 -- the frame is taken; or it stands, after an answer to what it violates, and is read again; or the connection ends
@@ -41,7 +41,7 @@ greatest = 4294967295
 abbrev pub await_open : Core → ℕ → Option Performative → Treatment
 await_open k channel None = taken k
 await_open k channel (Some (Open b)) =
-    cond (channel == 0) (taken (in_phase phase.Running (stepping (Opened (max 512 (unwrap_or b.max_frame_size greatest))) no_reply k))) (ended fault.BadChannel)
+    cond (channel == 0) (taken (met b (stepping (Opened (max 512 (unwrap_or b.max_frame_size greatest))) no_reply k))) (ended fault.BadChannel)
 await_open k channel _ = ended fault.OutOfPlace
 
 abbrev pub answering_by : Core → ViolationKind → Op → Result Reply Refusal → Treatment
@@ -60,11 +60,11 @@ hearing k f (Err v) = answering k v.kind (violation_answer v)
 abbrev pub run : Core → Frame → Option Performative → Treatment
 run k f None = taken k
 run k f (Some (Open b)) = ended fault.OutOfPlace
-run k f (Some (Close b)) = cond (f.channel == 0) (taken (in_phase phase.Closed (sending (octets_of (close_frame None)) k))) (ended fault.BadChannel)
+run k f (Some (Close b)) = cond (f.channel == 0) (taken (parted b (sending (octets_of (close_frame None)) k))) (ended fault.BadChannel)
 run k f _ = cond (f.channel == 0) (hearing k f (heard_due k.log f)) (ended fault.BadChannel)
 
 abbrev pub await_close : Core → Option Performative → Treatment
-await_close k (Some (Close b)) = taken (in_phase phase.Closed k)
+await_close k (Some (Close b)) = taken (parted b k)
 await_close k _ = taken k
 
 abbrev pub treat_in : Phase → Core → Frame → Treatment

@@ -1,5 +1,5 @@
 //! A connection, as a program drives it (part 2, 2.2 and 2.4).
-ghost use Rattle.std.specs.Prelude.{◌≡◌, ◌≢◌, ◌≤◌, [], Some, None, IfSome, IfOk, OnOk, OnErr, MatchResult, IsTrue, slice_get, length, drop};
+ghost use Rattle.std.specs.Prelude.{◌≡◌, ◌≢◌, ◌≤◌, [], Some, None, IfSome, IfOk, OnOk, OnErr, MatchResult, IsTrue, slice_get, length, drop, option_map};
 ghost use Rattle.amqp_journal.specs.Units.{units, waiting};
 ghost use Rattle.amqp_laws.specs.At.{at};
 ghost use Rattle.amqp_laws.specs.Past.{past};
@@ -8,6 +8,7 @@ ghost use Rattle.amqp_conn.specs.Connection.{IsQuiet, connection, reads_frames, 
 ghost use Rattle.amqp_conn.specs.Octets.{new_core};
 ghost use Rattle.amqp_conn.specs.Feeding.{Feeds, MovesOn};
 ghost use Rattle.amqp_conn.specs.Leaving.{Gives, GivesOf, left_of, but_left};
+ghost use Rattle.amqp_conn.specs.Saying.{error_of_close, newest, heard_by, ended_by};
 ghost use Rattle.amqp_conn.specs.Calling.{IsFit, IsStartFault, Does, Closes, popped, forgotten};
 
 use crate::config::Config;
@@ -17,8 +18,9 @@ use crate::feeding::{act, frame_shared};
 use crate::header::{fill, read_header};
 use crate::phase::Phase;
 use crate::refused::{CloseRefusal, StartFault};
+use crate::saying::{ended, heard};
 use crate::treating::{Machine, nothing};
-use amqp_frames::{AmqpError, Framer, Role};
+use amqp_frames::{AmqpError, CloseBody, Frame, Framer, OpenBody, Role};
 use amqp_journal::left::Left;
 use amqp_journal::logged::Logged;
 use amqp_journal::unit::Unit;
@@ -184,6 +186,46 @@ impl Conn {
         ensures { IfOk result (λ v. v.items ≡ all_aside (at self.now.core.log.config (past self.now.core.log.journal)) role) }
     {
         self.logged().endpoint().links_aside(role)
+    }
+
+    /// The peer's open (part 2, 2.7.1), as it was heard: its name, the host that it wants, the longest frame that it takes, its idle time-out, its properties
+    /// and the rest. None until it was heard; it stays, also once the connection has ended and where the journal forgets.
+    pub fn peer(&self) -> Option<&OpenBody>
+        ensures { option_map (λ b. b.now) result ≡ self.now.core.peer }
+    {
+        self.machine.peer()
+    }
+
+    /// The peer's close (part 2, 2.7.9), as it was heard; it stays. None until it was heard, so also where a fault or the end of the octets ended the
+    /// connection.
+    pub fn parting(&self) -> Option<&CloseBody>
+        ensures { option_map (λ b. b.now) result ≡ self.now.core.parting }
+    {
+        self.machine.parting()
+    }
+
+    /// Why the peer closed the connection (part 2, 2.8.14): the error of its close, where one was heard that has an error.
+    pub fn ended_by(&self) -> Option<&AmqpError>
+        ensures { option_map (λ e. e.now) result ≡ error_of_close self.now.core.parting }
+    {
+        self.machine.ended_by()
+    }
+
+    /// The frame that the journal's newest entry heard, until the next step or `forget`. Behind a feed that made a step it is the frame that was fed:
+    /// so the error of an end or a detach is read (`error_of`), which no other call keeps. None where the newest step is another, as
+    /// the answer to a violation.
+    pub fn heard(&self) -> Option<&Frame>
+        ensures { option_map (λ f. f.now) result ≡ heard_by (newest self.now.core.log) }
+    {
+        heard(self.machine.logged())
+    }
+
+    /// The deliveries that the journal's newest entry ended, by our role and id, until the next step or `forget`: what was settled, and what was
+    /// unsettled on a link that went.
+    pub fn ended(&self) -> &[(Role, u32)]
+        ensures { result.now ≡ ended_by (newest self.now.core.log) }
+    {
+        ended(self.machine.logged())
     }
 
     /// The octets ended: the phase is `Closed`, and what was not read is dropped. Nothing else changes, and no close goes out.

@@ -129,8 +129,7 @@ fn treat_whole(
     ensures treats { Treats machine.old frame used result machine.new }
     ensures back { PutsBack result framer.old.state framer.new.state }
 {
-    let answer = machine.treat(used, &frame);
-    drop(frame);
+    let answer = machine.treat(used, frame);
     put_back(framer, answer)
 }
 

@@ -6,6 +6,7 @@
 //! | `conn` | [`Conn`]: what a program drives |
 //! | `config`, `phase`, `fault`, `fed`, `refused` | its settings, where it stands, and what its calls answer |
 //! | `treating` | what a whole frame does: the state that frames and the application drive |
+//! | `saying` | what the peer said: the readers of a frame and of the newest step |
 //! | `header`, `feeding`, `writing` | the peer's header, the framer's answers, and the frames that a connection itself sends |
 //! | `device`, `pump`, `pumping` | sources and sinks, and [`Pump`], which lets a connection run over them |
 //! | `ops` | operations as they are mostly wanted |
@@ -71,8 +72,8 @@
 //!
 //! | what led to `Closed` | what goes out | what it means |
 //! |---|---|---|
-//! | `close(..)`, and then the peer's close | our close, with the program's error if it gave one | ended as agreed |
-//! | the peer's close, while `Running` | our close, without an error | ended by the peer; its error is not kept |
+//! | `close(..)`, and then the peer's close | our close, with the program's error if it gave one | ended as agreed; `ended_by` has the peer's error, if it gave one |
+//! | the peer's close, while `Running` | our close, without an error | ended by the peer; `ended_by` has its error |
 //! | a feed told `ConnFault::BadHeader` | nothing more | the peer speaks another protocol, or another version |
 //! | a feed told `Framing`, `OutOfPlace`, `BadChannel` or `JournalFull` | a close with the fault's condition, unless our close went out before | ended by us for what was heard |
 //! | `lost()` | nothing more | the octets ended first: nothing is known of what the peer has taken |
@@ -81,6 +82,9 @@
 //! the unsettled deliveries and the units stay readable (`logged`): from them a program tells what was settled and what was not. Deliveries that were
 //! ready and not taken, and outcomes that were told and not learnt, are left, as where a detach or an end took their link away before: `pop_left` gives
 //! each once, in every phase.
+//!
+//! What the peer said stays with the connection, and is lent: its open (`peer`), its close (`parting`) and the error of that (`ended_by`). A detach and an end
+//! end less than the connection: their frame is the newest step's (`heard`), of which `error_of` reads the error, and `ended` has the deliveries that they ended.
 //!
 //! # Errors
 //!
@@ -95,8 +99,7 @@
 //!
 //! A peer may tell in its open after how long without a frame it closes (part 2, 2.4.5). This crate has no clock, so the program keeps the time:
 //! whoever writes the units applies `Op::Beat`, which sends an empty frame of eight octets, whenever half of the peer's time-out has passed since the last
-//! unit was written. It may beat at any time while `Running`. What the peer told stands in no view: a program that does not know it beforehand
-//! beats often enough for any peer it meets. Ours is `Config::idle_time_out`, which the peer is told, in milliseconds; a program that has
+//! unit was written. It may beat at any time while `Running`. What the peer told stands in its open (`peer`). Ours is `Config::idle_time_out`, which the peer is told, in milliseconds; a program that has
 //! read nothing for twice as long may take the peer for gone: `close` the connection with an error, or call `lost`.
 //!
 //! # Threads
@@ -118,10 +121,13 @@ mod phase;
 mod pump;
 mod pumping;
 mod refused;
+mod saying;
 mod treating;
 mod writing;
 
-pub use amqp_frames::{AmqpError, DeliveryState, FrameFault, Role};
+pub use amqp_frames::{
+    AmqpError, CloseBody, DeliveryState, Frame, FrameFault, OpenBody, Performative, Role,
+};
 pub use amqp_journal::left::Left;
 pub use amqp_journal::logged::Logged;
 pub use amqp_journal::unit::Unit;
@@ -141,3 +147,4 @@ pub use phase::Phase;
 pub use pump::Pump;
 pub use pumping::{Hears, PumpEnd, PumpFault};
 pub use refused::{CloseRefusal, StartFault};
+pub use saying::error_of;

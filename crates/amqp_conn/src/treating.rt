@@ -1,5 +1,5 @@
 //! A connection but the octets that it has not read: what a whole frame does to it (part 2, 2.4).
-ghost use Rattle.std.specs.Prelude.{◌≡◌, ◌≢◌, ◌⊎◌, [], ◌∷◌, Some, None, Ok, Err, OnOk, OnErr, IfOk, IfErr, IfSome, IfNone, IsSome, MatchResult, slice_get, length, find, true, false};
+ghost use Rattle.std.specs.Prelude.{◌≡◌, ◌≢◌, ◌⊎◌, [], ◌∷◌, Some, None, Ok, Err, OnOk, OnErr, IfOk, IfErr, IfSome, IfNone, IsSome, MatchResult, slice_get, length, find, option_map, true, false};
 ghost use Rattle.amqp_rules.specs.Refusing.{no_memory};
 ghost use Rattle.amqp_rules.specs.ViolationAnswer.{violation_answer, error_of};
 ghost use Rattle.amqp_frames.specs.Measuring.{IsMeasureOf};
@@ -10,18 +10,23 @@ ghost use Rattle.amqp_rules.specs.View.{remove_first};
 ghost use Rattle.amqp_journal.specs.Units.{units, waiting};
 ghost use Rattle.amqp_conn.specs.Calling.{IsFit, IsStartFault, Does, Closes, peer_max};
 ghost use Rattle.amqp_conn.specs.Octets.{open_frame, close_frame, condition, last_words, session_of, new_core};
-ghost use Rattle.amqp_conn.specs.Connection.{in_phase, sending};
+ghost use Rattle.amqp_conn.specs.Connection.{in_phase, met, parted, sending};
 ghost use Rattle.amqp_conn.specs.Leaving.{Gives, GivesOf, is_ungathered, gathering, left_of, but_left};
-ghost use Rattle.amqp_conn.specs.Treating.{greeted, sending_last, fault_of, run, await_open, await_close, hearing, answering};
+ghost use Rattle.amqp_conn.specs.Treating.{taken, greeted, sending_last, fault_of, run, await_open, await_close, hearing, answering};
+ghost use Rattle.amqp_conn.specs.Saying.{error_of_close, close_in};
 ghost use Rattle.amqp_conn.specs.Treats.{Treats, TreatsAs, EndsWith};
+ghost use Rattle.amqp_conn.specs.Kinds.{on_channel, closed_by};
 
 use crate::config::Config;
 use crate::fault::ConnFault;
 use crate::fed::Fed;
 use crate::phase::Phase;
 use crate::refused::{CloseRefusal, StartFault};
+use crate::saying::{Kind, close_in, error_of_close, kind_of, open_in};
 use crate::writing::{HEADER, close_octets, last_close, measure_ours, open_octets, plain_close};
-use amqp_frames::{AmqpError, Frame, FrameRefusal, Measured, Performative, Role};
+use amqp_frames::{
+    AmqpError, CloseBody, Frame, FrameRefusal, Measured, OpenBody, Performative, Role,
+};
 use amqp_journal::left::Left;
 use amqp_journal::logged::Logged;
 use amqp_journal::unit::Unit;
@@ -45,6 +50,10 @@ pub struct Machine {
     logged: Logged,
     /// What the links of the ended connection have was put behind what was left before.
     gathered: bool,
+    /// The peer's open, once it was taken.
+    peer: Option<Boxed<OpenBody>>,
+    /// The peer's close, once it was taken.
+    parting: Option<CloseBody>,
 }
 
 impl Model for Machine {
@@ -59,7 +68,7 @@ impl Model for Machine {
 
     ghost coded = { Prim.hlevel (codes, value.the_row.coded) };
 
-    ghost view = { λ c. record { config = c.config; phase = c.phase; log = c.logged; gathered = c.gathered } };
+    ghost view = { λ c. record { config = c.config; phase = c.phase; log = c.logged; gathered = c.gathered; peer = c.peer; parting = c.parting } };
 
     ghost invariant = { λ c. c.opening ≡ octets_of (open_frame c.config) };
 }
@@ -122,6 +131,8 @@ fn start(alloc: Global, config: Config, measured: Measured) -> Result<Machine, A
         phase: Phase::AwaitHeader,
         logged,
         gathered: false,
+        peer: None,
+        parting: None,
     })
 }
 
@@ -294,6 +305,30 @@ impl Machine {
         &self.logged
     }
 
+    /// The peer's open, once it was taken.
+    pub fn peer(&self) -> Option<&OpenBody>
+        ensures { option_map (λ b. b.now) result ≡ self.now.peer }
+    {
+        match &self.peer {
+            Some(body) => Some(body.get()),
+            None => None,
+        }
+    }
+
+    /// The peer's close, once it was taken.
+    pub fn parting(&self) -> Option<&CloseBody>
+        ensures { option_map (λ b. b.now) result ≡ self.now.parting }
+    {
+        self.parting.as_ref()
+    }
+
+    /// The error of the peer's close.
+    pub fn ended_by(&self) -> Option<&AmqpError>
+        ensures { option_map (λ e. e.now) result ≡ error_of_close self.now.parting }
+    {
+        error_of_close(&self.parting)
+    }
+
     /// The octets ended, or are not the header.
     pub fn lose(&mut self)
         ensures { self.new ≡ in_phase Phase.Closed self.old }
@@ -313,12 +348,16 @@ impl Machine {
     }
 
     #[tactic(auto, unfolding(crate::specs::Treating::treat))]
-    /// Does what a whole frame does.
-    pub fn treat(&mut self, used: usize, frame: &Frame) -> Result<Fed, ConnFault>
-        ensures { Treats self.old frame.now used result self.new }
+    /// Does what a whole frame does, and keeps what an open and a close say.
+    #[inline(always)]
+    pub fn treat(&mut self, used: usize, frame: Frame) -> Result<Fed, ConnFault>
+        ensures { Treats self.old frame used result self.new }
     {
         match self.phase {
-            Phase::AwaitHeader | Phase::Closed => Ok(nothing(used)),
+            Phase::AwaitHeader | Phase::Closed => {
+                drop(frame);
+                Ok(nothing(used))
+            }
             Phase::AwaitOpen => self.await_open(used, frame),
             Phase::Running => self.run(used, frame),
             Phase::Closing => Ok(self.await_close(used, frame)),
@@ -326,20 +365,25 @@ impl Machine {
     }
 
     /// The first frame with a body is to be an open.
-    fn await_open(&mut self, used: usize, frame: &Frame) -> Result<Fed, ConnFault>
+    fn await_open(&mut self, used: usize, frame: Frame) -> Result<Fed, ConnFault>
         requires { self.old.phase ≡ Phase.AwaitOpen }
-        ensures { TreatsAs (await_open self.old frame.now.channel frame.now.body) self.old frame.now used result self.new }
+        ensures { TreatsAs (await_open self.old frame.channel frame.body) self.old frame used result self.new }
     {
         match &frame.body {
-            None => Ok(nothing(used)),
+            None => {
+                drop(frame);
+                Ok(nothing(used))
+            }
             Some(Performative::Open(body)) => {
                 if frame.channel != 0 {
+                    drop(frame);
                     return Err(self.end(ConnFault::BadChannel));
                 }
                 let told = body.get().max_frame_size.unwrap_or(4294967295).max(512);
                 match self.logged.opened(told) {
                     Ok(()) => {
                         self.phase = Phase::Running;
+                        self.peer = open_in(frame);
                         Ok(Fed {
                             used,
                             stepped: true,
@@ -347,51 +391,76 @@ impl Machine {
                             violation: None,
                         })
                     }
-                    Err(_) => Err(ConnFault::NoMemory),
+                    Err(_) => {
+                        drop(frame);
+                        Err(ConnFault::NoMemory)
+                    }
                 }
             }
-            Some(_) => Err(self.end(ConnFault::OutOfPlace)),
+            Some(_) => {
+                drop(frame);
+                Err(self.end(ConnFault::OutOfPlace))
+            }
         }
     }
 
-    fn await_close(&mut self, used: usize, frame: &Frame) -> Fed
+    fn await_close(&mut self, used: usize, frame: Frame) -> Fed
         requires { self.old.phase ≡ Phase.Closing }
-        ensures { TreatsAs (await_close self.old frame.now.body) self.old frame.now used (Ok result) self.new }
+        ensures { TreatsAs (await_close self.old frame.body) self.old frame used (Ok result) self.new }
     {
         if let Some(Performative::Close(_)) = &frame.body {
             self.phase = Phase::Closed;
+            self.parting = close_in(frame);
+            return nothing(used);
         }
+        drop(frame);
         nothing(used)
     }
 
-    fn run(&mut self, used: usize, frame: &Frame) -> Result<Fed, ConnFault>
+    #[inline(always)]
+    fn run(&mut self, used: usize, frame: Frame) -> Result<Fed, ConnFault>
         requires { self.old.phase ≡ Phase.Running }
-        ensures { TreatsAs (run self.old frame.now frame.now.body) self.old frame.now used result self.new }
+        ensures { TreatsAs (run self.old frame frame.body) self.old frame used result self.new }
     {
-        match &frame.body {
-            None => Ok(nothing(used)),
-            Some(Performative::Open(_)) => Err(self.end(ConnFault::OutOfPlace)),
-            Some(Performative::Close(_)) => {
-                if frame.channel != 0 {
-                    return Err(self.end(ConnFault::BadChannel));
-                }
-                self.close_in_return(used)
+        match kind_of(&frame.body) {
+            Kind::Empty => {
+                drop(frame);
+                Ok(nothing(used))
             }
-            Some(
-                Performative::Begin(_)
-                | Performative::Attach(_)
-                | Performative::Flow(_)
-                | Performative::Transfer(_)
-                | Performative::Disposition(_)
-                | Performative::Detach(_)
-                | Performative::End(_),
-            ) => {
-                if frame.channel != 0 {
-                    return Err(self.end(ConnFault::BadChannel));
-                }
-                self.hear(used, frame)
+            Kind::Open => {
+                drop(frame);
+                Err(self.end(ConnFault::OutOfPlace))
             }
+            Kind::Close => self.hear_close(used, frame),
+            Kind::Session => self.hear_on(used, frame),
         }
+    }
+
+    /// The peer's close.
+    fn hear_close(&mut self, used: usize, frame: Frame) -> Result<Fed, ConnFault>
+        requires { self.old.phase ≡ Phase.Running }
+        ensures { TreatsAs (on_channel frame.channel (taken (closed_by (close_in frame.body) self.old))) self.old frame used result self.new }
+    {
+        if frame.channel != 0 {
+            drop(frame);
+            return Err(self.end(ConnFault::BadChannel));
+        }
+        self.close_in_return(used, close_in(frame))
+    }
+
+    /// A frame of the session.
+    #[inline(always)]
+    fn hear_on(&mut self, used: usize, frame: Frame) -> Result<Fed, ConnFault>
+        requires { self.old.phase ≡ Phase.Running }
+        ensures { TreatsAs (on_channel frame.channel (hearing self.old frame (heard_due self.old.log frame))) self.old frame used result self.new }
+    {
+        if frame.channel != 0 {
+            drop(frame);
+            return Err(self.end(ConnFault::BadChannel));
+        }
+        let answer = self.hear(used, &frame);
+        drop(frame);
+        answer
     }
 
     fn hear(&mut self, used: usize, frame: &Frame) -> Result<Fed, ConnFault>
@@ -443,9 +512,9 @@ impl Machine {
         }
     }
 
-    /// Answers the peer's close.
-    fn close_in_return(&mut self, used: usize) -> Result<Fed, ConnFault>
-        ensures ok { IfOk result (λ fed. (fed ≡ record { used = used; stepped = false; given = Given.Nothing; violation = None }) × (self.new ≡ in_phase Phase.Closed (sending (octets_of (close_frame None)) self.old))) }
+    /// Answers the peer's close, and keeps it.
+    fn close_in_return(&mut self, used: usize, parting: Option<CloseBody>) -> Result<Fed, ConnFault>
+        ensures ok { IfOk result (λ fed. (fed ≡ record { used = used; stepped = false; given = Given.Nothing; violation = None }) × (self.new ≡ closed_by parting self.old)) }
         ensures memory { IfErr result (λ e. e ≡ ConnFault.NoMemory) }
         ensures err { OnErr result (self.new ≡ self.old) }
     {
@@ -456,6 +525,7 @@ impl Machine {
             return Err(ConnFault::NoMemory);
         };
         self.phase = Phase::Closed;
+        self.parting = parting;
         Ok(nothing(used))
     }
 

@@ -60,8 +60,10 @@ mod shared;
 mod waiting;
 mod writer;
 
-pub use amqp_conn::{CloseRefusal, Config, Conn, ConnFault, Fed, Left, Phase, StartFault};
-pub use amqp_frames::{AmqpError, DeliveryState, Role};
+pub use amqp_conn::{
+    CloseRefusal, Config, Conn, ConnFault, Fed, Left, Phase, StartFault, error_of,
+};
+pub use amqp_frames::{AmqpError, CloseBody, DeliveryState, Frame, OpenBody, Role};
 pub use amqp_journal::receipt::Receipt;
 pub use amqp_journal::unit::Unit;
 pub use amqp_rules::op::Op;

@@ -5,6 +5,7 @@ ghost use Rattle.amqp_shared.specs.Passes.{IsNamed};
 mod callers;
 mod consumers;
 mod ends;
+mod left;
 mod writers;
 
 use amqp_conn::{Config, Phase};

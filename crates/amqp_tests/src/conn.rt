@@ -46,7 +46,7 @@ enum Said {
 }
 
 /// The octets that the text writes, past its spaces.
-fn octets(alloc: Global, text: &str) -> Result<Vec<u8>, AllocError> {
+pub(crate) fn octets(alloc: Global, text: &str) -> Result<Vec<u8>, AllocError> {
     let mut octets = Vec::new(alloc);
     let mut high: Option<u8> = None;
     for letter in text.as_bytes() {
@@ -79,7 +79,7 @@ fn settings(alloc: Global, name: &str, window: u32) -> Result<Config, AllocError
 }
 
 /// A connection of the container `a`.
-fn connection(alloc: Global) -> Result<Conn, StartFault> {
+pub(crate) fn connection(alloc: Global) -> Result<Conn, StartFault> {
     match settings(alloc, "a", 2048) {
         Ok(config) => Conn::new(alloc, config),
         Err(_) => Err(StartFault::NoMemory),
@@ -254,7 +254,7 @@ fn settings_out_of_range(rt: HostRuntime) -> Result<(), Fail> {
 }
 
 /// Feeds all of the octets, and answers whether no fault was told.
-fn hears(conn: &mut Conn, octets: &[u8]) -> bool {
+pub(crate) fn hears(conn: &mut Conn, octets: &[u8]) -> bool {
     let mut rest = octets;
     // No frame is read three times.
     for _ in 0..100 {

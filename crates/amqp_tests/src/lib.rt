@@ -6,6 +6,8 @@
 //! | `endpoint` | replies that an endpoint gives twice |
 //! | `conn` | a whole connection |
 //! | `journal` | what a connection shows that forgets its journal's entries |
+//! | `ends` | what came before an end is had once |
+//! | `said` | what the peer said of itself, and of why it ended something |
 #![tactic(auto)]
 
 #[cfg(test)]
@@ -13,4 +15,8 @@ mod conn;
 #[cfg(test)]
 mod endpoint;
 #[cfg(test)]
+mod ends;
+#[cfg(test)]
 mod journal;
+#[cfg(test)]
+mod said;

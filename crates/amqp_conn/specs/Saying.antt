@@ -1,0 +1,62 @@
+-- What a peer said: of itself, in its newest frame, and of why it ended something.
+use Rattle.std.specs.Prelude.{ℕ, ◌-◌, Bool, true, false, Option, Some, None, List, [], length, drop, slice_get}
+use Rattle.amqp_performatives.specs.declared.bodies.Role.{Role}
+use Rattle.amqp_performatives.specs.declared.bodies.OpenBody.{OpenBody}
+use Rattle.amqp_performatives.specs.declared.bodies.CloseBody.{CloseBody}
+use Rattle.amqp_performatives.specs.declared.error.AmqpError.{AmqpError}
+use Rattle.amqp_performatives.specs.declared.performative.Performative.{Performative}
+use Rattle.amqp_performatives.specs.declared.performative.Performative.TheVariants.{Open, Detach, End, Close}
+use Rattle.amqp_frames.specs.declared.frame.Frame.{Frame}
+use Rattle.amqp_laws.specs.declared.entry.Entry.{Entry}
+use Rattle.amqp_laws.specs.declared.entry.Step.{Step}
+use Rattle.amqp_laws.specs.declared.entry.Step.TheVariants.{Opened, Own, Heard}
+use Rattle.amqp_journal.specs.Log.{Log}
+use Rattle.amqp_conn.specs.declared.phase.Phase.{Phase}
+use Rattle.amqp_conn.specs.declared.phase.Phase.TheVariants as phase
+
+-- the peer's open is not awaited any more
+abbrev pub has_met : Phase → Bool
+has_met phase.AwaitHeader = false
+has_met phase.AwaitOpen = false
+has_met phase.Running = true
+has_met phase.Closing = true
+has_met phase.Closed = true
+
+abbrev pub open_in : Option Performative → Option OpenBody
+open_in (Some (Open b)) = Some b
+open_in _ = None
+
+abbrev pub close_in : Option Performative → Option CloseBody
+close_in (Some (Close b)) = Some b
+close_in _ = None
+
+-- the error of a close, where it has one
+abbrev pub error_of_close : Option CloseBody → Option AmqpError
+error_of_close None = None
+error_of_close (Some b) = b.error
+
+-- why a frame ends a link, the session or the connection, where it tells that
+abbrev pub error_in : Option Performative → Option AmqpError
+error_in (Some (Detach b)) = b.error
+error_in (Some (End b)) = b.error
+error_in (Some (Close b)) = b.error
+error_in _ = None
+
+-- the newest entry of a journal, unless it was forgotten
+abbrev pub newest : Log → Option Entry
+newest l = slice_get (drop l.forgotten l.journal) (length (drop l.forgotten l.journal) - 1)
+
+abbrev pub heard_in : Step → Option Frame
+heard_in (Opened max) = None
+heard_in (Own op) = None
+heard_in (Heard f) = Some f
+
+-- the frame that the entry heard
+abbrev pub heard_by : Option Entry → Option Frame
+heard_by None = None
+heard_by (Some e) = heard_in e.step
+
+-- the deliveries that the entry ended, by role and id
+abbrev pub ended_by : Option Entry → List (Role × ℕ)
+ended_by None = []
+ended_by (Some e) = e.reply.ended

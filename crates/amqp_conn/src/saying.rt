@@ -1,0 +1,120 @@
+//! What a peer said: of itself, in its newest frame, and of why it ended something.
+ghost use Rattle.std.specs.Prelude.{◌≡◌, option_map};
+ghost use Rattle.amqp_conn.specs.Saying.{open_in, close_in, error_of_close, error_in, newest, heard_in, heard_by, ended_by};
+ghost use Rattle.amqp_conn.specs.Kinds.{kind_of};
+
+use amqp_frames::{AmqpError, CloseBody, Frame, OpenBody, Performative, Role};
+use amqp_journal::entry::{Entry, Step};
+use amqp_journal::logged::Logged;
+use amqp_types::Boxed;
+
+/// Why a frame ends a link, the session or the connection (part 2, 2.8.14): the error of a detach, an end or a close, where it has one.
+pub fn error_of(frame: &Frame) -> Option<&AmqpError>
+    ensures { option_map (λ e. e.now) result ≡ error_in frame.now.body }
+{
+    match &frame.body {
+        Some(Performative::Detach(body)) => lent(&body.error),
+        Some(Performative::End(body)) => lent(&body.error),
+        Some(Performative::Close(body)) => lent(&body.error),
+        _ => None,
+    }
+}
+
+/// The error in its box, lent.
+fn lent(error: &Option<Boxed<AmqpError>>) -> Option<&AmqpError>
+    ensures { option_map (λ e. e.now) result ≡ error.now }
+{
+    match error {
+        Some(error) => Some(error.get()),
+        None => None,
+    }
+}
+
+/// Whom a frame concerns: the connection by an open or a close, or its session (part 2, 2.4).
+#[derive(Clone, Copy)]
+pub(crate) enum Kind {
+    /// It has no body.
+    Empty,
+    Open,
+    Close,
+    Session,
+}
+
+pub(crate) fn kind_of(body: &Option<Performative>) -> Kind
+    ensures { result ≡ kind_of body.now }
+{
+    match body {
+        None => Kind::Empty,
+        Some(Performative::Open(_)) => Kind::Open,
+        Some(Performative::Close(_)) => Kind::Close,
+        Some(_) => Kind::Session,
+    }
+}
+
+/// The open of a frame that has one.
+pub(crate) fn open_in(frame: Frame) -> Option<Boxed<OpenBody>>
+    ensures { result ≡ open_in frame.body }
+{
+    let Frame { body, .. } = frame;
+    match body {
+        Some(Performative::Open(body)) => Some(body),
+        _ => None,
+    }
+}
+
+/// The close of a frame that has one.
+pub(crate) fn close_in(frame: Frame) -> Option<CloseBody>
+    ensures { result ≡ close_in frame.body }
+{
+    let Frame { body, .. } = frame;
+    match body {
+        Some(Performative::Close(body)) => Some(body),
+        _ => None,
+    }
+}
+
+/// The error of a close, where it has one.
+pub(crate) fn error_of_close(close: &Option<CloseBody>) -> Option<&AmqpError>
+    ensures { option_map (λ e. e.now) result ≡ error_of_close close.now }
+{
+    match close {
+        Some(body) => lent(&body.error),
+        None => None,
+    }
+}
+
+/// The newest entry that is kept.
+fn newest(logged: &Logged) -> Option<&Entry>
+    ensures { option_map (λ e. e.now) result ≡ newest logged.now }
+{
+    logged.journal().last()
+}
+
+fn heard_in(step: &Step) -> Option<&Frame>
+    ensures { option_map (λ f. f.now) result ≡ heard_in step.now }
+{
+    match step {
+        Step::Heard(frame) => Some(frame.get()),
+        Step::Own(_) | Step::Opened(_) => None,
+    }
+}
+
+/// The frame that the newest entry heard.
+pub(crate) fn heard(logged: &Logged) -> Option<&Frame>
+    ensures { option_map (λ f. f.now) result ≡ heard_by (newest logged.now) }
+{
+    match newest(logged) {
+        Some(entry) => heard_in(&entry.step),
+        None => None,
+    }
+}
+
+/// The deliveries that the newest entry ended.
+pub(crate) fn ended(logged: &Logged) -> &[(Role, u32)]
+    ensures { result.now ≡ ended_by (newest logged.now) }
+{
+    match newest(logged) {
+        Some(entry) => entry.reply.ended.as_slice(),
+        None => &[],
+    }
+}
