@@ -1,13 +1,22 @@
 -- What holds of every two ends, by the laws of worlds; and two ends that have not begun.
-use Rattle.std.proofs.Common.{ℕ, ◌≡◌, ◌≤◌, [], inl, inr, arith, refl}
+use Rattle.std.proofs.Common.{ℕ, ◌≡◌, ◌≤◌, ◌<◌, None, Some, List, [], false, true, find, option_map, inl, inr, arith, refl}
+use Rattle.amqp_performatives.specs.declared.bodies.TransferBody.{TransferBody}
+use Rattle.amqp_performatives.specs.declared.performative.Performative.TheVariants.{Transfer}
+use Rattle.amqp_frames.specs.declared.frame.Frame.{Frame}
 use Rattle.amqp_rules.specs.declared.config.Config.{Config}
+use Rattle.amqp_rules.specs.PeerTransfer.{receives}
+use Rattle.amqp_rules.specs.View.{LinkView, has_peer_handle, is_over, next_delivery}
 use Rattle.amqp_rules.specs.Limits.{IsWithinLimits}
 use Rattle.amqp_rules.specs.Opened.{no_reply}
 use Rattle.amqp_laws.specs.declared.entry.Step.TheVariants.{Opened}
+use Rattle.amqp_laws.specs.declared.entry.Entry.{Entry}
 use Rattle.amqp_laws.specs.Past.{past}
+use Rattle.amqp_laws.specs.Live.{live}
+use Rattle.amqp_laws.specs.At.{at}
 use Rattle.amqp_journal.specs.Log.{Log}
-use Rattle.amqp_pair_laws.specs.World.{IsFair, Tight}
-use Rattle.amqp_pair_laws.specs.Taken.{NextIsTaken}
+use Rattle.amqp_pair_laws.specs.Premise.{ids_heard, ids_sent}
+use Rattle.amqp_pair_laws.specs.World.{IsFair, Tight, World}
+use Rattle.amqp_pair_laws.specs.Taken.{IsNext, NextIsTaken}
 use Rattle.amqp_pair_laws.specs.Takes as takes
 use Rattle.amqp_pair_laws.specs.States as states
 use Rattle.amqp_pair_laws.specs.Learns as learns
@@ -16,7 +25,7 @@ use Rattle.amqp_world.specs.declared.side.Side.{Side}
 use Rattle.amqp_world.specs.declared.side.Side.TheVariants.{A, B}
 use Rattle.amqp_world.specs.Sides.{Sides, of, opened, other}
 use Rattle.amqp_world.specs.Knowing.{Meets, IsPair, unheard}
-use Rattle.amqp_world.specs.Promises.{AreReached, HasHeardAll, HearsWhatWasSaid, LearnsWhatWasSaid, TakesAll, TakesEver, TakesNext, TakesWhatWasSent}
+use Rattle.amqp_world.specs.Promises.{AreReached, HasHeardAll, HasWhatItSaid, HearsWhatWasSaid, KnowsTheOther, LearnsWhatWasSaid, TakesAll, TakesEver, TakesNext, TakesOnAttached, TakesWhatWasSent, TransferFindsRoom}
 
 -- # The start
 
@@ -81,3 +90,51 @@ takes-ever law mine theirs m =
 
 pub learns-said : learns.LearnsWhatWasSaid → (mine theirs : Log) → Met mine theirs → LearnsWhatWasSaid mine theirs
 learns-said law mine theirs m = law theirs.config mine.config m.meets.moves (past theirs.journal) (past mine.journal) m.meets.world
+
+pub takes-on-attached : takes.TakesOnAttached → (mine theirs : Log) → Met mine theirs → TakesOnAttached mine
+takes-on-attached law mine theirs m = λ k. law theirs.config mine.config m.meets.moves (past theirs.journal) (past mine.journal) k m.meets.world
+
+-- a law of the other end, said of either
+said-there : states.HasWhatItSaid → (mine theirs : Log) → Met mine theirs → HasWhatItSaid theirs
+said-there law mine theirs m = λ lives. law theirs.config mine.config m.meets.moves (past theirs.journal) (past mine.journal) m.meets.world lives
+
+pub has-said : states.HasWhatItSaid → (a_hears b_hears : Hearing) (w : Sides) → IsPair a_hears b_hears w.a w.b → (side : Side) → HasWhatItSaid (of side w)
+has-said law a_hears b_hears w p A = said-there law w.b w.a (either a_hears b_hears w p B)
+has-said law a_hears b_hears w p B = said-there law w.a w.b (either a_hears b_hears w p A)
+
+-- what is known of a transfer that comes next
+abbrev pub OnTransfer : (Config → List Entry → TransferBody → Type 0) → Type 0
+OnTransfer P =
+    (ca cb : Config) (n : ℕ) (a b : List Entry) (f : Frame) (t : TransferBody) → World ca cb n a b → IsNext f a b → f.body ≡ Some (Transfer t)
+    → is_over (at cb b).session ≡ false → P cb b t
+
+pub finds-room : OnTransfer (λ c b t. 0 < (at c b).windows.incoming)
+    → OnTransfer (λ c b t. option_map receives (find (has_peer_handle t.handle) (at c b).links) ≡ Some true)
+    → OnTransfer (λ c b t. (l : LinkView) → find (has_peer_handle t.handle) (at c b).links ≡ Some l → l.left ≡ false → l.receiving ≡ None → 0 < l.credit.credit)
+    → (mine theirs : Log) → Met mine theirs → TransferFindsRoom mine theirs
+finds-room window link credit mine theirs m =
+    λ f t waits is lives.
+    record {
+      window = window theirs.config mine.config m.meets.moves (past theirs.journal) (past mine.journal) f t m.meets.world waits is lives;
+      link = link theirs.config mine.config m.meets.moves (past theirs.journal) (past mine.journal) f t m.meets.world waits is lives;
+      credit = credit theirs.config mine.config m.meets.moves (past theirs.journal) (past mine.journal) f t m.meets.world waits is lives;
+    }
+
+-- what is known where all was heard
+abbrev pub OnTight : (Config → Config → List Entry → List Entry → Type 0) → Type 0
+OnTight P = (ca cb : Config) (n : ℕ) (a b : List Entry) → Tight ca cb n a b → P ca cb a b
+
+pub knows-other : OnTight (λ ca cb a b. (at cb b).session.begin_heard ≡ (at ca a).session.begin_sent)
+    → OnTight (λ ca cb a b. is_over (at cb b).session ≡ false → is_over (at ca a).session ≡ false)
+    → OnTight (λ ca cb a b. is_over (at cb b).session ≡ false → ids_heard (live b) ≡ ids_sent (live a))
+    → OnTight (λ ca cb a b. (id : ℕ) → is_over (at cb b).session ≡ false → (at cb b).expected ≡ Some id → id ≡ next_delivery (at ca a))
+    → (mine theirs : Log) → Met mine theirs → KnowsTheOther mine theirs
+knows-other begun lives ids expected mine theirs m =
+    λ all.
+    let t = tight-there mine theirs m all in
+    record {
+      begun = begun theirs.config mine.config m.meets.moves (past theirs.journal) (past mine.journal) t;
+      lives = lives theirs.config mine.config m.meets.moves (past theirs.journal) (past mine.journal) t;
+      ids = ids theirs.config mine.config m.meets.moves (past theirs.journal) (past mine.journal) t;
+      expected = expected theirs.config mine.config m.meets.moves (past theirs.journal) (past mine.journal) t;
+    }

@@ -10,7 +10,7 @@ ghost use Rattle.amqp_pair_laws.specs.World.{hears, World};
 ghost use Rattle.amqp_pair_laws.specs.Premise.{ids_heard};
 ghost use Rattle.amqp_world.specs.Sides.{of, other, opened};
 ghost use Rattle.amqp_world.specs.declared.side.Side.{Side};
-ghost use Rattle.amqp_world.specs.Promises.{AreReached, TakesNext, TakesWhatWasSent, TakesEver, TakesAll, HearsWhatWasSaid, LearnsWhatWasSaid};
+ghost use Rattle.amqp_world.specs.Promises.{AreReached, KnowsTheOther, TakesNext, TransferFindsRoom, TakesWhatWasSent, TakesEver, TakesOnAttached, TakesAll, HearsWhatWasSaid, HasWhatItSaid, LearnsWhatWasSaid};
 ghost use Rattle.amqp_world.specs.Calls.{Does, IsRefused, Hears, IsUnheard};
 ghost use Rattle.amqp_world.specs.Knowing.{Knows, Meets};
 ghost use Rattle.amqp_world.specs.declared.heard.Hearing.{Hearing};
@@ -119,18 +119,25 @@ impl World {
 
     /// What holds of every two ends that speak with each other, of each side that hears the other. It does nothing.
     ///
-    /// The frame that waits is no violation (`next`); what was taken on an attached link is the front of the complete deliveries that were sent on
-    /// the link whose attach was heard, with ids, tags, formats, payloads and whether they were settled (`sent`), also once the link is left or gone
-    /// (`ever`), and all of them, with those that wait, where all frames were heard (`all`); and then the last state that was heard of a delivery is the
-    /// last one that was given (`states`). What was learnt of a delivery the other had said of it, as its own, when it settled it or gave it an outcome
-    /// first (`learnt`).
+    /// The frame that waits is no violation (`next`), and a transfer finds the window open, its link and credit (`transfer`). What was taken on an
+    /// attached link is the front of the complete deliveries that were sent on the link whose attach was heard, with ids, tags, formats, payloads and
+    /// whether they were settled (`sent`), also once the link is left or gone (`ever`), and all of them, with those that wait, where all frames were
+    /// heard (`all`); nothing was taken on a link that was never attached (`only`). Where all frames were heard, the last state that was heard of a
+    /// delivery is the last one that was given (`states`). An end's own state of what it received is the last one that it gave (`own`). What was learnt
+    /// of a delivery the other had said of it, as its own, when it settled it or gave it an outcome first (`learnt`). Where all frames were heard, an
+    /// end knows whether the other has begun its session, and, as long as its own is not over, that the other's is not, the ids of all its deliveries and
+    /// the next one (`knows`).
     pub fn laws(&self)
         ensures reached { (side : Side) → AreReached (of side self.now) (of (other side) self.now) }
         ensures next { (side : Side) → TakesNext (of side self.now) (of (other side) self.now) }
+        ensures transfer { (side : Side) → TransferFindsRoom (of side self.now) (of (other side) self.now) }
         ensures sent { (side : Side) → TakesWhatWasSent (of side self.now) (of (other side) self.now) }
         ensures ever { (side : Side) → TakesEver (of side self.now) (of (other side) self.now) }
+        ensures only { (side : Side) → TakesOnAttached (of side self.now) }
         ensures all { (side : Side) → TakesAll (of side self.now) (of (other side) self.now) }
         ensures states { (side : Side) → HearsWhatWasSaid (of side self.now) (of (other side) self.now) }
+        ensures own { (side : Side) → HasWhatItSaid (of side self.now) }
+        ensures knows { (side : Side) → KnowsTheOther (of side self.now) (of (other side) self.now) }
         ensures learnt { (side : Side) → LearnsWhatWasSaid (of side self.now) (of (other side) self.now) }
     {
         let _ = &self.a;

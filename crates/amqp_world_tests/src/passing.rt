@@ -1,9 +1,10 @@
 //! Two deliveries of A's, with the ids 4294967295 and 0, on a link that A sends on and B receives on.
 
+use crate::calls::{Notes, does, hears};
 use amqp_frames::{DeliveryState, Role};
 use amqp_rules::config::Config;
 use amqp_rules::op::Op;
-use amqp_rules::reply::Given;
+use amqp_rules::reply::{Given, Learned};
 use amqp_types::{Boxed, Tag, Text};
 use amqp_world::heard::Heard;
 use amqp_world::refusal::WorldRefusal;
@@ -11,37 +12,52 @@ use amqp_world::settings::Settings;
 use amqp_world::side::Side;
 use amqp_world::world::World;
 use bytes::Bytes;
-use std::alloc::{AllocError, Global};
-use std::test::Fail;
+use std::alloc::Global;
 
 const FIRST: u32 = 4294967295;
 
-fn does(world: &mut World, side: Side, op: &Op) -> Result<Given, Fail> {
-    match world.own(side, op) {
-        Ok(given) => Ok(given),
-        Err(_) => Err(Fail::new("refused")),
-    }
+const SETTINGS: Settings = Settings {
+    session: Config {
+        first_id: FIRST,
+        window: 2048,
+        journal_limit: 1000,
+    },
+    max_frame: 65536,
+};
+
+/// A delivery, by its id and the one octet of its tag.
+type Named = Option<(u32, u8)>;
+
+/// What came of it.
+#[derive(Clone, Copy, PartialEq, Eq)]
+struct Course {
+    /// What B was told of its disposition before it heard the deliveries, after the first, and after it took both.
+    disposed: [Disposed; 3],
+    taken: [Named; 2],
+    /// What B has heard then.
+    heard: Heard,
+    /// How many deliveries of A's that disposition ended.
+    ended: usize,
+    learnt: [Named; 2],
+    /// A has something to hear then.
+    more: bool,
+    /// B puts the link aside.
+    aside: bool,
 }
 
-fn hears(world: &mut World, side: Side) -> Result<Given, Fail> {
-    match world.hear(side) {
-        Ok(given) => Ok(given),
-        Err(_) => Err(Fail::new("nothing heard")),
-    }
+#[derive(Clone, Copy, PartialEq, Eq)]
+enum Disposed {
+    Done,
+    ReachesAhead,
+    Refused,
 }
 
-/// Each of the two does this, and hears what the other did.
-fn both(world: &mut World, a: &Op, b: &Op) -> Result<(), Fail> {
-    drop(does(world, Side::A, a)?);
-    drop(does(world, Side::B, b)?);
-    drop(hears(world, Side::A)?);
-    drop(hears(world, Side::B)?);
-    Ok(())
-}
-
-fn attach(alloc: Global, role: Role) -> Result<Op, AllocError> {
-    Ok(Op::Attach {
-        name: Text::new(alloc, "q")?,
+fn attaches(world: &mut World, notes: &mut Notes, side: Side, role: Role) -> bool {
+    let Ok(name) = Text::new(notes.alloc, "q") else {
+        return false;
+    };
+    let op = Op::Attach {
+        name,
         role,
         snd: 2,
         rcv: 0,
@@ -49,79 +65,181 @@ fn attach(alloc: Global, role: Role) -> Result<Op, AllocError> {
         target: None,
         count: 0,
         max_message: 0,
-    })
+    };
+    does(world, notes, side, op)
 }
 
-fn start(alloc: Global, tag: u8) -> Result<Op, &'static str> {
-    Ok(Op::Start {
+/// A sends a delivery of no octets.
+fn starts(world: &mut World, notes: &mut Notes, number: u8) -> bool {
+    let Some(tag) = Tag::new(&[number]) else {
+        return false;
+    };
+    let op = Op::Start {
         link: 0,
-        tag: Tag::new(&[tag]).ok_or("a tag of at most 32 octets")?,
+        tag,
         format: 0,
         settled: false,
         payload: Bytes::new(),
         more: false,
-    })
-}
-
-/// B disposes both.
-fn dispose() -> Op {
-    Op::Dispose {
-        role: Role::Receiver,
-        first: FIRST,
-        last: 0,
-        settled: true,
-        state: Some(DeliveryState::Accepted),
-    }
-}
-
-/// A has sent both, and B has heard neither.
-fn sent(alloc: Global) -> Result<World, Fail> {
-    let settings = Settings {
-        session: Config {
-            first_id: FIRST,
-            window: 2048,
-            journal_limit: 1000,
-        },
-        max_frame: 65536,
     };
-    let mut world = World::new(alloc, &settings, &settings)?;
-    both(&mut world, &Op::Begin, &Op::Begin)?;
-    both(
-        &mut world,
-        &attach(alloc, Role::Sender)?,
-        &attach(alloc, Role::Receiver)?,
-    )?;
-    let grant = Op::Grant {
+    does(world, notes, Side::A, op)
+}
+
+/// B takes two deliveries.
+fn grants(world: &mut World, notes: &mut Notes) -> bool {
+    let op = Op::Grant {
         link: 0,
         credit: 2,
         drain: false,
         echo: false,
     };
-    drop(does(&mut world, Side::B, &grant)?);
-    drop(hears(&mut world, Side::A)?);
-    drop(does(&mut world, Side::A, &start(alloc, 1)?)?);
-    drop(does(&mut world, Side::A, &start(alloc, 2)?)?);
-    Ok(world)
+    does(world, notes, Side::B, op)
 }
 
-/// A range that reaches ahead is refused whole, and once all of it was heard it is taken.
-#[test]
-fn a_disposition_waits_for_what_it_disposes(rt: HostRuntime) -> Result<(), Fail> {
-    let mut world = sent(rt.alloc())?;
-    for frames in [2, 3] {
-        assert_eq!(rt;
-            world.own(Side::B, &dispose()),
-            Err(WorldRefusal::ReachesAhead)
-        );
-        drop(hears(&mut world, Side::B)?);
-        assert_eq!(rt;
-            world.heard(Side::B),
-            Heard {
-                frames: frames + 1,
-                firsts: frames - 1
-            }
-        );
+/// A sends both, and B has heard neither.
+fn sends(world: &mut World, notes: &mut Notes) -> bool {
+    does(world, notes, Side::A, Op::Begin)
+        && does(world, notes, Side::B, Op::Begin)
+        && both_hear(world, notes)
+        && attaches(world, notes, Side::A, Role::Sender)
+        && attaches(world, notes, Side::B, Role::Receiver)
+        && both_hear(world, notes)
+        && grants(world, notes)
+        && hears(world, notes, Side::A)
+        && starts(world, notes, 1)
+        && starts(world, notes, 2)
+}
+
+/// Each hears one frame of the other.
+fn both_hear(world: &mut World, notes: &mut Notes) -> bool {
+    hears(world, notes, Side::A) && hears(world, notes, Side::B)
+}
+
+/// B disposes both.
+fn disposes(world: &mut World) -> Disposed {
+    let op = Op::Dispose {
+        role: Role::Receiver,
+        first: FIRST,
+        last: 0,
+        settled: true,
+        state: Some(DeliveryState::Accepted),
+    };
+    let disposed = match world.own(Side::B, &op) {
+        Ok(given) => {
+            drop(given);
+            Disposed::Done
+        }
+        Err(WorldRefusal::ReachesAhead) => Disposed::ReachesAhead,
+        Err(_) => Disposed::Refused,
+    };
+    drop(op);
+    disposed
+}
+
+/// What the operation gives of a delivery.
+fn gives(world: &mut World, side: Side, op: Op) -> Named {
+    let named = match world.own(side, &op) {
+        Ok(given) => named_by(given),
+        Err(_) => None,
+    };
+    drop(op);
+    named
+}
+
+fn named_by(given: Given) -> Named {
+    let named = match &given {
+        Given::Taken(taken) => with(taken.get().id, &taken.get().tag),
+        Given::Learned(learned) => accepted(learned.get()),
+        _ => None,
+    };
+    drop(given);
+    named
+}
+
+/// What was learnt, where it is settled and accepted.
+fn accepted(learned: &Learned) -> Named {
+    match learned.state {
+        Some(DeliveryState::Accepted) if learned.settled => with(learned.id, &learned.tag),
+        _ => None,
     }
-    assert_eq!(rt; world.own(Side::B, &dispose()), Ok(Given::Nothing));
-    Ok(())
+}
+
+fn with(id: u32, tag: &Tag) -> Named {
+    match tag.octets().first() {
+        Some(octet) => Some((id, *octet)),
+        None => None,
+    }
+}
+
+/// How many deliveries the newest entry of A's ended.
+fn ended(world: &World) -> usize {
+    match world.side(Side::A).journal().last() {
+        Some(entry) => entry.reply.ended.len(),
+        None => 0,
+    }
+}
+
+fn pass(world: &mut World, notes: &mut Notes) -> Course {
+    let before = disposes(world);
+    hears(world, notes, Side::B);
+    let between = disposes(world);
+    hears(world, notes, Side::B);
+    let first = gives(world, Side::B, Op::Take { link: 0 });
+    let second = gives(world, Side::B, Op::Take { link: 0 });
+    let after = disposes(world);
+    hears(world, notes, Side::A);
+    let ended = ended(world);
+    let one = gives(world, Side::A, Op::Learn { link: 0 });
+    let other = gives(world, Side::A, Op::Learn { link: 0 });
+    Course {
+        disposed: [before, between, after],
+        taken: [first, second],
+        heard: world.heard(Side::B),
+        ended,
+        learnt: [one, other],
+        more: hears(world, notes, Side::A),
+        aside: does(world, notes, Side::B, Op::Suspend { link: 0 }),
+    }
+}
+
+fn passed(alloc: Global) -> Option<Course> {
+    if !SETTINGS.session.is_within_limits() {
+        return None;
+    }
+    match World::new(alloc, &SETTINGS, &SETTINGS) {
+        Ok(world) => pass_on(world, Notes::new(alloc, 0)),
+        Err(_) => None,
+    }
+}
+
+fn pass_on(mut world: World, mut notes: Notes) -> Option<Course> {
+    let course = if sends(&mut world, &mut notes) {
+        Some(pass(&mut world, &mut notes))
+    } else {
+        None
+    };
+    drop(world);
+    course
+}
+
+/// A range that reaches ahead is refused whole, and once all of it was heard it is disposed; what was sent is taken, and what is disposed is learnt.
+#[test]
+fn a_disposition_waits_for_what_it_disposes(rt: HostRuntime) {
+    let want = Course {
+        disposed: [
+            Disposed::ReachesAhead,
+            Disposed::ReachesAhead,
+            Disposed::Done,
+        ],
+        taken: [Some((FIRST, 1)), Some((0, 2))],
+        heard: Heard {
+            frames: 4,
+            firsts: 2,
+        },
+        ended: 2,
+        learnt: [Some((FIRST, 1)), Some((0, 2))],
+        more: false,
+        aside: true,
+    };
+    assert!(rt; passed(rt.alloc()) == Some(want));
 }

@@ -1,7 +1,7 @@
 use Rattle.std.proofs.Common.{subst}
 use Rattle.amqp_world.specs.Sides.{Sides, of, other}
 use Rattle.amqp_world.specs.Knowing.{IsPair}
-use Rattle.amqp_world.proofs.Promising.{either, hears-said, learns-said, reached, takes-all, takes-ever, takes-next, takes-sent}
+use Rattle.amqp_world.proofs.Promising.{either, finds-room, has-said, hears-said, knows-other, learns-said, reached, takes-all, takes-ever, takes-next, takes-on-attached, takes-sent}
 use Rattle.amqp_world.proofs.world.World.laws.Goals as goal
 
 pub returns-clause-reached : goal.returns-clause-reached
@@ -44,4 +44,33 @@ pub returns-clause-learnt : goal.returns-clause-learnt
 returns-clause-learnt c =
     λ side.
     learns-said c.laws.ensures.learnt (of side c.args.self.now) (of (other side) c.args.self.now)
+    (either c.self.inside.a_hears c.self.inside.b_hears c.args.self.now (subst (λ (w : Sides). IsPair c.self.inside.a_hears c.self.inside.b_hears w.a w.b) c.self.view_is c.self.invariant) side)
+
+pub returns-clause-only : goal.returns-clause-only
+returns-clause-only c =
+    λ side.
+    takes-on-attached c.laws.ensures.only (of side c.args.self.now) (of (other side) c.args.self.now)
+    (either c.self.inside.a_hears c.self.inside.b_hears c.args.self.now (subst (λ (w : Sides). IsPair c.self.inside.a_hears c.self.inside.b_hears w.a w.b) c.self.view_is c.self.invariant) side)
+
+pub returns-clause-own : goal.returns-clause-own
+returns-clause-own c =
+    λ side.
+    has-said c.laws.ensures.own c.self.inside.a_hears c.self.inside.b_hears c.args.self.now
+    (subst (λ (w : Sides). IsPair c.self.inside.a_hears c.self.inside.b_hears w.a w.b) c.self.view_is c.self.invariant) side
+
+pub returns-clause-transfer : goal.returns-clause-transfer
+returns-clause-transfer c =
+    λ side.
+    finds-room (λ ca cb n a b f t w waits is lives. c.laws.ensures.window ca cb n a b f t w waits is lives)
+    (λ ca cb n a b f t w waits is lives. c.laws.ensures.link ca cb n a b f t w waits is lives)
+    (λ ca cb n a b f t w waits is lives l found stays first. c.laws.ensures.credit ca cb n a b f t l w waits is lives found stays first)
+    (of side c.args.self.now) (of (other side) c.args.self.now)
+    (either c.self.inside.a_hears c.self.inside.b_hears c.args.self.now (subst (λ (w : Sides). IsPair c.self.inside.a_hears c.self.inside.b_hears w.a w.b) c.self.view_is c.self.invariant) side)
+
+pub returns-clause-knows : goal.returns-clause-knows
+returns-clause-knows c =
+    λ side.
+    knows-other c.laws.ensures.begun c.laws.ensures.lives c.laws.ensures.ids
+    (λ ca cb n a b t id lives is. c.laws.ensures.expected ca cb n a b id t lives is)
+    (of side c.args.self.now) (of (other side) c.args.self.now)
     (either c.self.inside.a_hears c.self.inside.b_hears c.args.self.now (subst (λ (w : Sides). IsPair c.self.inside.a_hears c.self.inside.b_hears w.a w.b) c.self.view_is c.self.invariant) side)
