@@ -136,7 +136,7 @@ pub use amqp_rules::refusal::Refusal;
 pub use amqp_rules::reply::{Given, Learned, Resumed, Suspended, Taken};
 pub use amqp_rules::violation::{Violation, ViolationKind};
 pub use amqp_types::{Boxed, Tag, Text, Value};
-pub use amqp_waiting::{SuspendedItem, Verdict};
+pub use amqp_waiting::{Brought, SuspendedItem, Verdict};
 pub use bytes::Bytes;
 pub use config::{Config, MIN_MAX_FRAME};
 pub use conn::Conn;

@@ -5,6 +5,7 @@ use amqp_frames::{DeliveryState, Role};
 use amqp_rules::op::{Op, Rejoin};
 use amqp_rules::reply::Suspended;
 use amqp_types::{Boxed, Items, Tag, Text, Value};
+use amqp_waiting::Brought;
 use bytes::Bytes;
 use std::alloc::{AllocError, Global};
 
@@ -135,6 +136,7 @@ pub fn rejoin(
 ) -> Result<Op, AllocError>
     ensures { IfOk result (λ op. op ≡ Op.Rejoin (record { name = aside.name; role = aside.role; snd = 2; rcv = 0; source = source; target = target; count = 0; max_message = 0; items = aside.items })) }
 {
+    let items = Brought::new(alloc, aside.items)?;
     let rejoin = Rejoin {
         name: aside.name,
         role: aside.role,
@@ -144,7 +146,7 @@ pub fn rejoin(
         target,
         count: 0,
         max_message: 0,
-        items: aside.items,
+        items,
     };
     Ok(Op::Rejoin(Boxed::new(alloc, rejoin)?))
 }

@@ -1,11 +1,10 @@
 //! Operations of the application.
 ghost use Rattle.std.specs.Prelude.{◌≡◌};
 
-use crate::reply::copy_items;
 use amqp_frames::{AmqpError, DeliveryState, Role};
 use amqp_performatives::copying::{copy_error, copy_state, copy_value};
-use amqp_types::{Boxed, Items, Tag, Text, Value};
-use amqp_waiting::SuspendedItem;
+use amqp_types::{Boxed, Tag, Text, Value};
+use amqp_waiting::Brought;
 use bytes::Bytes;
 use std::alloc::AllocError;
 
@@ -26,7 +25,7 @@ pub struct Rejoin {
     /// The longest message that we take, in octets; no limit where it is 0.
     pub max_message: u64,
     /// The deliveries that wait on the link from then on, in this order; no two of one tag.
-    pub items: Items<SuspendedItem>,
+    pub items: Brought,
 }
 
 /// An operation of the application. What is wide stands behind a pointer, since each entry of a journal has room for the widest.
@@ -143,7 +142,7 @@ impl Clone for Rejoin {
         let name = self.name.clone()?;
         let source = copy_value(&self.source)?;
         let target = copy_value(&self.target)?;
-        let items = copy_items(&self.items)?;
+        let items = self.items.clone()?;
         Ok(Rejoin {
             name,
             role: self.role,

@@ -218,7 +218,7 @@ fn copy_ended(ended: &Items<(Role, u32)>) -> Result<Items<(Role, u32)>, AllocErr
     Ok(Items { items: copies })
 }
 
-pub(crate) fn copy_items(items: &Items<SuspendedItem>) -> Result<Items<SuspendedItem>, AllocError>
+fn copy_items(items: &Items<SuspendedItem>) -> Result<Items<SuspendedItem>, AllocError>
     ensures { IfOk result (λ copy. copy ≡ items.now) }
 {
     let mut copies = Vec::new(items.allocator());

@@ -8,6 +8,7 @@ use amqp_endpoint::endpoint::Endpoint;
 use amqp_endpoint::op::{Op, Rejoin};
 use amqp_frames::{Frame, FrameFault, Framer, Role};
 use amqp_types::Boxed;
+use amqp_waiting::Brought;
 use bytes::Bytes;
 use std::alloc::{AllocError, AllocFailed, Global};
 use thiserror::Error;
@@ -282,7 +283,7 @@ fn read_rejoin(alloc: Global, mut words: Words<'_>) -> Result<Line, LineFault> {
     let rcv = words.octet()?;
     let count = words.number()?;
     let max_message = words.long()?;
-    let items = words.items(alloc)?;
+    let items = Brought::new(alloc, words.items(alloc)?)?;
     words.end()?;
     let name = text(alloc, name)?;
     let rejoin = Rejoin {

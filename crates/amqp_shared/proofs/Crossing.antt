@@ -69,6 +69,7 @@ use Rattle.amqp_rules.specs.contracts.reply.Suspended as suspended
 use Rattle.amqp_rules.specs.contracts.reply.Resumed as resumed
 use Rattle.amqp_rules.specs.contracts.reply.Given as given
 use Rattle.amqp_rules.specs.contracts.reply.Reply as reply
+use Rattle.amqp_waiting.specs.contracts.brought.Brought as brought
 use Rattle.amqp_rules.specs.contracts.op.Rejoin as rejoin
 use Rattle.amqp_rules.specs.contracts.op.Op as op
 use Rattle.amqp_laws.specs.contracts.entry.Step as step
@@ -160,8 +161,11 @@ given_send = search (sendable, crosses, taken_crosses.the_send, learned_send, su
 pub reply_send : IsSend (reply.the_field).row
 reply_send = search (sendable, crosses, items_crosses.the_send, sent_send, given_send) depth 40 fits 20000
 
+pub brought_send : IsSend (brought.the_field).row
+brought_send = search (sendable, crosses, items_crosses.the_send, pair_send, value_send, suspended_item_send) depth 40 fits 20000
+
 pub rejoin_send : IsSend (rejoin.the_field).row
-rejoin_send = search (sendable, crosses, text.the_send, boxed.the_send, value_send, items_crosses.the_send, suspended_item_send) depth 40 fits 20000
+rejoin_send = search (sendable, crosses, text.the_send, boxed.the_send, value_send, brought_send) depth 40 fits 20000
 
 pub op_send : IsSend (op.the_field).row
 op_send = search (sendable, crosses, text.the_send, tag.the_send, bytes_send, boxed.the_send, value_send, delivery_state_send, amqp_error_send, rejoin_send) depth 40 fits 20000

@@ -1,16 +1,15 @@
 //! What an endpoint is asked: it takes no memory, and changes nothing.
-ghost use Rattle.std.specs.Prelude.{◌≡◌, length, option_map, slice_get, IfOk};
+ghost use Rattle.std.specs.Prelude.{◌≡◌, length, option_map, slice_get};
 ghost use Rattle.amqp_deliveries.specs.Change.{held_items};
-ghost use Rattle.amqp_links.specs.Rejoining.{all_aside};
-ghost use Rattle.amqp_rules.specs.Status.{status_of, windows_of};
+ghost use Rattle.amqp_rules.specs.Status.{status_of, waiting_shown, windows_of};
 ghost use Rattle.amqp_endpoint.specs.Plan.{tables_in};
 
 use crate::endpoint::Endpoint;
-use crate::reply::Suspended;
 use crate::status::{LinkStatus, WindowView};
 use amqp_deliveries::HeldItem;
 use amqp_frames::Role;
-use std::alloc::AllocError;
+use amqp_types::Tag;
+use amqp_waiting::Verdict;
 
 impl Endpoint {
     /// How many steps it has accepted.
@@ -52,6 +51,18 @@ impl Endpoint {
         }
     }
 
+    /// The delivery that waits at this place on the link with this number to be resumed: its tag, and what becomes of it (part 2, 2.6.13). None past
+    /// the last, or where there is no such link. O(log n) for n links.
+    pub fn waiting_at(&self, link: u32, i: usize) -> Option<(&Tag, Verdict)>
+        ensures tag { option_map (λ p. p.0.now) result ≡ option_map (λ p. p.0) (waiting_shown self.now link i) }
+        ensures verdict { option_map (λ p. p.1) result ≡ option_map (λ p. p.1) (waiting_shown self.now link i) }
+    {
+        match self.stores.links.by_number(link) {
+            Some(found) => found.link.waiting_at(i),
+            None => None,
+        }
+    }
+
     /// How many deliveries are unsettled of those on which we have this role (part 2, 2.6.12).
     pub fn unsettled_len(&self, role: Role) -> usize
         ensures { result ≡ length (held_items role (tables_in self.now)) }
@@ -64,13 +75,5 @@ impl Endpoint {
         ensures { option_map (λ x. x.now) result ≡ slice_get (held_items role (tables_in self.now)) i }
     {
         self.stores.tables.unsettled_at(role, i)
-    }
-
-    /// All links of the role that can be rejoined, as each would be put aside, in order: for a connection that was lost (part 2, 2.6.13). O(n · u) for
-    /// n links and u unsettled deliveries of the role.
-    pub fn links_aside(&self, role: Role) -> Result<Vec<Suspended>, AllocError>
-        ensures { IfOk result (λ v. v.items ≡ all_aside self.now role) }
-    {
-        self.stores.links.put_aside(role, self.stores.tables.of(role))
     }
 }

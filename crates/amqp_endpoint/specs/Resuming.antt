@@ -1,0 +1,48 @@
+-- The plans of a delivery that is resumed, by what is known of it.
+use Rattle.std.specs.Prelude.{ℕ, ◌||◌, Bool, true, false, cond, Option, Some, None, List, []}
+use Rattle.amqp_performatives.specs.declared.bodies.Role.TheVariants.{Sender}
+use Rattle.amqp_events.specs.Event.{Item}
+use Rattle.amqp_deliveries.specs.declared.change.Change.{Change}
+use Rattle.amqp_deliveries.specs.declared.change.Change.TheVariants.{Stay, Begins}
+use Rattle.amqp_links.specs.declared.fate.Fate.TheVariants as fate
+use Rattle.amqp_rules.specs.Deliveries.{is_partial, is_sent_anew}
+use Rattle.amqp_rules.specs.Resume.{outcome_of, resume_body, resumed_to}
+use Rattle.amqp_rules.specs.Sending.{sent_of}
+use Rattle.amqp_rules.specs.View.{View, next_delivery}
+use Rattle.amqp_waiting.specs.Kept.{standing_of}
+use Rattle.amqp_waiting.specs.Waiting.{WaitingItem}
+use Rattle.amqp_waiting.specs.declared.item.Verdict.TheVariants.{Absent}
+use Rattle.amqp_endpoint.specs.declared.endpoint.resume.Resuming.{Resuming}
+use Rattle.amqp_endpoint.specs.declared.plan.Plan.{Plan}
+use Rattle.amqp_endpoint.specs.Doing.{session_in}
+use Rattle.amqp_endpoint.specs.Plan.{quiet_plan}
+use Rattle.amqp_endpoint.specs.Starting.{change_begun, started}
+
+-- the delivery with this tag, as it waits
+abbrev pub item_at : List ℕ → Resuming → WaitingItem
+item_at tag r = standing_of tag r.standing.now
+
+-- as it is held then
+abbrev pub item_resumed : ℕ → ℕ → Bool → WaitingItem → Item
+item_resumed id link second w = record { id = id; link = link; tag = w.tag; second = second; local = w.state; remote = w.theirs }
+
+-- one more, unless it is sent settled or aborted
+abbrev pub change_resumed : ℕ → ℕ → Bool → Bool → WaitingItem → Change
+change_resumed id link settled second w = change_begun (settled || is_partial w) (item_resumed id link second w)
+
+-- the plan of one that is sent anew, and of one that the peer does not know
+abbrev pub sending_plan_of : View → ℕ → List ℕ → Bool → Resuming → Plan
+sending_plan_of v link tag settled r =
+    record {
+      session = started (session_in v);
+      fate = fate.Resumed r.on.key link r.on.marks tag;
+      change = change_resumed (next_delivery v) link settled r.second (item_at tag r);
+      sent = Some (sent_of (resume_body r.on.handle (next_delivery v) settled (item_at tag r)) []);
+      given = resumed_to r.standing.now.verdict (Some (next_delivery v)) (outcome_of (item_at tag r));
+    }
+
+abbrev pub absent_plan : View → ℕ → List ℕ → Resuming → Plan
+absent_plan v link tag r = quiet_plan (session_in v) (fate.Resumed r.on.key link r.on.marks tag) Stay (resumed_to Absent None None)
+
+abbrev pub resume_plan : View → ℕ → List ℕ → Bool → Resuming → Plan
+resume_plan v link tag settled r = cond (is_sent_anew (item_at tag r)) (sending_plan_of v link tag settled r) (absent_plan v link tag r)
