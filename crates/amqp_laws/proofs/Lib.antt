@@ -4,6 +4,7 @@ pub mod BroughtLaw
 pub mod ResumeOk
 pub mod ResumeLaw
 pub mod SessionRows
+pub mod ResumeRows
 pub mod Cases
 pub mod Events
 pub mod SentOrder

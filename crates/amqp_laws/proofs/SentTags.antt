@@ -25,9 +25,9 @@ use Rattle.amqp_rules.specs.Refusing.{first_refusal, if_there}
 use Rattle.amqp_rules.specs.Sending.{sends}
 use Rattle.amqp_rules.specs.Start.{start_answer, start_body, start_refusals}
 use Rattle.amqp_rules.specs.Resume.{early_refusals, resume_answer, resume_item, unless_refused}
-use Rattle.amqp_rules.specs.Sound.{Every, IsWaitingApart, WaitsApart}
+use Rattle.amqp_rules.specs.Sound.{IsWaitingApart}
+use Rattle.amqp_rules.proofs.Apart.{waiting-untagged}
 use Rattle.amqp_rules.proofs.Accepted.{on-link-ok, sends-ok, there_Ok, unless_refused_Ok}
-use Rattle.amqp_rules.proofs.Listed.{by-bool}
 use Rattle.amqp_laws.specs.declared.entry.Entry.{Entry}
 use Rattle.amqp_laws.specs.declared.entry.Step.{Step}
 use Rattle.amqp_laws.specs.declared.entry.Step.TheVariants.{Opened, Own, Heard}
@@ -41,14 +41,6 @@ use Rattle.amqp_laws.proofs.Events.{sent-same}
 use Rattle.amqp_laws.proofs.SentOrder.{found-passes}
 use Rattle.amqp_laws.proofs.Shown.{items-held}
 use Rattle.amqp_laws.proofs.Sound.{at-apart}
-
--- what is so of each is so of one that is found
-found-so : {A : Type 0} (P : A → Type 0) (test : A → Bool) (xs : List A) (on : A) → Every P xs → find test xs ≡ Some on → P on
-found-so P test [] on all h = absurd (cc)
-found-so P test (x ∷ xs) on all h =
-    by-bool (test x)
-    (λ (t : test x ≡ true). let h' = rw t at h in let same : x ≡ on = cc in subst P same all.0)
-    (λ (t : test x ≡ false). let h' = rw t at h in found-so P test xs on all.1 h')
 
 -- of those that we sent, as they are shown and as the events say
 untagged-held : (c : Config) (n : ℕ) (past : List Entry) (k : ℕ) (tag : List ℕ) → list_any (is_tagged k tag) (map (λ s. s.item) (seen c n past).sent) ≡ false → list_any (is_tagged k tag) (held (sent_events c past)) ≡ false
@@ -97,11 +89,7 @@ resume-free c n past link tag settled reply h apart =
     let w : WaitingItem = t.on in
     let id = next_delivery v in
     let item : Item = record { id = id; link = link; tag = w.tag; second = rcv_mode o.on == 1; local = w.state; remote = w.theirs } in
-    let items = map (λ s. s.item) v.sent in
-    let number : o.on.number ≡ link = eqb-true o.on.number link (found-passes (has_number link) v.links o.on o.found) in
-    let here = found-so (WaitsApart items) (has_number link) v.links o.on apart.sent.apart o.found in
-    let none = found-so (λ x. list_any (is_tagged o.on.number x.tag) items ≡ false) (waits_as tag) o.on.waiting w here.waiting t.found in
-    let untagged = untagged-held c n past link w.tag (subst (λ (k : ℕ). list_any (is_tagged k w.tag) items ≡ false) number none) in
+    let untagged = untagged-held c n past link w.tag (waiting-untagged v link tag o.on w apart o.found t.found) in
     let is : sent_by (base c 0 past) (Own (Resume link tag settled)) ≡ cond (is_sent_anew w) (Begins item (not (settled || is_partial w))) No_event =
     sym (sent-same c n past (Own (Resume link tag settled))) ∙ ap (resumed_on id link tag settled) o.found ∙ ap (resumed_as id link settled o.on) t.found in
     subst (λ (e : Event). IsFree e (sent_events c past)) (sym is) (free-item (is_sent_anew w) item (not (settled || is_partial w)) (sent_events c past) untagged)

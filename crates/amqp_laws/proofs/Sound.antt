@@ -74,8 +74,8 @@ at-unfinished c (e ∷ before) h short =
 
 next-apart : (v : View) (step : Step) (reply : Reply) → Answers v step reply → IsSound v → IsWaitingApart v → IsWaitingApart (next v step)
 next-apart v (Opened told) reply h s a = opened-apart v told a
-next-apart v (Own op) reply h s a = own-apart v op reply h s a
-next-apart v (Heard f) reply h s a = heard-apart-after v f reply h s a
+next-apart v (Own op) reply h s a = own-apart v op reply h s.links.numbers a
+next-apart v (Heard f) reply h s a = heard-apart-after v f reply h s.links.numbers a
 
 pub at-apart : (c : Config) (past : List Entry) → IsReplayed c past → length past ≤ 2 ^ 30 → IsWaitingApart (at c past)
 at-apart c [] h short = subst (λ (v : View). IsWaitingApart v) (at-first c) (initial-apart c)
