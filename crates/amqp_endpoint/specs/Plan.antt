@@ -12,7 +12,7 @@ use Rattle.amqp_rules.specs.declared.reply.Given.{Given}
 use Rattle.amqp_rules.specs.View.{View, SessionView, LinkView, SendingView, next_delivery}
 use Rattle.amqp_rules.specs.Carry.{size_so_far}
 use Rattle.amqp_rules.specs.Sending.{sent_of}
-use Rattle.amqp_rules.specs.Sound.{IsWaitingApart}
+use Rattle.amqp_rules.specs.Sound.{IsWaitingApart, IsSound as IsSoundView}
 use Rattle.amqp_endpoint.specs.declared.plan.Session.{Session}
 use Rattle.amqp_endpoint.specs.declared.plan.Plan.{Plan}
 use Rattle.amqp_deliveries.specs.declared.change.Change.{Change}
@@ -126,9 +126,14 @@ pub record IsSound (v : View) (p : Plan) : Type 0 where
   pub counted : IsCounted v p.change p.session
   pub alone : IsAlone p.fate p.change
 
--- where no tag that waits is that of an unsettled delivery, none is after the step
+-- what waits on a link has no tag of a delivery that is unsettled on it
+pub record IsApart (v : View) : Type 0 where
+  pub sound : IsSoundView v
+  pub apart : IsWaitingApart v
+
+-- and so it is after the step
 abbrev pub KeepsApart : View → View → Type 0
-KeepsApart v after = IsWaitingApart v → IsWaitingApart after
+KeepsApart v after = IsApart v → IsApart after
 
 -- the plan of a step that has this answer and leaves this view
 pub record IsPlan {E : Type 0} (v : View) (answer : Result Reply E) (after : View) (p : Plan) : Type 0 where
@@ -186,4 +191,4 @@ pub record IsKept (steps : ℕ) (s : Session) (st : StoresView) : Type 0 where
   pub short : AreShortOn steps st.links.list
   pub ours : AreBehind steps (next_id s) (held_items Sender st.tables)
   pub theirs : AreBehindExpected steps s.expected st.tables.received
-  pub apart : IsWaitingApart (view_of steps s st)
+  pub apart : IsApart (view_of steps s st)

@@ -653,7 +653,7 @@ told-all e sent made links items a = record { apart = told-apart e sent links it
 removed-apart : (test : LinkView → Bool) (made : ℕ) (links : List LinkView) (items : List Item) → AllWaitApart made links items → AllWaitApart made (remove_first test links) items
 removed-apart test made links items a = record { apart = every-removed (WaitsApart items) test links a.apart; below = a.below }
 
-body-apart : (v : View) (body : Option Performative) (payload : List ℕ) (reply : Reply) → body_answer v body payload ≡ Ok reply → AreInOrder v → IsWaitingApart v → IsWaitingApart (next_body v body payload)
+pub body-apart : (v : View) (body : Option Performative) (payload : List ℕ) (reply : Reply) → body_answer v body payload ≡ Ok reply → AreInOrder v → IsWaitingApart v → IsWaitingApart (next_body v body payload)
 body-apart v (Some (heard.Begin b)) payload reply h s a = record { sent = a.sent; received = a.received }
 body-apart v (Some (heard.Attach b)) payload reply h s a =
     joined-apart v (is_asked_as (opposite b.role) b.name) (opposite b.role) b.name (attached_by_peer b)

@@ -347,7 +347,7 @@ detached-sound v held received test test' same s =
       unbegun = s.unbegun;
     }
 
-body-sound : (v : View) (body : Option Performative) (payload : List ℕ) (reply : Reply) → body_answer v body payload ≡ Ok reply → IsSound v → IsSound (next_body v body payload)
+pub body-sound : (v : View) (body : Option Performative) (payload : List ℕ) (reply : Reply) → body_answer v body payload ≡ Ok reply → IsSound v → IsSound (next_body v body payload)
 body-sound v (Some (heard.Begin b)) payload reply h s = told-sound v (record v.session { begin_heard = true }) v.sent v.received (windows_begun b.next_outgoing_id b.incoming_window b.outgoing_window v.windows) v.max_frame _ refl refl (λ b. b) s
 body-sound v (Some (heard.Attach b)) payload reply h s = attach-heard-sound v b reply h s
 body-sound v (Some (heard.Flow b)) payload reply h s = flow-sound v b b.handle s

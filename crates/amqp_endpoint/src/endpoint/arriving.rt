@@ -154,7 +154,7 @@ impl Endpoint {
         if !arriving.begins {
             return self.come_on(b, payload, arriving);
         }
-        if arriving.resumed {
+        if is_resumed(b) {
             return self.come_back(b, payload, arriving);
         }
         self.come_first(b, payload, arriving)
@@ -168,7 +168,7 @@ impl Endpoint {
         arriving: &Arriving,
     ) -> Result<Done, AllocError>
         requires begins { arriving.now.begins ≡ true }
-        requires fresh { arriving.now.resumed ≡ false }
+        requires fresh { unwrap_or b.now.resume false ≡ false }
         requires may { MayCome self.old b.now payload.now arriving.now }
         ensures has { IfOk result (HasCome self.old self.new b.now payload.now arriving.now) }
         ensures err { OnErr result (self.new ≡ self.old) }
@@ -203,6 +203,7 @@ impl Endpoint {
         arriving: &Arriving,
     ) -> Result<Done, AllocError>
         requires begins { arriving.now.begins ≡ true }
+        requires back { unwrap_or b.now.resume false ≡ true }
         requires may { MayCome self.old b.now payload.now arriving.now }
         ensures has { IfOk result (HasCome self.old self.new b.now payload.now arriving.now) }
         ensures err { OnErr result (self.new ≡ self.old) }

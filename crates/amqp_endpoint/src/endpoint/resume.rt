@@ -310,11 +310,23 @@ impl Endpoint {
     {
         let id = self.session.next_delivery();
         let standing = resuming.standing;
-        let change = change_resumed(id, link, tag, settled, resuming.second, standing)?;
         let state = copy_outcome(standing)?;
         let given = told_resumed(self.alloc, standing.verdict, Some(id), state)?;
-        let body = resume_body(resuming.on.handle, id, tag, settled, standing)?;
-        Ok((change, given, body))
+        let change = match change_resumed(id, link, tag, settled, resuming.second, standing) {
+            Ok(change) => change,
+            Err(e) => {
+                drop(given);
+                return Err(e);
+            }
+        };
+        match resume_body(resuming.on.handle, id, tag, settled, standing) {
+            Ok(body) => Ok((change, given, body)),
+            Err(e) => {
+                drop(given);
+                drop(change);
+                Err(e)
+            }
+        }
     }
 
     /// The plan of a delivery that is sent anew.

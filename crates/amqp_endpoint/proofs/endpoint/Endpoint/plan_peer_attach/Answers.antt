@@ -9,4 +9,4 @@ returns-in-Some-answered_link c =
     (sym (rw (c.in_default.is, ← c.self.view_is) at c.attach_violation.ensures))
     (rw (← c.self.view_is) at c.in-Some-answered_link.ensures)
     c.self.invariant
-    (rw c.end_of-end.ensures at c.plan_quiet.ensures))
+    (rw (c.end_of-end.ensures, c.in-Ok.ensures) at c.plan_quiet.ensures))
