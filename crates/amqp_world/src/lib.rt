@@ -12,6 +12,10 @@
 //! The application of an end may do what `amqp_journal` lets it do, but for one thing: it disposes no delivery whose first transfer it has not heard.
 //! Then no frame of one end is a violation for the other, whatever both do and whenever they hear (`World::hear` has no such answer), and
 //! what comes out of one end went into the other (`World::laws`).
+//!
+//! That is said of ends with settings within their limits, each short of its journal limit, which hear all frames of the other in order. Where a journal
+//! is full, or memory is refused, nothing changes, and the frame still waits. A link that is put aside is left; no operation brings one back. Nothing is
+//! said of a connection that is lost, nor that a frame is ever heard.
 #![tactic(auto)]
 
 mod ahead;

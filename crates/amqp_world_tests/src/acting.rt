@@ -2,7 +2,7 @@
 
 use crate::calls::{Notes, does, hears};
 use crate::dice::Dice;
-use crate::lists::{journal, source};
+use crate::lists::{is_outcome, journal, source};
 use amqp_frames::{DeliveryState, Role};
 use amqp_rules::op::Op;
 use amqp_rules::status::{LinkPhase, LinkStatus};
@@ -201,7 +201,7 @@ fn go_on(world: &mut World, notes: &mut Notes, side: Side, link: u32) -> bool {
 
 /// Begins a delivery.
 fn start(world: &mut World, notes: &mut Notes, side: Side, link: u32) -> bool {
-    let Some(tag) = Tag::new(&[notes.dice.octet() % 32]) else {
+    let Some(tag) = Tag::new(&[notes.dice.octet() / 8]) else {
         return false;
     };
     let format = notes.dice.below(1 << 20);
@@ -291,10 +291,6 @@ fn held(world: &World, dice: &mut Dice, side: Side, role: Role) -> Option<Unsett
     }
 }
 
-fn is_outcome(state: &Option<DeliveryState>) -> bool {
-    !matches!(state, None | Some(DeliveryState::Received { .. }))
-}
-
 fn dispose(world: &mut World, notes: &mut Notes, side: Side) -> bool {
     if notes.dice.one_in(4) {
         settle_sent(world, notes, side)
@@ -345,25 +341,19 @@ fn dispose_received(world: &mut World, notes: &mut Notes, side: Side) -> bool {
 /// Accepts each delivery that the end received and has not settled, if it may; the other is told an outcome.
 pub fn accept_all(world: &mut World, notes: &mut Notes, side: Side) {
     for place in 0..world.side(side).endpoint().unsettled_len(Role::Receiver) {
-        let Some(id) = id_at(world, side, place) else {
-            return;
-        };
-        accept(world, notes, side, id);
+        accept(world, notes, side, place);
     }
 }
 
-fn id_at(world: &World, side: Side, place: usize) -> Option<u32> {
-    match world
+fn accept(world: &mut World, notes: &mut Notes, side: Side, place: usize) -> bool {
+    let id = match world
         .side(side)
         .endpoint()
         .unsettled_at(Role::Receiver, place)
     {
-        Some(item) => Some(item.id),
-        None => None,
-    }
-}
-
-fn accept(world: &mut World, notes: &mut Notes, side: Side, id: u32) -> bool {
+        Some(item) => item.id,
+        None => return false,
+    };
     let op = Op::Dispose {
         role: Role::Receiver,
         first: id,

@@ -9,7 +9,7 @@ use amqp_world::world::World;
 use std::alloc::Global;
 
 /// How often something came about.
-#[derive(Clone, Copy, Debug, PartialEq, Eq)]
+#[derive(Clone, Copy)]
 pub struct Tally {
     /// What should not have been.
     pub wrong: u32,

@@ -1,15 +1,17 @@
 //! Numbers that look random, and are the same in each run.
 
-/// A generator with 32 bits of state (xorshift), which are not all zero.
+/// A generator with 32 bits of state (xorshift), which are not all zero, and one of octets, which gives each once in 256 times.
 #[derive(Clone, Copy)]
 pub struct Dice {
     state: u32,
+    octet: u8,
 }
 
 impl Dice {
     pub fn new(seed: u32) -> Dice {
         Dice {
             state: seed.wrapping_mul(2654435761) | 1,
+            octet: 0,
         }
     }
 
@@ -24,7 +26,8 @@ impl Dice {
     }
 
     pub fn octet(&mut self) -> u8 {
-        self.below(256).to_le_bytes()[0]
+        self.octet = self.octet.wrapping_mul(5).wrapping_add(3);
+        self.octet
     }
 
     /// Once in so many times.

@@ -283,6 +283,10 @@ fn saying_of(entry: &Entry, id: u32) -> Option<Saying> {
 
 const OUTCOME: u32 = 100;
 
+pub fn is_outcome(state: &Option<DeliveryState>) -> bool {
+    number_in(state) >= OUTCOME
+}
+
 fn number_in(state: &Option<DeliveryState>) -> u32 {
     match state {
         None => 0,
@@ -315,13 +319,12 @@ fn is_right(before: &[Entry], theirs: &[Entry], taken: &Taken) -> bool {
 /// Counts what an end took, learnt, carried and aborted.
 pub fn count(tally: &mut Tally, entries: &[Entry]) {
     for entry in entries {
-        count_given(tally, &entry.reply.given);
-        count_step(tally, &entry.step);
+        count_entry(tally, entry);
     }
 }
 
-fn count_given(tally: &mut Tally, given: &Given) {
-    match given {
+fn count_entry(tally: &mut Tally, entry: &Entry) {
+    match &entry.reply.given {
         Given::Taken(taken) => {
             tally.taken = tally.taken.wrapping_add(1);
             if taken.get().id < FIRST {
@@ -331,10 +334,7 @@ fn count_given(tally: &mut Tally, given: &Given) {
         Given::Learned(_) => tally.learnt = tally.learnt.wrapping_add(1),
         _ => {}
     }
-}
-
-fn count_step(tally: &mut Tally, step: &Step) {
-    match step {
+    match &entry.step {
         Step::Own(Op::Carry { .. }) => tally.carried = tally.carried.wrapping_add(1),
         Step::Own(Op::Abort { .. }) => tally.aborted = tally.aborted.wrapping_add(1),
         _ => {}

@@ -25,20 +25,19 @@ const SETTINGS: Settings = Settings {
     max_frame: 65536,
 };
 
-/// A delivery, by its id and the one octet of its tag.
-type Named = Option<(u32, u8)>;
-
 /// What came of it.
 #[derive(Clone, Copy, PartialEq, Eq)]
 struct Course {
     /// What B was told of its disposition before it heard the deliveries, after the first, and after it took both.
     disposed: [Disposed; 3],
-    taken: [Named; 2],
+    /// The ids of what B takes.
+    taken: [Option<u32>; 2],
     /// What B has heard then.
     heard: Heard,
     /// How many deliveries of A's that disposition ended.
     ended: usize,
-    learnt: [Named; 2],
+    /// The ids of what A learns as settled and accepted.
+    learnt: [Option<u32>; 2],
     /// A has something to hear then.
     more: bool,
     /// B puts the link aside.
@@ -85,6 +84,22 @@ fn starts(world: &mut World, notes: &mut Notes, number: u8) -> bool {
     does(world, notes, Side::A, op)
 }
 
+/// A sends both on credit of B's, which has heard neither.
+fn sends(world: &mut World, notes: &mut Notes) -> bool {
+    does(world, notes, Side::A, Op::Begin)
+        && does(world, notes, Side::B, Op::Begin)
+        && hears(world, notes, Side::A)
+        && hears(world, notes, Side::B)
+        && attaches(world, notes, Side::A, Role::Sender)
+        && attaches(world, notes, Side::B, Role::Receiver)
+        && hears(world, notes, Side::A)
+        && hears(world, notes, Side::B)
+        && grants(world, notes)
+        && hears(world, notes, Side::A)
+        && starts(world, notes, 1)
+        && starts(world, notes, 2)
+}
+
 /// B takes two deliveries.
 fn grants(world: &mut World, notes: &mut Notes) -> bool {
     let op = Op::Grant {
@@ -94,25 +109,6 @@ fn grants(world: &mut World, notes: &mut Notes) -> bool {
         echo: false,
     };
     does(world, notes, Side::B, op)
-}
-
-/// A sends both, and B has heard neither.
-fn sends(world: &mut World, notes: &mut Notes) -> bool {
-    does(world, notes, Side::A, Op::Begin)
-        && does(world, notes, Side::B, Op::Begin)
-        && both_hear(world, notes)
-        && attaches(world, notes, Side::A, Role::Sender)
-        && attaches(world, notes, Side::B, Role::Receiver)
-        && both_hear(world, notes)
-        && grants(world, notes)
-        && hears(world, notes, Side::A)
-        && starts(world, notes, 1)
-        && starts(world, notes, 2)
-}
-
-/// Each hears one frame of the other.
-fn both_hear(world: &mut World, notes: &mut Notes) -> bool {
-    hears(world, notes, Side::A) && hears(world, notes, Side::B)
 }
 
 /// B disposes both.
@@ -136,38 +132,31 @@ fn disposes(world: &mut World) -> Disposed {
     disposed
 }
 
-/// What the operation gives of a delivery.
-fn gives(world: &mut World, side: Side, op: Op) -> Named {
-    let named = match world.own(side, &op) {
-        Ok(given) => named_by(given),
+/// The id of the delivery of which the operation tells.
+fn gives(world: &mut World, side: Side, op: Op) -> Option<u32> {
+    let id = match world.own(side, &op) {
+        Ok(given) => id_by(given),
         Err(_) => None,
     };
     drop(op);
-    named
+    id
 }
 
-fn named_by(given: Given) -> Named {
-    let named = match &given {
-        Given::Taken(taken) => with(taken.get().id, &taken.get().tag),
+fn id_by(given: Given) -> Option<u32> {
+    let id = match &given {
+        Given::Taken(taken) => Some(taken.get().id),
         Given::Learned(learned) => accepted(learned.get()),
         _ => None,
     };
     drop(given);
-    named
+    id
 }
 
-/// What was learnt, where it is settled and accepted.
-fn accepted(learned: &Learned) -> Named {
+/// The id of what was learnt, where it is settled and accepted.
+fn accepted(learned: &Learned) -> Option<u32> {
     match learned.state {
-        Some(DeliveryState::Accepted) if learned.settled => with(learned.id, &learned.tag),
+        Some(DeliveryState::Accepted) if learned.settled => Some(learned.id),
         _ => None,
-    }
-}
-
-fn with(id: u32, tag: &Tag) -> Named {
-    match tag.octets().first() {
-        Some(octet) => Some((id, *octet)),
-        None => None,
     }
 }
 
@@ -231,13 +220,13 @@ fn a_disposition_waits_for_what_it_disposes(rt: HostRuntime) {
             Disposed::ReachesAhead,
             Disposed::Done,
         ],
-        taken: [Some((FIRST, 1)), Some((0, 2))],
+        taken: [Some(FIRST), Some(0)],
         heard: Heard {
             frames: 4,
             firsts: 2,
         },
         ended: 2,
-        learnt: [Some((FIRST, 1)), Some((0, 2))],
+        learnt: [Some(FIRST), Some(0)],
         more: false,
         aside: true,
     };

@@ -3,6 +3,7 @@
 use crate::acting::{FIRST, accept_all, turn};
 use crate::calls::{Notes, Tally, does, hears};
 use crate::lists::{count, count_taken, has_complete, journal, judge, source};
+use amqp_frames::Role;
 use amqp_rules::config::Config;
 use amqp_rules::op::Op;
 use amqp_rules::status::LinkPhase;
@@ -104,39 +105,33 @@ fn hear_all(world: &mut World, notes: &mut Notes) {
     }
 }
 
-/// The end takes all that waits on each of its links, and accepts it.
+/// The end takes all that waits on each of its links, and accepts it; then all was taken that the other sent complete.
 fn take_all(world: &mut World, notes: &mut Notes, side: Side) {
     for link in 0..=notes.newest(side) {
         if is_attached(world, side, link) {
-            take_on(world, notes, side, link);
+            exhaust(world, notes, side, link, Role::Receiver);
+            let right = has_all(world, side, link);
+            notes.tally.judge(right);
         }
     }
     accept_all(world, notes, side);
 }
 
-/// Then all was taken on the link that the other sent complete.
-fn take_on(world: &mut World, notes: &mut Notes, side: Side, link: u32) {
-    for _ in 0..u32::MAX {
-        if !does(world, notes, side, Op::Take { link }) {
-            break;
-        }
-    }
-    let right = has_all(world, side, link);
-    notes.tally.judge(right);
-}
-
 /// The end learns all that was told on each of its links.
 fn learn_all(world: &mut World, notes: &mut Notes, side: Side) {
     for link in 0..=notes.newest(side) {
-        if is_attached(world, side, link) {
-            learn_on(world, notes, side, link);
-        }
+        exhaust(world, notes, side, link, Role::Sender);
     }
 }
 
-fn learn_on(world: &mut World, notes: &mut Notes, side: Side, link: u32) {
+/// Takes what waits on the link, or learns what was told, until there is no more.
+fn exhaust(world: &mut World, notes: &mut Notes, side: Side, link: u32, role: Role) {
     for _ in 0..u32::MAX {
-        if !does(world, notes, side, Op::Learn { link }) {
+        let op = match role {
+            Role::Receiver => Op::Take { link },
+            Role::Sender => Op::Learn { link },
+        };
+        if !does(world, notes, side, op) {
             return;
         }
     }
