@@ -1,5 +1,5 @@
 //! Resume: a delivery that waits on a link on which we send is sent anew, by one transfer without payload (part 2, 2.6.13 and 2.7.5).
-ghost use Rattle.std.specs.Prelude.{◌≡◌, ◌<◌, ◌^◌, ◌&&◌, [], None, Some, not, true, IfOk};
+ghost use Rattle.std.specs.Prelude.{◌≡◌, ◌<◌, ◌^◌, ◌&&◌, ◌||◌, [], None, Some, not, true, IfOk};
 ghost use Rattle.std.specs.Result.{result_err};
 ghost use Rattle.amqp_endpoint.specs.Plan.{Checks, Plans};
 ghost use Rattle.amqp_endpoint.specs.Resuming.{MaySend, change_resumed, in_part, item_at, late_rows, not_clear, outcome_told, resume_plan, sending_plan_of, sent_anew};
@@ -114,6 +114,12 @@ fn copy_outcome(
     }
 }
 
+fn either(a: bool, b: bool) -> bool
+    ensures { result ≡ (a || b) }
+{
+    a || b
+}
+
 /// An aborted transfer settles nothing.
 fn settles(settled: bool, partial: bool) -> Option<bool>
     ensures { result ≡ flag (settled && not partial) }
@@ -183,7 +189,8 @@ fn change_resumed(
 ) -> Result<Change, AllocError>
     ensures { IfOk result (λ c. c ≡ change_resumed id link settled second (standing_of tag.now standing.now)) }
 {
-    if settled || is_partial(standing.verdict) {
+    let over = either(settled, is_partial(standing.verdict));
+    if over {
         return Ok(Change::Stay);
     }
     let local = copy_state(&standing.state)?;
