@@ -52,8 +52,8 @@ plan-attached steps s st a w k t = rw t.handle (by w.met w.number t.meets)
         let none : w.marks.sending ≡ None = ap (λ (l : LinkView). l.sending) (m.3 0) in
         rw (m.1, m.0)
         record {
-          due = rw (t.mapped, t.unused, t.low, t.distinct, t.fair, t.written, m.0) refl;
-          leaves = rw (m.0, e) refl;
+          due = rw (t.mapped, t.unused, t.low, t.distinct, t.fair, t.written) refl;
+          leaves = rw e refl;
           sound = record {
             fit = refl;
             short = subst (λ (x : Option SendingView). IsShort (steps + 1) x) (sym none) (omega arith);
@@ -69,8 +69,8 @@ plan-attached steps s st a w k t = rw t.handle (by w.met w.number t.meets)
         let alike = change-alike (has_number on.number) (attached_by_us b a.items) (with_ours (end_of b) w.marks (resuming_by_us a.items on)) st.links.list on first.numbered (sym e) in
         rw (number, first.found)
         record {
-          due = rw (t.mapped, t.unused, t.low, t.distinct, t.fair, t.written, first.found) refl;
-          leaves = rw (first.found, first.alone (attached_by_us b a.items), alike) refl;
+          due = rw (t.mapped, t.unused, t.low, t.distinct, t.fair, t.written) refl;
+          leaves = rw (first.alone (attached_by_us b a.items), alike) refl;
           sound = record {
             fit = (refl, λ l found. let q : on ≡ l = same (sym first.numbered ∙ found) in subst (λ (x : LinkView). x.ours ≡ None) q bare);
             short = subst (λ (x : Option SendingView). IsShort (steps + 1) x) (sym sends) (shorter steps (size_so_far on.sending) (short-found steps (is_offered_as a.role a.name) st.links.list on k.short first.found));

@@ -1,6 +1,6 @@
 -- The plan of a delivery that is resumed.
-use Rattle.std.proofs.Common.{◌≡◌, ◌∙◌, ℕ, ◌+◌, ◌==◌, ◌||◌, not, Bool, true, false, cond, Option, Some, None, List, [], ◌∷◌, inr, arith, refl, ap, sym, subst, find, map, ⊎_elim}
-use Rattle.std.proofs.lemmas.Bool.{cases_Bool}
+use Rattle.std.proofs.Common.{◌≡◌, ◌∙◌, ℕ, ◌+◌, ◌<◌, ◌==◌, ◌&&◌, ◌||◌, not, Bool, true, false, cond, Option, Some, None, Err, List, [], ◌∷◌, inr, arith, refl, ap, sym, subst, find, map, ⊎_elim}
+use Rattle.std.proofs.lemmas.Bool.{cases_Bool, eqb-false}
 use Rattle.std.specs.List.{list_any}
 use Rattle.amqp_flow.specs.Credit.{delivery_begun}
 use Rattle.amqp_events.specs.Event.{Item}
@@ -17,16 +17,19 @@ use Rattle.amqp_rules.specs.Refusing.{first_refusal}
 use Rattle.amqp_rules.specs.Resume.{begin_resumed, early_refusals, is_unclear, next_resume, resume_answer, resume_body, resume_refusals, resumed_from}
 use Rattle.amqp_rules.specs.Sending.{frame_refused}
 use Rattle.amqp_rules.specs.Sound.{AllWaitApart, Every, WaitsApart}
-use Rattle.amqp_rules.specs.View.{LinkView, SendingView, handle_of, has_number, is_mapped, next_delivery, rcv_mode}
+use Rattle.amqp_rules.specs.View.{LinkView, SendingView, View, handle_of, has_number, is_mapped, next_delivery, rcv_mode, snd_mode}
+use Rattle.amqp_rules.specs.Start.{mode_forbids}
 use Rattle.amqp_waiting.specs.Waiting.{WaitingItem, waits_as, without}
 use Rattle.amqp_endpoint.specs.declared.plan.Session.{Session}
 use Rattle.amqp_endpoint.specs.declared.endpoint.resume.Resuming.{Resuming}
-use Rattle.amqp_endpoint.specs.Stores.{StoresView}
+use Rattle.amqp_links.specs.declared.fate.Fate.TheVariants as fate
+use Rattle.amqp_endpoint.specs.Stores.{StoresView, stores_after}
 use Rattle.amqp_endpoint.specs.Plan.{IsAlone, IsCounted, IsKept, IsPlan, IsShort, flags_of, view_of}
-use Rattle.amqp_endpoint.specs.Resuming.{absent_plan, item_at, item_resumed, resume_plan, sending_plan_of}
+use Rattle.amqp_endpoint.specs.Resuming.{absent_plan, item_at, item_resumed, late_rows, resume_plan, sending_plan_of}
 use Rattle.amqp_endpoint.specs.Starting.{change_begun, started}
 use Rattle.amqp_rules.specs.declared.refusal.Refusal.{Refusal}
-use Rattle.amqp_endpoint.proofs.Plans.{change-alike, counted-still, expects-same, found-number, same, short-found, shorter}
+use Rattle.amqp_rules.specs.declared.refusal.Refusal.TheVariants.{Unclear, SettleMode, NoCredit, NoWindow}
+use Rattle.amqp_endpoint.proofs.Plans.{change-alike, counted-still, expects-same, found-number, row-free, same, short-found, shorter}
 use Rattle.amqp_endpoint.proofs.Starts.{next-wire, unspoken}
 
 -- # What holds of each holds of what is found
@@ -61,6 +64,40 @@ pub record IsThere (k : ℕ) (s : Session) (st : StoresView) (link : ℕ) (tag :
 short-there : (k : ℕ) (s : Session) (st : StoresView) (link : ℕ) (tag : List ℕ) (r : Resuming) (on : LinkView) → IsThere k s st link tag r on → IsShort (k + 1) r.on.marks.sending
 short-there k s st link tag r on t =
     subst (λ (x : Option SendingView). IsShort (k + 1) x) (sym t.sending) (shorter k (size_so_far on.sending) (short-found k (has_number link) st.links.list on t.kept.short t.found))
+
+-- # What is refused
+
+pub refused-unclear : (v : View) (link : ℕ) (tag : List ℕ) (settled : Bool) (on : LinkView) (w : WaitingItem) → is_mapped v.session ≡ true → find (has_number link) v.links ≡ Some on → first_refusal (early_refusals on) ≡ None
+    → find (waits_as tag) on.waiting ≡ Some w → is_unclear w ≡ true → resume_answer v link tag settled ≡ Err Unclear
+refused-unclear v link tag settled on w mapped found early waits unclear = rw (mapped, found, early, waits, unclear) refl
+
+pub refused-late : (v : View) (link : ℕ) (tag : List ℕ) (settled : Bool) (on : LinkView) (w : WaitingItem) (e : Refusal) → is_mapped v.session ≡ true → find (has_number link) v.links ≡ Some on → first_refusal (early_refusals on) ≡ None
+    → find (waits_as tag) on.waiting ≡ Some w → is_unclear w ≡ false → is_sent_anew w ≡ true → first_refusal (late_rows v on settled (is_partial w)) ≡ Some e → resume_answer v link tag settled ≡ Err e
+refused-late v link tag settled on w e mapped found early waits clear anew late = rw (mapped, found, early, waits, clear, anew, late) refl
+
+pub refused-frame : (v : View) (link : ℕ) (tag : List ℕ) (settled : Bool) (on : LinkView) (w : WaitingItem) (e : Refusal) → is_mapped v.session ≡ true → find (has_number link) v.links ≡ Some on → first_refusal (early_refusals on) ≡ None
+    → find (waits_as tag) on.waiting ≡ Some w → is_unclear w ≡ false → is_sent_anew w ≡ true → first_refusal (late_rows v on settled (is_partial w)) ≡ None
+    → frame_refused v.max_frame (resume_body (handle_of on.ours) (next_delivery v) settled w) [] ≡ Some e → resume_answer v link tag settled ≡ Err e
+refused-frame v link tag settled on w e mapped found early waits clear anew late frame = rw (mapped, found, early, waits, clear, anew, late, frame) refl
+
+-- and what a table that refuses nothing tells
+pub record AreFree (v : View) (on : LinkView) : Type 0 where
+  pub credit : 0 < on.credit.credit
+  pub window : 0 < v.windows.remote_incoming
+
+above : (n : ℕ) → (n == 0) ≡ false → 0 < n
+above n h = let d = eqb-false n 0 h in omega (arith, d)
+
+pub late-free : (v : View) (on : LinkView) (settled partial : Bool) → first_refusal (late_rows v on settled partial) ≡ None → AreFree v on
+late-free v on settled partial h =
+    let m = row-free (not partial && mode_forbids (snd_mode on) settled) SettleMode ((on.credit.credit == 0, NoCredit) ∷ (v.windows.remote_incoming == 0, NoWindow) ∷ []) h in
+    let c = row-free (on.credit.credit == 0) NoCredit ((v.windows.remote_incoming == 0, NoWindow) ∷ []) m.1 in
+    let w = row-free (v.windows.remote_incoming == 0) NoWindow [] c.1 in
+    record { credit = above on.credit.credit c.0; window = above v.windows.remote_incoming w.0 }
+
+pub never : (P : Type 0) (b : Bool) → b ≡ false → b ≡ true → P
+never P true a h = absurd (cc)
+never P false a h = absurd (cc)
 
 -- # One that the peer does not know
 
@@ -114,14 +151,13 @@ sent-leaves : (k : ℕ) (s : Session) (st : StoresView) (link : ℕ) (tag : List
     → is_sent_anew (item_at tag r) ≡ true → (settled || is_partial (item_at tag r)) ≡ over → r.second ≡ (rcv_mode on == 1) → begin_resumed tag on ≡ with_resumed r.on.marks tag on
     → next_resume (view_of k s st) link tag settled
     ≡ view_of (k + 1) (started s)
-    (record { links = changed link (with_resumed r.on.marks tag) st.links; tables = tables_after (change_begun over (item_resumed (next_delivery (view_of k s st)) link r.second (item_at tag r))) st.tables })
+    (stores_after (fate.Resumed r.on.key link r.on.marks tag) (change_begun over (item_resumed (next_delivery (view_of k s st)) link r.second (item_at tag r))) st)
 sent-leaves k s st link tag settled true r on t anew is second alike =
     rw (
       t.found,
       t.waits,
       anew,
       is,
-      second,
       change-alike (has_number link) (begin_resumed tag) (with_resumed r.on.marks tag) st.links.list on t.found alike,
       unspoken (item_resumed (next_delivery (view_of k s st)) link (rcv_mode on == 1) (item_at tag r)) st.tables.sent,
     ) refl

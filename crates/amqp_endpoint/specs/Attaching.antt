@@ -1,5 +1,5 @@
 -- What the private checks of an attach promise.
-use Rattle.std.specs.Prelude.{ℕ, ◌≡◌, nat_lt, not, true, false, Option, Some, None, List, [], cond, find, is_some, map}
+use Rattle.std.specs.Prelude.{ℕ, ◌≡◌, nat_lt, not, Bool, true, false, Option, Some, None, List, [], cond, find, is_some, map}
 use Rattle.std.specs.Borrow.{Bor}
 use Rattle.std.specs.List.{list_any}
 use Rattle.amqp_flow.specs.Credit.{count_given}
@@ -24,6 +24,10 @@ use Rattle.amqp_endpoint.specs.declared.endpoint.attach.Meeting.{Meeting}
 abbrev pub items_in : Option (Bor (List SuspendedItem)) → List SuspendedItem
 items_in None = []
 items_in (Some b) = b.now
+
+-- a disposition could not have the state of one of them
+abbrev pub has_unfair : List SuspendedItem → Bool
+has_unfair is = list_any (λ i. not (is_fair_item i)) is
 
 abbrev pub wanted_of : Wanted → Asked_for
 wanted_of w =

@@ -1,6 +1,5 @@
 //! Attach, and Rejoin, which brings deliveries in: a link is asked for, or the peer's attach is answered (part 2, 2.6.3, 2.6.13 and 2.7.3).
-ghost use Rattle.std.specs.Prelude.{◌≡◌, Some, None, [], Err, MatchResult, IfOk, cond, false, find, not};
-ghost use Rattle.std.specs.List.{list_any};
+ghost use Rattle.std.specs.Prelude.{◌≡◌, Some, None, [], Err, MatchResult, IfOk, cond, false, find};
 ghost use Rattle.std.specs.Result.{result_err};
 ghost use Rattle.amqp_flow.specs.Credit.{count_given};
 ghost use Rattle.amqp_links.specs.Credits.{credit_in, role_of};
@@ -9,9 +8,9 @@ ghost use Rattle.amqp_rules.specs.Attach.{attach_answer, next_attach, own_attach
 ghost use Rattle.amqp_rules.specs.Rejoin.{rejoined};
 ghost use Rattle.amqp_rules.specs.Sending.{frame_refused};
 ghost use Rattle.amqp_rules.specs.View.{is_offered_as, is_sender};
-ghost use Rattle.amqp_waiting.specs.OurUnsettled.{is_fair_item, map_of};
+ghost use Rattle.amqp_waiting.specs.OurUnsettled.{map_of};
 ghost use Rattle.amqp_waiting.specs.Waiting.{has_twice};
-ghost use Rattle.amqp_endpoint.specs.Attaching.{IsMeeting, Meets, attached_fate, items_in, resuming_met, wanted_of};
+ghost use Rattle.amqp_endpoint.specs.Attaching.{IsMeeting, Meets, attached_fate, has_unfair, items_in, resuming_met, wanted_of};
 ghost use Rattle.amqp_endpoint.specs.Plan.{Plans};
 
 use crate::endpoint::Endpoint;
@@ -128,10 +127,10 @@ fn told_in<'a>(
 
 /// One of these could not be told by a disposition.
 fn has_unfair(items: &[SuspendedItem]) -> bool
-    ensures { result ≡ list_any (λ i. not (is_fair_item i)) items.now }
+    ensures { result ≡ has_unfair items.now }
 {
-    for item in items {
-        if !is_fair_state(&item.state) {
+    for next in 0..items.len() {
+        if !is_fair_state(&items[next].state) {
             return true;
         }
     }

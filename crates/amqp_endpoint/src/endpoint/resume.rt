@@ -1,11 +1,12 @@
 //! Resume: a delivery that waits on a link on which we send is sent anew, by one transfer without payload (part 2, 2.6.13 and 2.7.5).
-ghost use Rattle.std.specs.Prelude.{◌≡◌, ◌<◌, ◌^◌, [], ℕ, List, None, Some, IfOk};
+ghost use Rattle.std.specs.Prelude.{◌≡◌, ◌<◌, ◌^◌, ◌&&◌, ◌||◌, [], None, Some, not, true, IfOk};
 ghost use Rattle.std.specs.Result.{result_err};
 ghost use Rattle.amqp_endpoint.specs.Plan.{Checks, Plans};
-ghost use Rattle.amqp_endpoint.specs.Resuming.{change_resumed, item_at, resume_plan, sending_plan_of};
-ghost use Rattle.amqp_rules.specs.Deliveries.{is_partial, is_sent_anew};
+ghost use Rattle.amqp_endpoint.specs.Resuming.{MaySend, change_resumed, in_part, item_at, late_rows, not_clear, outcome_told, resume_plan, sending_plan_of, sent_anew};
+ghost use Rattle.amqp_rules.specs.Deliveries.{is_sent_anew};
+ghost use Rattle.amqp_rules.specs.Telling.{flag};
 ghost use Rattle.amqp_rules.specs.Refusing.{first_refusal};
-ghost use Rattle.amqp_rules.specs.Resume.{early_refusals, is_unclear, next_resume, outcome_of, resume_answer, resume_body, resume_refusals, resumed_to};
+ghost use Rattle.amqp_rules.specs.Resume.{early_refusals, next_resume, outcome_of, resume_answer, resume_body, resumed_to};
 ghost use Rattle.amqp_rules.specs.Sending.{frame_refused};
 ghost use Rattle.amqp_rules.specs.View.{next_delivery};
 ghost use Rattle.amqp_waiting.specs.Kept.{standing_of};
@@ -41,57 +42,89 @@ pub(crate) struct Resuming<'a> {
 }
 
 /// The peer has it in part.
-fn is_partial(standing: &Standing) -> bool
-    ensures { (tag : List ℕ) → result ≡ is_partial (standing_of tag standing.now) }
+fn is_partial(verdict: Verdict) -> bool
+    ensures { result ≡ in_part verdict }
 {
-    match standing.verdict {
+    match verdict {
+        Verdict::Unclear => false,
+        Verdict::Absent => false,
         Verdict::Partial => true,
-        _ => false,
+        Verdict::Held => false,
+        Verdict::Outcome => false,
     }
 }
 
 /// It is sent anew: the peer knows it.
-fn is_sent_anew(standing: &Standing) -> bool
-    ensures { (tag : List ℕ) → result ≡ is_sent_anew (standing_of tag standing.now) }
+fn is_sent_anew(verdict: Verdict) -> bool
+    ensures { result ≡ sent_anew verdict }
 {
-    match standing.verdict {
-        Verdict::Unclear | Verdict::Absent => false,
-        Verdict::Partial | Verdict::Held | Verdict::Outcome => true,
+    match verdict {
+        Verdict::Unclear => false,
+        Verdict::Absent => false,
+        Verdict::Partial => true,
+        Verdict::Held => true,
+        Verdict::Outcome => true,
     }
 }
 
 /// Nothing is known of it yet.
-fn is_unclear(standing: &Standing) -> bool
-    ensures { (tag : List ℕ) → result ≡ is_unclear (standing_of tag standing.now) }
+fn is_unclear(verdict: Verdict) -> bool
+    ensures { result ≡ not_clear verdict }
 {
-    match standing.verdict {
+    match verdict {
         Verdict::Unclear => true,
-        _ => false,
+        Verdict::Absent => false,
+        Verdict::Partial => false,
+        Verdict::Held => false,
+        Verdict::Outcome => false,
     }
 }
 
 /// The outcome that the peer told, or else this, which is none.
 fn outcome_lent<'a>(
-    standing: &'a Standing,
+    verdict: Verdict,
+    theirs: &'a Option<DeliveryState>,
     none: &'a Option<DeliveryState>,
 ) -> &'a Option<DeliveryState>
     requires { none.now ≡ None }
-    ensures { (tag : List ℕ) → result.now ≡ outcome_of (standing_of tag standing.now) }
+    ensures { result.now ≡ outcome_told verdict theirs.now }
 {
-    match standing.verdict {
-        Verdict::Outcome => &standing.theirs,
-        _ => none,
+    match verdict {
+        Verdict::Unclear => none,
+        Verdict::Absent => none,
+        Verdict::Partial => none,
+        Verdict::Held => none,
+        Verdict::Outcome => theirs,
     }
 }
 
 /// The outcome that the peer told, in memory of its own.
-fn copy_outcome(standing: &Standing) -> Result<Option<DeliveryState>, AllocError>
-    ensures { (tag : List ℕ) → IfOk result (λ s. s ≡ outcome_of (standing_of tag standing.now)) }
+fn copy_outcome(
+    verdict: Verdict,
+    theirs: &Option<DeliveryState>,
+) -> Result<Option<DeliveryState>, AllocError>
+    ensures { IfOk result (λ s. s ≡ outcome_told verdict theirs.now) }
 {
-    match standing.verdict {
-        Verdict::Outcome => copy_state(&standing.theirs),
-        _ => Ok(None),
+    match verdict {
+        Verdict::Unclear => Ok(None),
+        Verdict::Absent => Ok(None),
+        Verdict::Partial => Ok(None),
+        Verdict::Held => Ok(None),
+        Verdict::Outcome => copy_state(theirs),
     }
+}
+
+fn either(a: bool, b: bool) -> bool
+    ensures { result ≡ (a || b) }
+{
+    a || b
+}
+
+/// An aborted transfer settles nothing.
+fn settles(settled: bool, partial: bool) -> Option<bool>
+    ensures { result ≡ flag (settled && not partial) }
+{
+    flag(settled && !partial)
 }
 
 /// Why the transfer is not sent to a peer that takes frames of `max` octets. It asks for no memory.
@@ -106,13 +139,13 @@ fn resuming_refusal(
     ensures { result ≡ frame_refused max (resume_body handle id settled (standing_of tag.now standing.now)) [] }
 {
     let none = None;
-    let partial = is_partial(standing);
+    let partial = is_partial(standing.verdict);
     let parts = ResumingParts {
         handle,
         delivery_id: id,
         delivery_tag: tag,
-        settled: flag(settled && !partial),
-        state: outcome_lent(standing, &none),
+        settled: settles(settled, partial),
+        state: outcome_lent(standing.verdict, &standing.theirs, &none),
         aborted: flag(partial),
     };
     measured_refusal(measure_resuming(&parts, max))
@@ -128,14 +161,14 @@ fn resume_body(
 ) -> Result<Option<Performative>, AllocError>
     ensures { IfOk result (λ body. body ≡ resume_body handle id settled (standing_of tag.now standing.now)) }
 {
-    let state = copy_outcome(standing)?;
-    let partial = is_partial(standing);
+    let state = copy_outcome(standing.verdict, &standing.theirs)?;
+    let partial = is_partial(standing.verdict);
     Ok(Some(Performative::Transfer(TransferBody {
         handle,
         delivery_id: Some(id),
         delivery_tag: Some(*tag),
         message_format: None,
-        settled: flag(settled && !partial),
+        settled: settles(settled, partial),
         more: None,
         rcv_settle_mode: None,
         state,
@@ -156,7 +189,8 @@ fn change_resumed(
 ) -> Result<Change, AllocError>
     ensures { IfOk result (λ c. c ≡ change_resumed id link settled second (standing_of tag.now standing.now)) }
 {
-    if settled || is_partial(standing) {
+    let over = either(settled, is_partial(standing.verdict));
+    if over {
         return Ok(Change::Stay);
     }
     let local = copy_state(&standing.state)?;
@@ -205,10 +239,10 @@ fn early_refusal(l: &Link) -> Option<Refusal>
 
 impl Endpoint {
     /// What is refused of one that is sent anew.
-    fn late_refusal(&self, l: &Link, settled: bool, standing: &Standing) -> Option<Refusal>
-        ensures { (tag : List ℕ) → result ≡ first_refusal (resume_refusals self.now l.now settled (standing_of tag standing.now)) }
+    fn late_refusal(&self, l: &Link, settled: bool, partial: bool) -> Option<Refusal>
+        ensures { result ≡ first_refusal (late_rows self.now l.now settled partial) }
     {
-        if !is_partial(standing) && mode_forbids(l.snd_mode(), settled) {
+        if !partial && mode_forbids(l.snd_mode(), settled) {
             return Some(Refusal::SettleMode);
         }
         if l.credit() == 0 {
@@ -228,6 +262,7 @@ impl Endpoint {
         settled: bool,
     ) -> Result<Resuming<'_>, Refusal>
         ensures plan { Checks self.now (resume_answer self.now link tag.now settled) (next_resume self.now link tag.now settled) (resume_plan self.now link tag.now settled) result }
+        ensures may { IfOk result (λ r. is_sent_anew (item_at tag.now r) ≡ true → MaySend self.now tag.now settled r) }
     {
         if !self.session.is_mapped() {
             return Err(Refusal::NotMapped);
@@ -242,12 +277,12 @@ impl Endpoint {
         let Some(standing) = l.standing(tag) else {
             return Err(Refusal::NotWaiting);
         };
-        if is_unclear(standing) {
+        if is_unclear(standing.verdict) {
             return Err(Refusal::Unclear);
         }
         let handle = l.our_handle();
         let second = l.rcv_mode() == 1;
-        if !is_sent_anew(standing) {
+        if !is_sent_anew(standing.verdict) {
             let on = OnLink {
                 key: found.key,
                 handle,
@@ -259,7 +294,8 @@ impl Endpoint {
                 standing,
             });
         }
-        if let Some(refusal) = self.late_refusal(l, settled, standing) {
+        let partial = is_partial(standing.verdict);
+        if let Some(refusal) = self.late_refusal(l, settled, partial) {
             return Err(refusal);
         }
         let id = self.session.next_delivery();
@@ -287,7 +323,6 @@ impl Endpoint {
 
     /// The refusal that is due.
     pub(crate) fn refuse_resume(&self, link: u32, tag: &Tag, settled: bool) -> Option<Refusal>
-        requires { self.now.steps < 2 ^ 30 }
         ensures { result ≡ result_err (resume_answer self.now link tag.now settled) }
     {
         match self.check_resume(link, tag, settled) {
@@ -310,7 +345,7 @@ impl Endpoint {
     {
         let id = self.session.next_delivery();
         let standing = resuming.standing;
-        let state = copy_outcome(standing)?;
+        let state = copy_outcome(standing.verdict, &standing.theirs)?;
         let given = told_resumed(self.alloc, standing.verdict, Some(id), state)?;
         let change = match change_resumed(id, link, tag, settled, resuming.second, standing) {
             Ok(change) => change,
@@ -337,9 +372,8 @@ impl Endpoint {
         settled: bool,
         resuming: &Resuming<'_>,
     ) -> Result<Plan, AllocError>
-        requires window { 0 < self.now.windows.remote_incoming }
         requires steps { self.now.steps < 2 ^ 30 }
-        requires written { frame_refused self.now.max_frame (resume_body resuming.now.on.handle (next_delivery self.now) settled (item_at tag.now resuming.now)) [] ≡ None }
+        requires may { MaySend self.now tag.now settled resuming.now }
         ensures { IfOk result (λ p. p ≡ sending_plan_of self.now link tag.now settled resuming.now) }
     {
         let (change, given, body) = match self.make_resumed(link, tag, settled, resuming) {
@@ -371,7 +405,7 @@ impl Endpoint {
             Ok(resuming) => resuming,
             Err(refusal) => return Err(refusal),
         };
-        if is_sent_anew(resuming.standing) {
+        if is_sent_anew(resuming.standing.verdict) {
             return match self.plan_resumed(link, tag, settled, &resuming) {
                 Ok(plan) => Ok(plan),
                 Err(_) => Err(Refusal::NoMemory),

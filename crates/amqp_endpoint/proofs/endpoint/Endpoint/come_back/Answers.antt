@@ -8,7 +8,7 @@ pub arrive_first-requires : goal.arrive_first-requires
 arrive_first-requires c =
     let v = view_of c.self.inside.steps c.self.inside.session c.self.inside.stores in
     let may = rw (← c.self.view_is) at c.requires.may in
-    rw (c.in_ok-brought_in.ensures.piece, c.in_ok-brought_in.ensures.item, c.in_ok-payload.ensures.cases)
+    rw (c.in_ok-piece.ensures.piece, c.in_ok-piece.ensures.item, c.in_ok-payload.ensures.cases)
     record {
       met = rw (back-so v c.args.b.now c.args.arriving.now c.requires.begins c.requires.back) at
           (met-after c.self.inside.steps c.self.inside.session c.self.inside.stores (arriving_plan v c.args.b.now c.args.payload.now c.args.arriving.now) may.steps c.self.invariant may.sound);
@@ -18,6 +18,6 @@ pub invariant_of-self-2 : goal.invariant_of-self-2
 invariant_of-self-2 c =
     let v = view_of c.self.inside.steps c.self.inside.session c.self.inside.stores in
     let may = rw (← c.self.view_is) at c.requires.may in
-    rw (c.session_heard-self-inside.ensures, c.in-Ok.ensures.ok, c.in_ok-brought_in.ensures.piece, c.in_ok-brought_in.ensures.item, c.in_ok-payload.ensures.cases)
+    rw (c.session_heard-self-inside.ensures, c.in-Ok.ensures.ok, c.in_ok-piece.ensures.piece, c.in_ok-piece.ensures.item, c.in_ok-payload.ensures.cases)
     (rw (back-so v c.args.b.now c.args.arriving.now c.requires.begins c.requires.back) at
     (kept-after c.self.inside.steps c.self.inside.session c.self.inside.stores (arriving_plan v c.args.b.now c.args.payload.now c.args.arriving.now) may.steps c.self.invariant may.sound may.apart))
