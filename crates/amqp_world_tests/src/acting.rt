@@ -265,71 +265,54 @@ fn refresh(world: &mut World, notes: &mut Notes, side: Side) -> bool {
 
 // Dispositions
 
-/// An unsettled delivery of the end.
+/// A disposition that is due.
 #[derive(Clone, Copy)]
-struct Unsettled {
+struct Disposal {
     id: u32,
-    second: bool,
-    /// Its own end gave it an outcome, which it has to keep; the other end told a state of it.
+    settled: bool,
+    /// Our end gave it an outcome, which it has to keep, or leaves it to the other to give one.
     fixed: bool,
-    told: bool,
 }
 
-/// One of those on which the end has this role, if any.
-fn held(world: &World, dice: &mut Dice, side: Side, role: Role) -> Option<Unsettled> {
+/// What is due of one of the unsettled deliveries on which the end has this role, if anything: a sender settles what the other end told of, and a
+/// receiver tells a state, or settles what has its outcome.
+fn due(world: &World, dice: &mut Dice, side: Side, role: Role) -> Option<Disposal> {
     let endpoint = world.side(side).endpoint();
     let number = dice.below(1 << 16) as usize;
     let place = number.checked_rem(endpoint.unsettled_len(role))?;
-    match endpoint.unsettled_at(role, place) {
-        Some(item) => Some(Unsettled {
-            id: item.id,
-            second: item.second,
-            fixed: is_outcome(&item.local),
-            told: item.remote.is_some(),
-        }),
-        None => None,
+    let item = endpoint.unsettled_at(role, place)?;
+    let fixed = role == Role::Sender || is_outcome(&item.local);
+    let settled = fixed || (!item.second && dice.one_in(2));
+    let may = match role {
+        Role::Sender => item.remote.is_some(),
+        Role::Receiver => !(fixed && item.second),
+    };
+    if !may {
+        return None;
     }
+    Some(Disposal {
+        id: item.id,
+        settled,
+        fixed,
+    })
 }
 
+/// Disposes one to three deliveries.
 fn dispose(world: &mut World, notes: &mut Notes, side: Side) -> bool {
-    if notes.dice.one_in(4) {
-        settle_sent(world, notes, side)
+    let role = if notes.dice.one_in(4) {
+        Role::Sender
     } else {
-        dispose_received(world, notes, side)
-    }
-}
-
-/// Settles a delivery that the end sent, where the other told its state.
-fn settle_sent(world: &mut World, notes: &mut Notes, side: Side) -> bool {
-    match held(world, &mut notes.dice, side, Role::Sender) {
-        Some(item) if item.told => {
-            let op = Op::Dispose {
-                role: Role::Sender,
-                first: item.id,
-                last: item.id,
-                settled: true,
-                state: None,
-            };
-            does(world, notes, side, op)
-        }
-        _ => false,
-    }
-}
-
-/// Tells a state of deliveries that the end received, one to three of them; or settles one that has its outcome.
-fn dispose_received(world: &mut World, notes: &mut Notes, side: Side) -> bool {
-    let Some(item) = held(world, &mut notes.dice, side, Role::Receiver) else {
+        Role::Receiver
+    };
+    let Some(due) = due(world, &mut notes.dice, side, role) else {
         return false;
     };
-    if item.fixed && item.second {
-        return false;
-    }
     let op = Op::Dispose {
-        role: Role::Receiver,
-        first: item.id,
-        last: item.id.wrapping_add(notes.dice.below(3)),
-        settled: !item.second && (item.fixed || notes.dice.one_in(2)),
-        state: if item.fixed {
+        role,
+        first: due.id,
+        last: due.id.wrapping_add(notes.dice.below(3)),
+        settled: due.settled,
+        state: if due.fixed {
             None
         } else {
             state(&mut notes.dice)

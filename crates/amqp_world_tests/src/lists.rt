@@ -86,14 +86,6 @@ fn attach_heard(given: &Given) -> Option<u32> {
     }
 }
 
-/// The delivery that was taken on the link after so many others is the next one that the other end sent complete.
-fn is_sent(theirs: &[Entry], source: Option<u32>, before: u32, taken: &Taken) -> bool {
-    match source {
-        Some(link) => complete(theirs, link, before) == Some(content_of(taken)),
-        None => false,
-    }
-}
-
 /// How many deliveries were taken on the link.
 pub fn count_taken(entries: &[Entry], link: u32) -> u32 {
     let mut count = 0u32;
@@ -229,22 +221,16 @@ fn is_said(mine: &[Entry], theirs: &[Entry], learned: &Learned) -> bool {
 
 fn has_sent(entries: &[Entry], learned: &Learned) -> bool {
     for entry in entries {
-        if starts(entry, learned) {
-            return true;
+        if let Step::Own(Op::Start { link, tag, .. }) = &entry.step {
+            if *link == learned.link
+                && number_of(tag) == number_of(&learned.tag)
+                && id_in(&entry.reply.given) == learned.id
+            {
+                return true;
+            }
         }
     }
     false
-}
-
-fn starts(entry: &Entry, learned: &Learned) -> bool {
-    match &entry.step {
-        Step::Own(Op::Start { link, tag, .. }) => {
-            *link == learned.link
-                && number_of(tag) == number_of(&learned.tag)
-                && id_in(&entry.reply.given) == learned.id
-        }
-        _ => false,
-    }
 }
 
 fn was_said(entries: &[Entry], learned: &Learned) -> bool {
@@ -311,9 +297,14 @@ pub fn judge(tally: &mut Tally, mine: &[Entry], theirs: &[Entry]) {
     }
 }
 
+/// What was taken after those before it on its link is the next delivery that the other end sent complete there.
 fn is_right(before: &[Entry], theirs: &[Entry], taken: &Taken) -> bool {
-    let source = source(before, theirs, taken.link);
-    is_sent(theirs, source, count_taken(before, taken.link), taken)
+    match source(before, theirs, taken.link) {
+        Some(link) => {
+            complete(theirs, link, count_taken(before, taken.link)) == Some(content_of(taken))
+        }
+        None => false,
+    }
 }
 
 /// Counts what an end took, learnt, carried and aborted.
