@@ -213,7 +213,7 @@ pub logged_send : IsSend (logged.the_field).row
 logged_send = search (sendable, crosses, session_config_crosses.the_send, endpoint_send, entry_send, bytes_send, history_crosses.the_send, left_send, heap.the_send) depth 40 fits 20000
 
 pub machine_send : IsSend (machine.the_field).row
-machine_send = search (sendable, crosses, config_crosses.the_send, bytes_send, phase_crosses.the_send, logged_send) depth 40 fits 20000
+machine_send = search (sendable, crosses, config_crosses.the_send, bytes_send, phase_crosses.the_send, logged_send, boxed.the_send, open_body_send, close_body_send) depth 40 fits 20000
 
 pub conn_send : IsSend (conn.the_field).row
 conn_send = search (sendable, crosses, machine_send, framer_crosses.the_send) depth 40 fits 20000

@@ -376,17 +376,28 @@ fn pumped(
     reads: u32,
     writes: u32,
 ) -> Result<PumpEnd, PumpFault> {
-    let (Ok(octets), Ok(mut conn)) = (octets(alloc, text), connection(alloc)) else {
+    let Ok(octets) = octets(alloc, text) else {
         return Err(PumpFault::Conn(ConnFault::NoMemory));
     };
-    let octets: &[u8] = octets.as_slice();
+    match connection(alloc) {
+        Ok(mut conn) => pump(octets.as_slice(), turns, reads, writes, &mut conn),
+        Err(_) => Err(PumpFault::Conn(ConnFault::NoMemory)),
+    }
+}
+
+fn pump(
+    octets: &[u8],
+    turns: u32,
+    reads: u32,
+    writes: u32,
+    conn: &mut Conn,
+) -> Result<PumpEnd, PumpFault> {
     let mut source = FromStd::new(Fails {
         octets,
         calls: reads,
     });
     let mut sink = FromStd::new(Full { calls: writes });
-    let mut pump = Pump::new();
-    pump.run(&mut source, &mut sink, &mut conn, turns)
+    Pump::new().run(&mut source, &mut sink, conn, turns)
 }
 
 #[test]
@@ -468,11 +479,21 @@ fn called_again(
     alloc: Global,
     failing: u32,
 ) -> (Result<PumpEnd, PumpFault>, bool, Result<PumpEnd, PumpFault>) {
-    let (Ok(octets), Ok(mut conn)) = (octets(alloc, WHOLE), connection(alloc)) else {
-        let refused = Err(PumpFault::Conn(ConnFault::NoMemory));
+    let refused = Err(PumpFault::Conn(ConnFault::NoMemory));
+    let Ok(octets) = octets(alloc, WHOLE) else {
         return (refused, false, refused);
     };
-    let octets: &[u8] = octets.as_slice();
+    match connection(alloc) {
+        Ok(mut conn) => call_again(octets.as_slice(), failing, &mut conn),
+        Err(_) => (refused, false, refused),
+    }
+}
+
+fn call_again(
+    octets: &[u8],
+    failing: u32,
+    conn: &mut Conn,
+) -> (Result<PumpEnd, PumpFault>, bool, Result<PumpEnd, PumpFault>) {
     let mut source = FromStd::new(Falters {
         octets,
         calls: 0,
@@ -480,12 +501,12 @@ fn called_again(
     });
     let mut sink = FromStd::new(Full { calls: 9 });
     let mut pump = Pump::new();
-    let first = pump.run(&mut source, &mut sink, &mut conn, 99);
+    let first = pump.run(&mut source, &mut sink, conn, 99);
     let kept = match source.take_error() {
         Some(error) => error.kind() == io::ErrorKind::Other,
         None => false,
     };
-    let then = pump.run(&mut source, &mut sink, &mut conn, 99);
+    let then = pump.run(&mut source, &mut sink, conn, 99);
     (first, kept, then)
 }
 
