@@ -1,6 +1,6 @@
 //! Two ends that speak with each other: sessions whose journals are reached by moves, each end's own operations and the hearing of the other's next
-//! frame (`specs/World`). Both are within their limits, short of their journal limits, and dispose only deliveries that they heard. What holds of
-//! every such world, as `laws::laws` says it:
+//! frame (`specs/World`). Both are within their limits, short of their journal limits, and dispose only deliveries that they heard; neither rejoins a
+//! link or resumes a delivery. What holds of every such world, as `laws::laws` says it:
 //!
 //! | clause | law |
 //! |---|---|

@@ -54,9 +54,13 @@ use Rattle.amqp_rules.specs.Flow.{flow_link, flow_links, flowed}
 use Rattle.amqp_rules.specs.PeerTransfer.{delivery_violations, heard_on, received_on, receives, transfer_reply, transfer_violations, waiting_after}
 use Rattle.amqp_rules.specs.PeerDisposition.{told_more}
 use Rattle.amqp_rules.specs.Deliveries.{begins_unsettled, begun_on, belongs_to, brought_by, continued_on, heard_of, is_partial, is_sent_anew, item_of, left_by_peer, received_by_body, received_by_own, resumed_as, resumed_on, said_of, sending_on, sent_by_body, sent_by_own, state_brought, transfer_on, transferred}
-use Rattle.amqp_rules.specs.Sound.{AllWaitApart, Ascends, Every, IsSound, IsWaitingApart, WaitsApart, keys}
+use Rattle.amqp_rules.specs.Sound.{AllWaitApart, Ascends, Every, IsWaitingApart, WaitsApart, keys}
 use Rattle.amqp_rules.proofs.Accepted.{NoneHolds, answered_Ok, no_refusal, not-false, on-link-ok, sends-ok, there_Ok, unless_Ok, unless_refused_Ok}
 use Rattle.amqp_rules.proofs.Listed.{by-bool, every-both, every-changed, every-more, every-removed}
+
+-- the links stand in the order in which they were made
+abbrev pub AreInOrder : View → Type 0
+AreInOrder v = Ascends v.made 0 (map keys v.links)
 
 -- # Lists
 
@@ -349,7 +353,7 @@ tag-free : (a b : Bool) → a || b ≡ false → b ≡ false
 tag-free a b h = (or_parts a b h).1
 
 start-apart : (v : View) (link : ℕ) (tag : List ℕ) (format : ℕ) (settled : Bool) (payload : List ℕ) (more : Bool) (reply : Reply)
-    → own_answer v (Start link tag format settled payload more) ≡ Ok reply → IsSound v → IsWaitingApart v → IsWaitingApart (next_own v (Start link tag format settled payload more))
+    → own_answer v (Start link tag format settled payload more) ≡ Ok reply → AreInOrder v → IsWaitingApart v → IsWaitingApart (next_own v (Start link tag format settled payload more))
 start-apart v link tag format settled payload more reply h s a =
     let id = next_delivery v in
     let o = on-link-ok v link (λ l. sends v.max_frame (start_refusals v l tag settled payload) (start_body (handle_of l.ours) id tag format settled more) payload (given.Delivery id)) reply h in
@@ -361,8 +365,8 @@ start-apart v link tag format settled payload more reply h s a =
     let free = not-waiting tag o.on.waiting (tag-free (list_any (λ s. is_tagged o.on.number tag s.item) v.sent) (waits tag o.on.waiting) k.none_holds.1.1.1.0) in
     let begun : AllWaitApart v.made (change_first (has_number link) change v.links) (i ∷ []) =
     record {
-      apart = begun-apart i v.made 0 (has_number link) change v.links o.on s.links.numbers o.found number (begun-fits i (change o.on) free ours);
-      below = (let small = found-below v.made 0 (has_number link) v.links o.on s.links.numbers o.found in omega (arith, number, small), tt);
+      apart = begun-apart i v.made 0 (has_number link) change v.links o.on s o.found number (begun-fits i (change o.on) free ours);
+      below = (let small = found-below v.made 0 (has_number link) v.links o.on s o.found in omega (arith, number, small), tt);
     }
     in
     record {
@@ -389,7 +393,7 @@ less-apart tag items l a =
 begin-less-apart : (tag : List ℕ) (items : List Item) (l : LinkView) → WaitsApart items l → WaitsApart items (begin_resumed tag l)
 begin-less-apart tag items l a = let b = less-apart tag items l a in record { waiting = b.waiting; bare = b.bare }
 
-resume-begun : (v : View) (link id : ℕ) (tag : List ℕ) (settled : Bool) (on : LinkView) → IsSound v
+resume-begun : (v : View) (link id : ℕ) (tag : List ℕ) (settled : Bool) (on : LinkView) → AreInOrder v
     → find (has_number link) v.links ≡ Some on → is_some on.ours ≡ true
     → AllWaitApart v.made (change_first (has_number link) (begin_resumed tag) v.links) (added (begins (resumed_on id link tag settled (Some on))))
 resume-begun v link id tag settled on s found ours = by (find (waits_as tag) on.waiting) refl
@@ -401,8 +405,8 @@ resume-begun v link id tag settled on s found ours = by (find (waits_as tag) on.
         let number : link ≡ on.number = sym (eqb-true on.number link (passes-found (has_number link) v.links on found)) in
         let free = subst (λ (other : List ℕ). Every (λ w. pointwise nat_eq other w.tag ≡ false) (without tag on.waiting)) (tag-of tag w t) (gone-tag tag on.waiting) in
         record {
-          apart = begun-apart i v.made 0 (has_number link) (begin_resumed tag) v.links on s.links.numbers found number (begun-fits i (begin_resumed tag on) free ours);
-          below = (let small = found-below v.made 0 (has_number link) v.links on s.links.numbers found in omega (arith, number, small), tt);
+          apart = begun-apart i v.made 0 (has_number link) (begin_resumed tag) v.links on s found number (begun-fits i (begin_resumed tag on) free ours);
+          below = (let small = found-below v.made 0 (has_number link) v.links on s found in omega (arith, number, small), tt);
         }
 
     anew : (sent : Bool) (w : WaitingItem) → waits_as tag w ≡ true
@@ -415,7 +419,7 @@ resume-begun v link id tag settled on s found ours = by (find (waits_as tag) on.
     by None e = none-apart v.made (change_first (has_number link) (begin_resumed tag) v.links)
     by (Some w) e = anew (is_sent_anew w) w (passes-found (waits_as tag) on.waiting w e)
 
-resume-apart : (v : View) (link : ℕ) (tag : List ℕ) (settled : Bool) (reply : Reply) → own_answer v (Resume link tag settled) ≡ Ok reply → IsSound v → IsWaitingApart v → IsWaitingApart (next_own v (Resume link tag settled))
+resume-apart : (v : View) (link : ℕ) (tag : List ℕ) (settled : Bool) (reply : Reply) → own_answer v (Resume link tag settled) ≡ Ok reply → AreInOrder v → IsWaitingApart v → IsWaitingApart (next_own v (Resume link tag settled))
 resume-apart v link tag settled reply h s a =
     let say : LinkView → Result Reply Refusal = λ l. unless_refused (first_refusal (early_refusals l)) (if_there (find (waits_as tag) l.waiting) NotWaiting (resume_item v l settled)) in
     let o = on-link-ok v link say reply h in
@@ -438,6 +442,24 @@ resume-apart v link tag settled reply h s a =
       sent = changed-apart v.made (has_number link) (resumed_from tag) v.links (map (λ s. s.item) v.sent) (λ l t p. less-apart tag (map (λ s. s.item) v.sent) l p) a.sent;
       received = changed-apart v.made (has_number link) (resumed_from tag) v.links v.received (λ l t p. less-apart tag v.received l p) a.received;
     }))
+
+-- what is so of each is so of one that is found
+found-so : {A : Type 0} (P : A → Type 0) (test : A → Bool) (xs : List A) (on : A) → Every P xs → find test xs ≡ Some on → P on
+found-so P test [] on all h = absurd (cc)
+found-so P test (x ∷ xs) on all h =
+    by-bool (test x)
+    (λ (t : test x ≡ true). let h' = rw t at h in let same : x ≡ on = cc in subst P same all.0)
+    (λ (t : test x ≡ false). let h' = rw t at h in found-so P test xs on all.1 h')
+
+-- the tag of one that waits is free
+pub waiting-untagged : (v : View) (link : ℕ) (tag : List ℕ) (on : LinkView) (w : WaitingItem) → IsWaitingApart v
+    → find (has_number link) v.links ≡ Some on → find (waits_as tag) on.waiting ≡ Some w → list_any (is_tagged link w.tag) (map (λ s. s.item) v.sent) ≡ false
+waiting-untagged v link tag on w a found waits' =
+    let items = map (λ s. s.item) v.sent in
+    let here = found-so (WaitsApart items) (has_number link) v.links on a.sent.apart found in
+    let free = found-so (λ x. list_any (is_tagged on.number x.tag) items ≡ false) (waits_as tag) on.waiting w here.waiting waits' in
+    let number : on.number ≡ link = eqb-true on.number link (passes-found (has_number link) v.links on found) in
+    subst (λ (k : ℕ). list_any (is_tagged k w.tag) items ≡ false) number free
 
 -- # A transfer that is heard
 
@@ -476,7 +498,7 @@ receives-ours true sender h = refl
 receives-ours false sender h = absurd (cc)
 
 -- what begins by a transfer fits the link after it
-begun-by : (v : View) (b : TransferBody) (payload : List ℕ) (on : LinkView) → IsSound v
+begun-by : (v : View) (b : TransferBody) (payload : List ℕ) (on : LinkView) → AreInOrder v
     → find (has_peer_handle b.handle) v.links ≡ Some on
     → receives on ≡ true
     → (on.left ≡ false → on.receiving ≡ None → not (unwrap_or b.resume false) && waits (unwrap_or b.delivery_tag []) on.waiting ≡ false)
@@ -494,8 +516,8 @@ begun-by v b payload on s found takes free = by on.left on.receiving refl refl
         let fits : Every (λ w. pointwise nat_eq i.tag w.tag ≡ false) (received_on b payload on).waiting = rw (first, tagged) (first-tag t on.waiting (free stays first)) in
         let ours = receives-ours (is_some on.ours) (is_sender on.role) takes in
         record {
-          apart = begun-apart i v.made 0 (has_peer_handle b.handle) (heard_on b payload) v.links on s.links.numbers found is (stays-fits i on.left stays (begun-fits i (received_on b payload on) fits ours));
-          below = (let small = found-below v.made 0 (has_peer_handle b.handle) v.links on s.links.numbers found in omega (arith, is, small), tt);
+          apart = begun-apart i v.made 0 (has_peer_handle b.handle) (heard_on b payload) v.links on s found is (stays-fits i on.left stays (begun-fits i (received_on b payload on) fits ours));
+          below = (let small = found-below v.made 0 (has_peer_handle b.handle) v.links on s found in omega (arith, is, small), tt);
         }
 
     by : (left : Bool) (d : Option Delivery) → on.left ≡ left → on.receiving ≡ d
@@ -507,7 +529,7 @@ begun-by v b payload on s found takes free = by on.left on.receiving refl refl
         let brought = brought_by t on.waiting in
         begin-where (begins_unsettled t brought) v.made (change_first (has_peer_handle b.handle) (heard_on b payload) v.links) (record (item_of on.number t b.state) { local = state_brought brought }) (one (record (item_of on.number t b.state) { local = state_brought brought }) refl refl e f)
 
-transfer-apart : (v : View) (b : TransferBody) (payload : List ℕ) (reply : Reply) → body_answer v (Some (heard.Transfer b)) payload ≡ Ok reply → IsSound v → IsWaitingApart v → IsWaitingApart (next_body v (Some (heard.Transfer b)) payload)
+transfer-apart : (v : View) (b : TransferBody) (payload : List ℕ) (reply : Reply) → body_answer v (Some (heard.Transfer b)) payload ≡ Ok reply → AreInOrder v → IsWaitingApart v → IsWaitingApart (next_body v (Some (heard.Transfer b)) payload)
 transfer-apart v b payload reply h s a =
     let say : LinkView → Result Reply Violation = λ l. answered (first_refusal (transfer_violations v b payload l)) (transfer_reply v b l) in
     let u = unless_Ok (not (takes_frames v.session)) (unlinked OutOfSession) (if_there (find (has_peer_handle b.handle) v.links) (unlinked BadHandle) say) reply h in
@@ -579,7 +601,7 @@ left-quiet : (o : Option LinkView) → begins (left_by_peer o) ≡ None
 left-quiet None = refl
 left-quiet (Some l) = refl
 
-pub own-apart : (v : View) (op : Op) (reply : Reply) → own_answer v op ≡ Ok reply → IsSound v → IsWaitingApart v → IsWaitingApart (next_own v op)
+pub own-apart : (v : View) (op : Op) (reply : Reply) → own_answer v op ≡ Ok reply → AreInOrder v → IsWaitingApart v → IsWaitingApart (next_own v op)
 own-apart v Begin reply h s a = record { sent = a.sent; received = a.received }
 own-apart v (Attach name role snd rcv source target count max_message) reply h s a =
     attach-apart v (record { name = name; role = role; snd = snd; rcv = rcv; source = source; target = target; count = count; max_message = max_message; items = [] }) a
@@ -631,7 +653,7 @@ told-all e sent made links items a = record { apart = told-apart e sent links it
 removed-apart : (test : LinkView → Bool) (made : ℕ) (links : List LinkView) (items : List Item) → AllWaitApart made links items → AllWaitApart made (remove_first test links) items
 removed-apart test made links items a = record { apart = every-removed (WaitsApart items) test links a.apart; below = a.below }
 
-pub body-apart : (v : View) (body : Option Performative) (payload : List ℕ) (reply : Reply) → body_answer v body payload ≡ Ok reply → IsSound v → IsWaitingApart v → IsWaitingApart (next_body v body payload)
+pub body-apart : (v : View) (body : Option Performative) (payload : List ℕ) (reply : Reply) → body_answer v body payload ≡ Ok reply → AreInOrder v → IsWaitingApart v → IsWaitingApart (next_body v body payload)
 body-apart v (Some (heard.Begin b)) payload reply h s a = record { sent = a.sent; received = a.received }
 body-apart v (Some (heard.Attach b)) payload reply h s a =
     joined-apart v (is_asked_as (opposite b.role) b.name) (opposite b.role) b.name (attached_by_peer b)
@@ -656,7 +678,7 @@ body-apart v (Some (heard.Detach b)) payload reply h s a =
 body-apart v (Some (heard.End b)) payload reply h s a = record { sent = none-apart v.made []; received = none-apart v.made [] }
 body-apart v _ payload reply h s a = absurd (cc)
 
-pub heard-apart-after : (v : View) (f : Frame) (reply : Reply) → heard_answer v f ≡ Ok reply → IsSound v → IsWaitingApart v → IsWaitingApart (next_heard v f)
+pub heard-apart-after : (v : View) (f : Frame) (reply : Reply) → heard_answer v f ≡ Ok reply → AreInOrder v → IsWaitingApart v → IsWaitingApart (next_heard v f)
 heard-apart-after v f reply h s a =
     by-bool (is_dropped v f.body)
     (λ (dropped : is_dropped v f.body ≡ true). rw dropped (record { sent = a.sent; received = a.received }))
