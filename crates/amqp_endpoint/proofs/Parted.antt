@@ -19,7 +19,7 @@ own-apart-after : (v : View) (op : Op) (p : Plan) → own_answer v op ≡ Ok (pl
 own-apart-after v op p due a =
     record {
       sound = own-is-sound v op (plan_reply p v) due a.sound;
-      apart = own-apart v op (plan_reply p v) due a.sound a.apart;
+      apart = own-apart v op (plan_reply p v) due a.sound.links.numbers a.apart;
     }
 
 -- after an operation
@@ -30,7 +30,7 @@ body-apart-after : (v : View) (body : Option Performative) (payload : List ℕ) 
 body-apart-after v body payload p due a =
     record {
       sound = body-sound v body payload (plan_reply p v) due a.sound;
-      apart = body-apart v body payload (plan_reply p v) due a.sound a.apart;
+      apart = body-apart v body payload (plan_reply p v) due a.sound.links.numbers a.apart;
     }
 
 -- after a frame that is heard and not dropped
