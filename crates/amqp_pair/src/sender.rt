@@ -7,17 +7,18 @@ use crate::ending::{left_of, put, take_apart};
 use crate::fault::PairFault;
 use crate::gate::Gate;
 use crate::options::Options;
-use crate::reading::{Beginning, ReadOutcome, Reader, read_end};
-use crate::sending::{Hand, Messages, SendOutcome, send_all};
+use crate::reading::{Beginning, ReadFault, ReadOutcome, Reader, read_end};
+use crate::sending::{Done, Hand, Messages, SendOutcome, send_all};
 use crate::writing::{WriteOutcome, Writer, write_end};
 use amqp_frames::Role;
-use amqp_shared::{Closed, Name, Pass, Seed, Shared, WriterEnd, open_shared};
+use amqp_rules::refusal::Refusal;
+use amqp_shared::{Closed, Name, Pass, Receipt, Seed, Shared, WriterEnd, open_shared};
 use std::alloc::Global;
 use std::marker::Brand;
 use std::net::TcpStream;
 use std::sync::Wait;
-use std::thread;
 use std::thread::Threads;
+use std::{io, thread};
 
 /// What the sending end has done.
 #[derive(Clone, Copy)]
@@ -81,12 +82,31 @@ where
     let ((reading, read), ((writer, written), (hand, sent))) = run_threads(
         rt, &shared, reader, writer, hand, messages, &gate,
     );
-    read.map_err(PairFault::Read)?;
-    written.map_err(PairFault::Write)?;
-    let done = sent.map_err(PairFault::Send)?;
+    let done = outcome(read, written, sent)?;
     let Hand { pass, receipts } = hand;
     let closed = end_sender(alloc, shared, reading, pass, writer)?;
-    let stand = messages.stand(closed.conn.logged(), &receipts);
+    sent_of(messages, &closed, &receipts, &done)
+}
+
+/// What the messages came to, unless a thread failed.
+fn outcome(
+    read: Result<(), ReadFault>,
+    written: io::Result<()>,
+    sent: Result<Done, Refusal>,
+) -> Result<Done, PairFault> {
+    read.map_err(PairFault::Read)?;
+    written.map_err(PairFault::Write)?;
+    sent.map_err(PairFault::Send)
+}
+
+/// What is told of the closed connection, where the receipts stand in its journal and its ids are numbered.
+fn sent_of(
+    messages: &Messages,
+    closed: &Closed,
+    receipts: &Option<Vec<Receipt>>,
+    done: &Done,
+) -> Result<Sent, PairFault> {
+    let stand = messages.stand(closed.conn.logged(), receipts);
     if !stand.map_err(PairFault::Send)? {
         return Err(PairFault::Receipt);
     }
@@ -96,7 +116,7 @@ where
     Ok(Sent {
         queued: done.queued,
         accepted: done.accepted,
-        left: left_of(&closed),
+        left: left_of(closed),
     })
 }
 
