@@ -1,6 +1,9 @@
 //! A connection, as a program drives it (part 2, 2.2 and 2.4).
 ghost use Rattle.std.specs.Prelude.{◌≡◌, ◌≢◌, ◌≤◌, [], Some, None, IfSome, IfOk, OnOk, OnErr, MatchResult, IsTrue, slice_get, length, drop, option_map};
 ghost use Rattle.amqp_journal.specs.Units.{units, waiting};
+ghost use Rattle.amqp_laws.specs.At.{at};
+ghost use Rattle.amqp_laws.specs.Past.{past};
+ghost use Rattle.amqp_links.specs.Rejoining.{all_aside};
 ghost use Rattle.amqp_conn.specs.Connection.{IsQuiet, connection, reads_frames, in_phase};
 ghost use Rattle.amqp_conn.specs.Octets.{new_core};
 ghost use Rattle.amqp_conn.specs.Feeding.{Feeds, MovesOn};
@@ -23,7 +26,7 @@ use amqp_journal::logged::Logged;
 use amqp_journal::unit::Unit;
 use amqp_rules::op::Op;
 use amqp_rules::refusal::Refusal;
-use amqp_rules::reply::Given;
+use amqp_rules::reply::{Given, Suspended};
 use amqp_types::Boxed;
 use bytes::Bytes;
 use std::alloc::{AllocError, Global};
@@ -175,6 +178,15 @@ impl Conn {
         ensures { result.now ≡ self.now.core.log }
     {
         self.machine.logged()
+    }
+
+    /// The links of this role that can be rejoined, as each would be put aside, in order: for another connection, once the octets of this one ended
+    /// (part 2, 2.6.13). It may be asked in every phase, and changes nothing; a session that has ended, by either side, has no links any more. O(n · u) for
+    /// n links and u unsettled deliveries of the role.
+    pub fn links_aside(&self, role: Role) -> Result<Vec<Suspended>, AllocError>
+        ensures { IfOk result (λ v. v.items ≡ all_aside (at self.now.core.log.config (past self.now.core.log.journal)) role) }
+    {
+        self.logged().endpoint().links_aside(role)
     }
 
     /// The peer's open (part 2, 2.7.1), as it was heard: its name, the host that it wants, the longest frame that it takes, its idle time-out, its properties

@@ -86,6 +86,13 @@
 //! What the peer said stays with the connection, and is lent: its open (`peer`), its close (`parting`) and the error of that (`ended_by`). A detach and an end
 //! end less than the connection: their frame is the newest step's (`heard`), of which `error_of` reads the error, and `ended` has the deliveries that they ended.
 //!
+//! # After a connection that was lost
+//!
+//! `links_aside(role)` gives each link of a role as it would have been put aside, with what is in doubt on it (part 2, 2.6.13), unless the session has ended,
+//! which takes all links away. On a new connection and session
+//! `ops::rejoin` brings each back: what is in doubt waits on the link, and both attaches tell of it. `Endpoint::waiting_at` then has what becomes of each
+//! delivery, and `ops::resume` goes on with it or tells that the peer has none of it (`Given::Resumed`), so that it is to be sent again.
+//!
 //! # Errors
 //!
 //! - **A violation** of the session or of a link is answered as the standard wants, by an end or a detach with its condition (part 2, 2.5 and 2.6). That
@@ -131,11 +138,14 @@ pub use amqp_frames::{
 pub use amqp_journal::left::Left;
 pub use amqp_journal::logged::Logged;
 pub use amqp_journal::unit::Unit;
-pub use amqp_rules::op::Op;
+pub use amqp_links::end::End as LinkEnd;
+pub use amqp_links::link::Link;
+pub use amqp_rules::op::{Op, Rejoin};
 pub use amqp_rules::refusal::Refusal;
-pub use amqp_rules::reply::{Given, Learned, Taken};
+pub use amqp_rules::reply::{Given, Learned, Resumed, Suspended, Taken};
 pub use amqp_rules::violation::{Violation, ViolationKind};
 pub use amqp_types::{Boxed, Tag, Text, Value};
+pub use amqp_waiting::{Brought, SuspendedItem, Verdict};
 pub use bytes::Bytes;
 pub use config::{Config, MIN_MAX_FRAME};
 pub use conn::Conn;

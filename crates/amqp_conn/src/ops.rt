@@ -2,8 +2,10 @@
 ghost use Rattle.std.specs.Prelude.{◌≡◌, None, Some, [], ◌∷◌, true, false, IfOk};
 
 use amqp_frames::{DeliveryState, Role};
-use amqp_rules::op::Op;
+use amqp_rules::op::{Op, Rejoin};
+use amqp_rules::reply::Suspended;
 use amqp_types::{Boxed, Items, Tag, Text, Value};
+use amqp_waiting::Brought;
 use bytes::Bytes;
 use std::alloc::{AllocError, Global};
 
@@ -122,6 +124,43 @@ pub fn suspend(link: u32) -> Op
     ensures { result ≡ Op.Suspend link }
 {
     Op::Suspend { link }
+}
+
+/// Brings a link back that was put aside (part 2, 2.6.13), between these addresses: mixed settling, the receiver first, messages of any length, counted
+/// from 0. What went aside with it waits on it to be resumed. It is copied, so that want of memory loses nothing of it.
+pub fn rejoin(
+    alloc: Global,
+    aside: &Suspended,
+    source: Option<Boxed<Value>>,
+    target: Option<Boxed<Value>>,
+) -> Result<Op, AllocError>
+    ensures { IfOk result (λ op. op ≡ Op.Rejoin (record { name = aside.now.name; role = aside.now.role; snd = 2; rcv = 0; source = source; target = target; count = 0; max_message = 0; items = aside.now.items })) }
+{
+    let aside = aside.clone()?;
+    let items = Brought::new(alloc, aside.items)?;
+    let rejoin = Rejoin {
+        name: aside.name,
+        role: aside.role,
+        snd: SENDER_MIXED,
+        rcv: RECEIVER_FIRST,
+        source,
+        target,
+        count: 0,
+        max_message: 0,
+        items,
+    };
+    Ok(Op::Rejoin(Boxed::new(alloc, rejoin)?))
+}
+
+/// Resumes the delivery with this tag that waits on the link, unsettled (part 2, 2.6.13).
+pub fn resume(link: u32, tag: Tag) -> Op
+    ensures { result ≡ Op.Resume link tag false }
+{
+    Op::Resume {
+        link,
+        tag,
+        settled: false,
+    }
 }
 
 /// Ends the session without an error (part 2, 2.5.2).

@@ -6,6 +6,7 @@ use Rattle.amqp_deliveries.specs.declared.change.Change.TheVariants as change
 use Rattle.amqp_links.specs.declared.fate.Fate.TheVariants.{Theirs}
 use Rattle.amqp_links.specs.Fate.{with_theirs}
 use Rattle.amqp_links.specs.Links.{IsFirst}
+use Rattle.amqp_links.specs.Resuming.{resuming_by_peer}
 use Rattle.amqp_rules.specs.declared.reply.Given.TheVariants.{Attached}
 use Rattle.amqp_rules.specs.declared.violation.Violation.{Violation}
 use Rattle.amqp_rules.specs.declared.violation.ViolationKind.TheVariants.{OutOfSession, HandleTaken, NameTaken, MissingField}
@@ -48,18 +49,18 @@ pub answering-plan : (steps : ℕ) (s : Session) (st : StoresView) (b : AttachBo
     → first_refusal (attach_violations (view_of steps s st) b) ≡ None
     → IsAnswered (view_of steps s st) b a
     → IsKept steps s st
-    → p ≡ quiet_plan s (Theirs a.key a.number (end_of b) a.marks) change.Stay (Attached a.number)
+    → p ≡ quiet_plan s (Theirs a.key a.number (end_of b) a.marks (resuming_by_peer b a.link.now)) change.Stay (Attached a.number)
     → IsPlan {E = Violation} (view_of steps s st) (attach_heard_answer (view_of steps s st) b) (next_attach_heard (view_of steps s st) b) p
 answering-plan steps s st b a p none answered k is =
     let l : LinkView = answered.on in
     let first : IsFirst (is_asked_as (opposite b.role) b.name) st.links.list l = answered.first in
-    let m : with_theirs (end_of b) a.marks l ≡ attached_by_peer b l = answered.marks in
+    let m : with_theirs (end_of b) a.marks (resuming_by_peer b l) l ≡ attached_by_peer b l = answered.marks in
     let sends : a.marks.sending ≡ l.sending = ap (λ (x : LinkView). x.sending) m in
     let short : IsShort steps l.sending = short-found steps (is_asked_as (opposite b.role) b.name) st.links.list l k.short first.found in
-    rw (is, answered.number)
+    rw (is, answered.number, answered.link)
     record {
       due = rw (none, first.found) refl;
-      leaves = rw (first.found, first.alone (attached_by_peer b), change-alike (has_number l.number) (attached_by_peer b) (with_theirs (end_of b) a.marks) st.links.list l first.numbered (rw m refl)) refl;
+      leaves = rw (first.found, first.alone (attached_by_peer b), change-alike (has_number l.number) (attached_by_peer b) (with_theirs (end_of b) a.marks (resuming_by_peer b l)) st.links.list l first.numbered (rw m refl)) refl;
       sound = record {
         fit = (
           none-at (find (has_peer_handle b.handle) st.links.list) (not (takes_frames (flags_of s))) (is_some (find (is_theirs (opposite b.role) b.name) st.links.list)) (lacks_count b) (unlinked OutOfSession) (unlinked HandleTaken) (unlinked NameTaken) (unlinked MissingField) none,

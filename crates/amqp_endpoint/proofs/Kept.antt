@@ -23,7 +23,7 @@ use Rattle.amqp_deliveries.specs.declared.change.Change.{Change}
 use Rattle.amqp_deliveries.specs.declared.change.Change.TheVariants.{Stay, Begins, Continues, Says, Hears, Over}
 use Rattle.amqp_deliveries.specs.Change.{TablesView, held_items, received_event, sent_event, tables_after}
 use Rattle.amqp_endpoint.specs.Stores.{StoresView, IsApt, IsMet, told_after, stores_after}
-use Rattle.amqp_endpoint.specs.Plan.{AreBehind, AreBehindExpected, AreShort, AreShortOn, IsShort, IsAlone, IsAtMostNext, IsBegun, IsDue, IsExpectedNext, IsKept, IsSound, next_id, view_of}
+use Rattle.amqp_endpoint.specs.Plan.{AreBehind, AreBehindExpected, AreShort, AreShortOn, IsShort, IsAlone, IsAtMostNext, IsBegun, IsDue, IsExpectedNext, IsKept, IsSound, KeepsApart, next_id, planned, view_of}
 
 -- # Ids
 
@@ -190,8 +190,8 @@ none-short k = omega arith
 
 fate-short : (k : ℕ) (f : Fate) (ls : LinksView) → AreShortOn k ls.list → AreShort k f → AreShortOn k (links_after f ls).list
 fate-short k fate.Stay ls s h = s
-fate-short k (fate.Asked name end m) ls s h = on-added k ls.list _ s h
-fate-short k (fate.Offered name end m) ls s h = on-added k ls.list _ s h
+fate-short k (fate.Asked name end m r) ls s h = on-added k ls.list _ s h
+fate-short k (fate.Offered name end m r) ls s h = on-added k ls.list _ s h
 fate-short k (fate.Left key n) ls s h = on-changed k _ _ ls.list (λ l q. none-short k) s
 fate-short k (fate.Taken key n) ls s h = on-changed k _ _ ls.list (λ l q. q) s
 fate-short k (fate.Learnt key n) ls s h = on-changed k _ _ ls.list (λ l q. q) s
@@ -215,8 +215,9 @@ fate-made f ls = omega arith
 
 -- # All of it
 
-pub kept-after : (k : ℕ) (s : Session) (st : StoresView) (p : Plan) → k < 2 ^ 30 → IsKept k s st → IsSound (view_of k s st) p → IsKept (k + 1) p.session (stores_after p.fate p.change st)
-kept-after k s st p small i h =
+pub kept-after : (k : ℕ) (s : Session) (st : StoresView) (p : Plan) → k < 2 ^ 30 → IsKept k s st → IsSound (view_of k s st) p → KeepsApart (view_of k s st) (planned (view_of k s st) p)
+    → IsKept (k + 1) p.session (stores_after p.fate p.change st)
+kept-after k s st p small i h a =
     let c = h.counted in
     record {
       sent = c.sent;
@@ -225,6 +226,7 @@ kept-after k s st p small i h =
       short = told-short (k + 1) p.change st.tables.sent (links_after p.fate st.links) (fate-short (k + 1) p.fate st.links (on-later k st.links.list i.short) h.short);
       ours = ours-kept k (next_id p.session) (view_of k s st) p.session p.change st.tables c.begun refl (moved k (next_id s) (next_id p.session) (held_items Sender st.tables) small c.ours i.ours);
       theirs = expected-kept k (view_of k s st) p.session p.change st.tables s.expected small refl c.theirs c.begun i.theirs;
+      apart = a i.apart;
     }
 
 apt-after : (k : ℕ) (s : Session) (st : StoresView) (f : Fate) (c : Change) (t : Session) → k < 2 ^ 30 → IsKept k s st → IsBegun (view_of k s st) c t → IsAlone f c → IsApt f c st.tables

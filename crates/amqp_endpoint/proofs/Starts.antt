@@ -1,7 +1,9 @@
 -- The plan of a delivery that begins.
-use Rattle.std.proofs.Common.{Ok, sym, ◌∙◌, ◌≡◌, ◌<◌, ℕ, ◌+◌, ◌^◌, ◌==◌, not, Bool, true, false, Some, None, Result, List, [], ◌∷◌, inr, arith, refl, ap, find, is_some, length, map}
+use Rattle.std.proofs.Common.{Ok, sym, ◌∙◌, ◌≡◌, ◌<◌, ℕ, ◌+◌, ◌^◌, ◌==◌, ◌||◌, not, Bool, true, false, Some, None, Result, List, [], ◌∷◌, inr, arith, refl, ap, find, is_some, length, map}
 use Rattle.std.proofs.lemmas.List.{append-nil}
-use Rattle.std.specs.List.{filter}
+use Rattle.std.specs.List.{filter, list_any}
+use Rattle.amqp_events.specs.Tags.{is_tagged}
+use Rattle.amqp_waiting.specs.Waiting.{waits}
 use Rattle.amqp_flow.specs.Serial.{wire}
 use Rattle.amqp_events.specs.Event as event
 use Rattle.amqp_events.specs.Event.{Item}
@@ -37,10 +39,10 @@ unspoken-of : (i : Item) (xs : List SentItem) → map (next_sent (event.Begins i
 unspoken-of i [] = refl
 unspoken-of i (x ∷ xs) = rw (unspoken-of i xs) refl
 
-unspoken : (i : Item) (xs : List SentItem) → next_sent_held (event.Begins i false) xs ≡ xs
+pub unspoken : (i : Item) (xs : List SentItem) → next_sent_held (event.Begins i false) xs ≡ xs
 unspoken i xs = rw (append-nil (map (next_sent (event.Begins i false)) (filter (λ s. not (ends (event.Begins i false) s.item)) xs))) (unspoken-of i xs)
 
-next-wire : (n d : ℕ) → wire (n + (d + 1)) ≡ wire (wire (n + d) + 1)
+pub next-wire : (n d : ℕ) → wire (n + (d + 1)) ≡ wire (wire (n + d) + 1)
 next-wire n d = omega arith
 
 short-after : (k size id : ℕ) (more : Bool) → size < 2 ^ 64 → IsShort (k + 1) (sending_after more id size)
@@ -54,17 +56,25 @@ fourth false false true d w x y z rows h = absurd (cc)
 fourth false false false true w x y z rows h = absurd (cc)
 fourth false false false false w x y z rows h = refl
 
-tag-free : (v : View) (link : ℕ) (l : LinkView) (tag payload : List ℕ) (settled : Bool) → find (has_number link) v.links ≡ Some l → first_refusal (start_refusals v l tag settled payload) ≡ None → tag_is_held v link tag ≡ false
+or-left : (a b : Bool) → (a || b) ≡ false → a ≡ false
+or-left true b h = absurd (cc)
+or-left false b h = refl
+
+-- no unsettled delivery of ours on the link has the tag
+abbrev pub IsTagFree : View → ℕ → List ℕ → Type 0
+IsTagFree v link tag = list_any (λ s. is_tagged link tag s.item) v.sent ≡ false
+
+tag-free : (v : View) (link : ℕ) (l : LinkView) (tag payload : List ℕ) (settled : Bool) → find (has_number link) v.links ≡ Some l → first_refusal (start_refusals v l tag settled payload) ≡ None → IsTagFree v link tag
 tag-free v link l tag payload settled f h =
     rw (found-number link v.links l f) at
-    (fourth (not (is_attached l)) (not (same_role Sender l.role)) (is_some l.sending) (tag_is_held v l.number tag) NotAttached WrongRole InDelivery TagHeld
+    (or-left (list_any (λ s. is_tagged l.number tag s.item) v.sent) (waits tag l.waiting) (fourth (not (is_attached l)) (not (same_role Sender l.role)) (is_some l.sending) (tag_is_held v l tag) NotAttached WrongRole InDelivery TagHeld
     ((mode_forbids (snd_mode l) settled, SettleMode)
     ∷ (l.credit.credit == 0, NoCredit)
     ∷ (v.windows.remote_incoming == 0, NoWindow)
     ∷ (is_too_long (max_of l.theirs) (length payload), MessageTooLong)
-    ∷ []) h)
+    ∷ []) h))
 
-counted : (k : ℕ) (s : Session) (st : StoresView) (link : ℕ) (tag : List ℕ) (settled second : Bool) → IsKept k s st → tag_is_held (view_of k s st) link tag ≡ false
+counted : (k : ℕ) (s : Session) (st : StoresView) (link : ℕ) (tag : List ℕ) (settled second : Bool) → IsKept k s st → IsTagFree (view_of k s st) link tag
     → IsCounted (view_of k s st) (change_begun settled (item_begun (next_delivery (view_of k s st)) link tag second)) (started s)
 counted k s st link tag true second i free =
     record {

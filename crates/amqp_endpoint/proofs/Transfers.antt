@@ -1,5 +1,5 @@
 -- The plan of a transfer that is heard.
-use Rattle.std.proofs.Common.{◌≡◌, ◌∙◌, sym, ℕ, ◌+◌, ◌<◌, ◌==◌, ◌&&◌, ◌||◌, ◌++◌, not, Bool, true, false, cond, Option, Some, None, List, [], ◌∷◌, inl, inr, arith, refl, ap, is_none, map, unwrap_or, ⊎_elim}
+use Rattle.std.proofs.Common.{◌≡◌, ◌∙◌, sym, ℕ, ◌+◌, ◌<◌, ◌==◌, ◌&&◌, ◌||◌, ◌++◌, not, Bool, true, false, cond, Option, Some, None, List, [], ◌∷◌, inl, inr, arith, refl, ap, is_none, map, unwrap_or, find, is_some, subst, ⊎_elim}
 use Rattle.std.proofs.lemmas.Bool.{cases_Bool, eq-eqb, eqb-true, eqb-false}
 use Rattle.std.proofs.lemmas.List.{append-nil}
 use Rattle.amqp_flow.specs.Serial.{wire}
@@ -27,7 +27,11 @@ use Rattle.amqp_rules.specs.declared.reply.Given.{Given}
 use Rattle.amqp_rules.specs.declared.reply.Given.TheVariants.{Nothing, Ready}
 use Rattle.amqp_rules.specs.declared.violation.Violation.{Violation}
 use Rattle.amqp_rules.specs.View.{View, LinkView, has_number, has_peer_handle, change_first, rcv_mode}
-use Rattle.amqp_rules.specs.Deliveries.{ended_by, item_of, transfer_on, transferred}
+use Rattle.std.specs.List.{list_any}
+use Rattle.amqp_events.specs.Tags.{is_tagged}
+use Rattle.amqp_waiting.specs.Waiting.{WaitingItem, waits, waits_as}
+use Rattle.amqp_rules.specs.Status.{waiting_of}
+use Rattle.amqp_rules.specs.Deliveries.{begins_unsettled, brought_by, ended_by, item_of, state_brought, transfer_on, transferred}
 use Rattle.amqp_rules.specs.PeerTransfer.{breaks_mode, breaks_size, credit_used, delivery_violations, given_by, heard_on, is_nameless, is_unexpected, name_violations, received_on, receives, tag_is_taken, transfer_given, transfer_violations}
 use Rattle.amqp_rules.specs.Refusing.{first_refusal, of_link, unlinked}
 use Rattle.amqp_rules.specs.declared.violation.ViolationKind.TheVariants.{BadHandle, Window, MissingField, IdOrder, TagHeld, Mode, Credit, TooLong}
@@ -35,8 +39,8 @@ use Rattle.amqp_endpoint.specs.declared.plan.Session.{Session}
 use Rattle.amqp_endpoint.specs.Stores.{StoresView, stores_after}
 use Rattle.amqp_endpoint.specs.Plan.{IsBegun, IsCounted, IsDue, IsExpectedNext, IsKept, IsSound, quiet_plan, view_of}
 use Rattle.amqp_endpoint.specs.declared.endpoint.arriving.Arriving.{Arriving}
-use Rattle.amqp_endpoint.specs.Arriving.{IsHeard, PlansTransfer, change_arriving, passed_plan}
-use Rattle.amqp_endpoint.specs.Transferring.{change_heard, delivery_rows, first_rows, given_heard}
+use Rattle.amqp_endpoint.specs.Arriving.{IsHeard, PlansTransfer, brought_on, change_arriving, change_on, item_back, passed_plan}
+use Rattle.amqp_endpoint.specs.Transferring.{delivery_rows, first_rows, given_heard}
 use Rattle.amqp_endpoint.proofs.Plans.{change-alike, short-found, shorter, expects-same, row-free}
 use Rattle.amqp_endpoint.proofs.Flows.{stays-first}
 
@@ -183,13 +187,17 @@ pub record IsFirstFree (v : View) (b : TransferBody) (l : LinkView) : Type 0 whe
   pub credit : 0 < l.credit.credit
   pub named : is_nameless b ≡ false
   pub due : is_unexpected v.expected b ≡ false
-  pub fresh : tag_is_taken v l.number b ≡ false
+  pub fresh : list_any (is_tagged l.number (unwrap_or b.delivery_tag [])) v.received ≡ false
+
+or-left : (a b : Bool) → (a || b) ≡ false → a ≡ false
+or-left true b h = absurd (cc)
+or-left false b h = refl
 
 credit-there : (a : Bool) (n : ℕ) → a ≡ true → (a && n == 0) ≡ false → 0 < n
 credit-there true n e h = let d = eqb-false n 0 h in omega (arith, d)
 credit-there false n e h = absurd (cc)
 
-names-of : (v : View) (b : TransferBody) (l : LinkView) (o : Option Delivery) → o ≡ None → first_refusal (name_violations v b l o) ≡ None → first_refusal (first_rows v b l.number) ≡ None
+names-of : (v : View) (b : TransferBody) (l : LinkView) (o : Option Delivery) → o ≡ None → first_refusal (name_violations v b l o) ≡ None → first_refusal (first_rows v b l) ≡ None
 names-of v b l None e h = h
 names-of v b l (Some d) e h = absurd (cc)
 
@@ -201,16 +209,16 @@ first-free v b payload l free left none =
     let rest : first_refusal (delivery_violations v b payload l) ≡ None = rw left at (rest-free v b payload l free) in
     let both = free-both (name_violations v b l l.receiving) (delivery_rows b payload l) rest in
     let names = names-of v b l l.receiving none both.0 in
-    let a = row-free (is_nameless b) (unlinked MissingField) ((is_unexpected v.expected b, unlinked IdOrder) ∷ (tag_is_taken v l.number b, unlinked TagHeld) ∷ []) names in
-    let d = row-free (is_unexpected v.expected b) (unlinked IdOrder) ((tag_is_taken v l.number b, unlinked TagHeld) ∷ []) a.1 in
-    let t = row-free (tag_is_taken v l.number b) (unlinked TagHeld) [] d.1 in
+    let a = row-free (is_nameless b) (unlinked MissingField) ((is_unexpected v.expected b, unlinked IdOrder) ∷ (tag_is_taken v l b, unlinked TagHeld) ∷ []) names in
+    let d = row-free (is_unexpected v.expected b) (unlinked IdOrder) ((tag_is_taken v l b, unlinked TagHeld) ∷ []) a.1 in
+    let t = row-free (tag_is_taken v l b) (unlinked TagHeld) [] d.1 in
     let m = row-free (breaks_mode l b) (unlinked Mode) ((is_none l.receiving && l.credit.credit == 0, of_link l.number Credit) ∷ (breaks_size l (transferred (rcv_mode l) b payload), of_link l.number TooLong) ∷ []) both.1 in
     let c = row-free (is_none l.receiving && l.credit.credit == 0) (of_link l.number Credit) ((breaks_size l (transferred (rcv_mode l) b payload), of_link l.number TooLong) ∷ []) m.1 in
     record {
       credit = credit-there (is_none l.receiving) l.credit.credit (none-there l.receiving none) c.0;
       named = a.0;
       due = d.0;
-      fresh = t.0;
+      fresh = or-left (list_any (is_tagged l.number (unwrap_or b.delivery_tag [])) v.received) (not (unwrap_or b.resume false) && waits (unwrap_or b.delivery_tag []) l.waiting) t.0;
     }
 
 not-true : (b : Bool) → not b ≡ false → b ≡ true
@@ -228,21 +236,40 @@ due-id (Some n) (Some given) b q none h =
     let d = id-due n given (rw q at h) in
     (d, inr (rw d refl))
 
-or-left : (a b : Bool) → (a || b) ≡ false → a ≡ false
-or-left true b h = absurd (cc)
-or-left false b h = refl
+-- what the first transfer on the link brings in, and the delivery that it begins
+abbrev pub brought_first : TransferBody → LinkView → Option WaitingItem
+brought_first b l = brought_by (transferred (rcv_mode l) b []) l.waiting
 
-first-event : (b : TransferBody) (l : LinkView) → l.left ≡ false → l.receiving ≡ None
-    → transfer_on b (Some l) ≡ event.Begins (item_of l.number (transferred (rcv_mode l) b []) b.state) (not (unwrap_or b.settled false || unwrap_or b.aborted false))
+abbrev pub item_first : TransferBody → LinkView → Item
+item_first b l = item_back l.number (rcv_mode l) b (state_brought (brought_first b l))
+
+abbrev pub unsettled_first : TransferBody → LinkView → Bool
+unsettled_first b l = begins_unsettled (transferred (rcv_mode l) b []) (brought_first b l)
+
+first-event : (b : TransferBody) (l : LinkView) → l.left ≡ false → l.receiving ≡ None → transfer_on b (Some l) ≡ event.Begins (item_first b l) (unsettled_first b l)
 first-event b l h e = rw (h, e) refl
 
-given-of : (k : ℕ) (d : Delivery) (a m : Bool) → d.status ≡ cond a Aborted (cond m Open Complete) → given_by k d ≡ cond (a || m) Nothing (Ready k d.id)
-given-of k d true m e = rw e refl
-given-of k d false true e = rw e refl
-given-of k d false false e = rw e refl
+given-of : (k : ℕ) (d : Delivery) (a m r : Bool) → d.status ≡ cond a Aborted (cond m Open Complete) → d.resumed ≡ r → given_by k d ≡ cond ((a || m) || r) Nothing (Ready k d.id)
+given-of k d true m r e q = rw e refl
+given-of k d false true r e q = rw e refl
+given-of k d false false true e q = rw (e, q) refl
+given-of k d false false false e q = rw (e, q) refl
 
-first-given : (b : TransferBody) (l : LinkView) → l.left ≡ false → l.receiving ≡ None → transfer_given b l ≡ given_heard l.number (unwrap_or b.delivery_id 0) b
-first-given b l h e = rw (h, e) (given-of l.number (first_of (transferred (rcv_mode l) b [])) (unwrap_or b.aborted false) (unwrap_or b.more false) refl)
+first-given : (b : TransferBody) (l : LinkView) → l.left ≡ false → l.receiving ≡ None → transfer_given b l ≡ given_heard l.number (unwrap_or b.delivery_id 0) (unwrap_or b.resume false) b
+first-given b l h e = rw (h, e) (given-of l.number (first_of (transferred (rcv_mode l) b [])) (unwrap_or b.aborted false) (unwrap_or b.more false) (unwrap_or b.resume false) refl refl)
+
+any-found : (tag : List ℕ) (ws : List WaitingItem) → waits tag ws ≡ is_some (find (waits_as tag) ws)
+any-found tag [] = refl
+any-found tag (w ∷ ws) =
+    ⊎_elim
+    (λ t. rw t refl)
+    (λ t. rw t (any-found tag ws))
+    (cases_Bool (waits_as tag w))
+
+-- the tag waits where the transfer brings in what waits
+pub brings : (over resume : Bool) (tag : List ℕ) (ws : List WaitingItem) → (not over && (not resume || waits tag ws)) ≡ (not over && (not resume || is_some (cond resume (find (waits_as tag) ws) None)))
+brings over true tag ws = ap (λ (x : Bool). not over && x) (any-found tag ws)
+brings over false tag ws = refl
 
 heard-so : (b : TransferBody) (payload : List ℕ) (l : LinkView) (m : Marks) → l.left ≡ false → with_marks m l ≡ record l { credit = credit_used l.receiving l.credit }
     → heard_on b payload l ≡ with_heard m (transferred (rcv_mode l) b payload) l
@@ -257,20 +284,27 @@ first-heard : (b : TransferBody) (payload : List ℕ) (l : LinkView) (m : Marks)
     → heard_on b payload l ≡ with_heard m (transferred (rcv_mode l) b payload) l
 first-heard b payload l m h e q = heard-so b payload l m h (q ∙ ap (λ (o : Option Delivery). record l { credit = credit_used o l.credit }) (sym e))
 
-pub first-plan : (k key : ℕ) (s : Session) (st : StoresView) (b : TransferBody) (payload : List ℕ) (l : LinkView) (m : Marks) (over : Bool) → IsKept k s st
-    → IsHeard (view_of k s st) b payload l → l.left ≡ false → l.receiving ≡ None → over ≡ (unwrap_or b.settled false || unwrap_or b.aborted false)
+-- what becomes of the unsettled deliveries
+abbrev pub change_first_by : Bool → Item → Change
+change_first_by begins item = cond begins (Begins Receiver item) Stay
+
+abbrev first_session : Session → TransferBody → Session
+first_session s b = record s { windows = windows_received s.windows; expected = Some (wire (unwrap_or b.delivery_id 0 + 1)) }
+
+first-by : (k key : ℕ) (s : Session) (st : StoresView) (b : TransferBody) (payload : List ℕ) (l : LinkView) (m : Marks) (begins : Bool) → IsKept k s st
+    → IsHeard (view_of k s st) b payload l → l.left ≡ false → l.receiving ≡ None → begins ≡ unsettled_first b l
     → with_marks m l ≡ record l { credit = delivery_begun l.credit } → m.sending ≡ l.sending
     → PlansTransfer (view_of k s st) b payload
-    (quiet_plan (record s { windows = windows_received s.windows; expected = Some (wire (unwrap_or b.delivery_id 0 + 1)) })
+    (quiet_plan (first_session s b)
     (fate.Heard key l.number m (transferred (rcv_mode l) b payload))
-    (change_heard over (item_of l.number (transferred (rcv_mode l) b []) b.state))
-    (given_heard l.number (unwrap_or b.delivery_id 0) b))
-first-plan k key s st b payload l m true i h left none is marks sending =
+    (change_first_by begins (item_first b l))
+    (given_heard l.number (unwrap_or b.delivery_id 0) (unwrap_or b.resume false) b))
+first-by k key s st b payload l m false i h left none is marks sending =
     let f = first-free (view_of k s st) b payload l h.free left none in
     let d = due-id s.expected b.delivery_id b refl (or-left (is_none b.delivery_id) (is_none b.delivery_tag) f.named) f.due in
-    let item = item_of l.number (transferred (rcv_mode l) b []) b.state in
+    let item = item_first b l in
     heard-plan k s _ st b payload l (event.Begins item false) _ _ _ h
-    (first-event b l left none ∙ ap (λ y. event.Begins item (not y)) (sym is))
+    (first-event b l left none ∙ ap (λ y. event.Begins item y) (sym is))
     (none-ended (event.Begins item false) (view_of k s st) st.tables.received (quiet-settled item st.tables.received) (rw (append-nil st.tables.received) at (in-self st.tables.received [])))
     (first-given b l left none)
     (rw (
@@ -279,16 +313,37 @@ first-plan k key s st b payload l m true i h left none is marks sending =
       quiet-settled item st.tables.received,
     ) refl)
     (record { fit = tt; short = rw sending (shorter k _ (short-found k (has_peer_handle b.handle) st.links.list l i.short h.found.found)); counted = moved-on k s st _ Stay i d.1 tt; alone = tt })
-first-plan k key s st b payload l m false i h left none is marks sending =
+first-by k key s st b payload l m true i h left none is marks sending =
     let f = first-free (view_of k s st) b payload l h.free left none in
     let d = due-id s.expected b.delivery_id b refl (or-left (is_none b.delivery_id) (is_none b.delivery_tag) f.named) f.due in
-    let item = item_of l.number (transferred (rcv_mode l) b []) b.state in
+    let item = item_first b l in
     heard-plan k s _ st b payload l (event.Begins item true) _ _ _ h
-    (first-event b l left none ∙ ap (λ y. event.Begins item (not y)) (sym is))
+    (first-event b l left none ∙ ap (λ y. event.Begins item y) (sym is))
     (none-ended (event.Begins item true) (view_of k s st) (st.tables.received ++ item ∷ []) (one-more item st.tables.received) (in-self st.tables.received (item ∷ [])))
     (first-given b l left none)
     (rw (h.found.alone (heard_on b payload), change-alike (has_number l.number) (heard_on b payload) (with_heard m (transferred (rcv_mode l) b payload)) st.links.list l h.found.numbered (first-heard b payload l m left none marks)) refl)
     (record { fit = tt; short = rw sending (shorter k _ (short-found k (has_peer_handle b.handle) st.links.list l i.short h.found.found)); counted = moved-on k s st _ (Begins Receiver item) i d.1 (d.0, refl, f.fresh); alone = tt })
+
+-- what waits is looked for on the link of its number
+pub first-plan : (k key : ℕ) (s : Session) (st : StoresView) (b : TransferBody) (payload : List ℕ) (l : LinkView) (m : Marks) (begins : Bool) → IsKept k s st
+    → IsHeard (view_of k s st) b payload l → l.left ≡ false → l.receiving ≡ None → begins ≡ unsettled_first b l
+    → with_marks m l ≡ record l { credit = delivery_begun l.credit } → m.sending ≡ l.sending
+    → PlansTransfer (view_of k s st) b payload
+    (quiet_plan (first_session s b)
+    (fate.Heard key l.number m (transferred (rcv_mode l) b payload))
+    (change_first_by begins (item_back l.number (rcv_mode l) b (state_brought (brought_on (view_of k s st) l.number b))))
+    (given_heard l.number (unwrap_or b.delivery_id 0) (unwrap_or b.resume false) b))
+first-plan k key s st b payload l m begins i h left none is marks sending =
+    let same : item_first b l ≡ item_back l.number (rcv_mode l) b (state_brought (brought_on (view_of k s st) l.number b)) =
+    ap (λ (o : Option LinkView). item_back l.number (rcv_mode l) b (state_brought (brought_by (transferred 0 b []) (waiting_of o)))) (sym h.found.numbered) in
+    subst
+    (λ (x : Item). PlansTransfer (view_of k s st) b payload
+    (quiet_plan (first_session s b)
+    (fate.Heard key l.number m (transferred (rcv_mode l) b payload))
+    (change_first_by begins x)
+    (given_heard l.number (unwrap_or b.delivery_id 0) (unwrap_or b.resume false) b)))
+    same
+    (first-by k key s st b payload l m begins i h left none is marks sending)
 
 -- # A further transfer of the unfinished delivery
 
@@ -296,8 +351,8 @@ later-event : (b : TransferBody) (l : LinkView) (d : Delivery) → l.left ≡ fa
     → transfer_on b (Some l) ≡ event.Continues d.id b.state (unwrap_or b.settled false || unwrap_or b.aborted false)
 later-event b l d h e = rw (h, e) refl
 
-later-given : (b : TransferBody) (l : LinkView) (d : Delivery) → l.left ≡ false → l.receiving ≡ Some d → transfer_given b l ≡ given_heard l.number d.id b
-later-given b l d h e = rw (h, e) (given-of l.number (and_more (transferred (rcv_mode l) b []) d) (unwrap_or b.aborted false) (unwrap_or b.more false) refl)
+later-given : (b : TransferBody) (l : LinkView) (d : Delivery) → l.left ≡ false → l.receiving ≡ Some d → transfer_given b l ≡ given_heard l.number d.id d.resumed b
+later-given b l d h e = rw (h, e) (given-of l.number (and_more (transferred (rcv_mode l) b []) d) (unwrap_or b.aborted false) (unwrap_or b.more false) d.resumed refl refl)
 
 later-heard : (b : TransferBody) (payload : List ℕ) (l : LinkView) (d : Delivery) (m : Marks) → l.left ≡ false → l.receiving ≡ Some d → with_marks m l ≡ l
     → heard_on b payload l ≡ with_heard m (transferred (rcv_mode l) b payload) l
@@ -306,23 +361,33 @@ later-heard b payload l d m h e q = heard-so b payload l m h (q ∙ ap (λ (o : 
 pub marks-same : (l : LinkView) (m : Marks) → IsMarksOf l m → with_marks m l ≡ l
 marks-same l m i = rw (i.role, i.credit, i.left, i.available, i.sending) refl
 
-pub later-plan : (k key id : ℕ) (s : Session) (st : StoresView) (b : TransferBody) (payload : List ℕ) (l : LinkView) (d : Delivery) (m : Marks) (over : Bool) → IsKept k s st
-    → IsHeard (view_of k s st) b payload l → l.left ≡ false → l.receiving ≡ Some d → id ≡ d.id → over ≡ (unwrap_or b.settled false || unwrap_or b.aborted false) → IsMarksOf l m
+pub later-plan : (k key id : ℕ) (s : Session) (st : StoresView) (b : TransferBody) (payload : List ℕ) (l : LinkView) (d : Delivery) (m : Marks) (over resumed : Bool) → IsKept k s st
+    → IsHeard (view_of k s st) b payload l → l.left ≡ false → l.receiving ≡ Some d → id ≡ d.id → resumed ≡ d.resumed → over ≡ (unwrap_or b.settled false || unwrap_or b.aborted false) → IsMarksOf l m
     → PlansTransfer (view_of k s st) b payload
     (quiet_plan (record s { windows = windows_received s.windows; expected = s.expected })
     (fate.Heard key l.number m (transferred (rcv_mode l) b payload))
     (Continues Receiver id b.state over)
-    (given_heard l.number id b))
-later-plan k key id s st b payload l d m over i h left some same is marks =
+    (given_heard l.number id resumed b))
+later-plan k key id s st b payload l d m over resumed i h left some same back is marks =
     heard-plan k s _ st b payload l (event.Continues id b.state over) _ _ _ h
     (rw (same, is) (later-event b l d left some))
     refl
-    (rw same (later-given b l d left some))
+    (rw (same, back) (later-given b l d left some))
     (rw (h.found.alone (heard_on b payload), change-alike (has_number l.number) (heard_on b payload) (with_heard m (transferred (rcv_mode l) b payload)) st.links.list l h.found.numbered (later-heard b payload l d m left some (marks-same l m marks))) refl)
     (record { fit = tt; short = rw marks.sending (shorter k _ (short-found k (has_peer_handle b.handle) st.links.list l i.short h.found.found)); counted = moved-on k s st s.expected (Continues Receiver id b.state over) i (expects-same s.expected) tt; alone = tt })
 
--- # A first transfer that leaves its delivery unsettled begins it
+-- # What a transfer makes of the unsettled deliveries, by how it comes
 
-pub begun-so : (b : TransferBody) (a : Arriving) → a.first ≡ true → (unwrap_or b.settled false || unwrap_or b.aborted false) ≡ false
-    → ◌≡◌ {A = Change} (change_arriving b a) (Begins Receiver (item_of a.number (transferred a.mode b []) b.state))
-begun-so b a first over = rw (first, over) refl
+-- one that begins
+pub begun-so : (v : View) (b : TransferBody) (a : Arriving) → a.begins ≡ true → unwrap_or b.resume false ≡ false
+    → ◌≡◌ {A = Change} (change_arriving v b a) (Begins Receiver (item_of a.number (transferred a.mode b []) b.state))
+begun-so v b a begins fresh = rw (begins, fresh) refl
+
+-- one that is brought in
+pub back-so : (v : View) (b : TransferBody) (a : Arriving) → a.begins ≡ true → unwrap_or b.resume false ≡ true
+    → ◌≡◌ {A = Change} (change_arriving v b a) (Begins Receiver (item_back a.number a.mode b (state_brought (find (waits_as (unwrap_or b.delivery_tag [])) (waiting_of (find (has_number a.number) v.links))))))
+back-so v b a begins back = rw (begins, back) refl
+
+-- none that is unsettled
+pub on-so : (v : View) (b : TransferBody) (a : Arriving) → a.begins ≡ false → ◌≡◌ {A = Change} (change_arriving v b a) (change_on b a)
+on-so v b a none = rw none refl

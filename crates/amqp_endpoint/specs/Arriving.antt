@@ -1,18 +1,22 @@
 -- The plans of a transfer that is heard, by how it comes.
-use Rattle.std.specs.Prelude.{ℕ, ◌≡◌, ◌<◌, ◌^◌, Bool, true, false, cond, ◌||◌, unwrap_or, List, [], Option, None}
+use Rattle.std.specs.Prelude.{ℕ, ◌≡◌, ◌<◌, ◌^◌, Bool, true, false, cond, ◌||◌, find, unwrap_or, List, [], Option, None}
 use Rattle.amqp_performatives.specs.declared.bodies.Role.TheVariants.{Receiver}
 use Rattle.amqp_performatives.specs.declared.bodies.TransferBody.{TransferBody}
-use Rattle.amqp_rules.specs.Deliveries.{item_of, transferred}
+use Rattle.amqp_performatives.specs.declared.state.DeliveryState.{DeliveryState}
+use Rattle.amqp_events.specs.Event.{Item}
+use Rattle.amqp_rules.specs.Deliveries.{brought_by, item_of, state_brought, transferred}
+use Rattle.amqp_rules.specs.Status.{waiting_of}
+use Rattle.amqp_waiting.specs.Waiting.{WaitingItem}
 use Rattle.amqp_flow.specs.Windows.{windows_received}
 use Rattle.amqp_rules.specs.declared.reply.Given.TheVariants.{Nothing}
 use Rattle.amqp_rules.specs.declared.violation.Violation.{Violation}
 use Rattle.amqp_rules.specs.PeerTransfer.{next_transfer, transfer_answer, transfer_violations}
 use Rattle.amqp_rules.specs.Refusing.{first_refusal}
-use Rattle.amqp_rules.specs.View.{View, LinkView, has_peer_handle, takes_frames}
+use Rattle.amqp_rules.specs.View.{View, LinkView, has_number, has_peer_handle, takes_frames}
 use Rattle.amqp_links.specs.declared.fate.Fate.TheVariants as fate
 use Rattle.amqp_links.specs.Links.{IsFirst}
 use Rattle.amqp_deliveries.specs.declared.change.Change.{Change}
-use Rattle.amqp_deliveries.specs.declared.change.Change.TheVariants.{Stay, Continues}
+use Rattle.amqp_deliveries.specs.declared.change.Change.TheVariants.{Stay, Begins, Continues}
 use Rattle.amqp_endpoint.specs.declared.done.Done.{Done}
 use Rattle.amqp_endpoint.specs.declared.endpoint.arriving.Arriving.{Arriving}
 use Rattle.amqp_endpoint.specs.declared.endpoint.arriving.Arrival.{Arrival}
@@ -20,8 +24,8 @@ use Rattle.amqp_endpoint.specs.declared.endpoint.arriving.Arrival.TheVariants.{P
 use Rattle.amqp_endpoint.specs.declared.plan.Session.{Session}
 use Rattle.amqp_endpoint.specs.declared.plan.Plan.{Plan}
 use Rattle.amqp_endpoint.specs.Doing.{session_in}
-use Rattle.amqp_endpoint.specs.Plan.{IsPlan, IsSound, plan_reply, planned, quiet_plan}
-use Rattle.amqp_endpoint.specs.Transferring.{change_heard, given_heard}
+use Rattle.amqp_endpoint.specs.Plan.{IsPlan, IsSound, KeepsApart, plan_reply, planned, quiet_plan}
+use Rattle.amqp_endpoint.specs.Transferring.{given_heard}
 
 -- frames are taken, and a transfer on this link violates nothing
 pub record IsHeard (v : View) (b : TransferBody) (payload : List ℕ) (l : LinkView) : Type 0 where
@@ -37,21 +41,30 @@ PlansTransfer v b payload p = IsPlan {E = Violation} v (transfer_answer v b payl
 abbrev pub heard_session : Session → Option ℕ → Session
 heard_session s expected = record s { windows = windows_received s.windows; expected = expected }
 
--- what a transfer makes of the unsettled deliveries
-abbrev pub change_by : Bool → ℕ → ℕ → ℕ → TransferBody → Change
-change_by first number mode id b =
-    cond first
-    (change_heard (unwrap_or b.settled false || unwrap_or b.aborted false) (item_of number (transferred mode b []) b.state))
-    (Continues Receiver id b.state (unwrap_or b.settled false || unwrap_or b.aborted false))
+-- the delivery that a first transfer begins, with our state of it
+abbrev pub item_back : ℕ → ℕ → TransferBody → Option DeliveryState → Item
+item_back number mode b local = record (item_of number (transferred mode b []) b.state) { local = local }
 
-abbrev pub change_arriving : TransferBody → Arriving → Change
-change_arriving b a = change_by a.first a.number a.mode a.id b
+-- that which a first transfer brings in, where it waits on the link with this number
+abbrev pub brought_on : View → ℕ → TransferBody → Option WaitingItem
+brought_on v number b = brought_by (transferred 0 b []) (waiting_of (find (has_number number) v.links))
+
+abbrev pub item_arriving : View → TransferBody → Arriving → Item
+item_arriving v b a = item_back a.number a.mode b (state_brought (brought_on v a.number b))
+
+-- what a transfer makes of the unsettled deliveries that begins none
+abbrev pub change_on : TransferBody → Arriving → Change
+change_on b a = cond a.first Stay (Continues Receiver a.id b.state (unwrap_or b.settled false || unwrap_or b.aborted false))
+
+-- what a transfer makes of the unsettled deliveries
+abbrev pub change_arriving : View → TransferBody → Arriving → Change
+change_arriving v b a = cond a.begins (Begins Receiver (item_arriving v b a)) (change_on b a)
 
 abbrev pub passed_plan : View → Option ℕ → Plan
 passed_plan v expected = quiet_plan (heard_session (session_in v) expected) fate.Stay Stay Nothing
 
 abbrev pub arriving_plan : View → TransferBody → List ℕ → Arriving → Plan
-arriving_plan v b payload a = quiet_plan (heard_session (session_in v) a.expected) (fate.Heard a.key a.number a.marks (transferred a.mode b payload)) (change_arriving b a) (given_heard a.number a.id b)
+arriving_plan v b payload a = quiet_plan (heard_session (session_in v) a.expected) (fate.Heard a.key a.number a.marks (transferred a.mode b payload)) (change_arriving v b a) (given_heard a.number a.id a.resumed b)
 
 abbrev pub arrival_plan : View → TransferBody → List ℕ → Arrival → Plan
 arrival_plan v b payload (Passed expected) = passed_plan v expected
@@ -62,6 +75,7 @@ pub record MayCome (v : View) (b : TransferBody) (payload : List ℕ) (a : Arriv
   pub steps : v.steps < 2 ^ 30
   pub window : 0 < v.windows.incoming
   pub sound : IsSound v (arriving_plan v b payload a)
+  pub apart : KeepsApart v (planned v (arriving_plan v b payload a))
 
 -- the transfer has come, and gives this
 pub record HasCome (v new : View) (b : TransferBody) (payload : List ℕ) (a : Arriving) (d : Done) : Type 0 where

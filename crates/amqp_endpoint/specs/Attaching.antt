@@ -1,5 +1,7 @@
 -- What the private checks of an attach promise.
-use Rattle.std.specs.Prelude.{ℕ, ◌≡◌, nat_lt, true, false, Option, Some, None, List, [], cond, find, is_some}
+use Rattle.std.specs.Prelude.{ℕ, ◌≡◌, nat_lt, not, Bool, true, false, Option, Some, None, List, [], cond, find, is_some, map}
+use Rattle.std.specs.Borrow.{Bor}
+use Rattle.std.specs.List.{list_any}
 use Rattle.amqp_flow.specs.Credit.{count_given}
 use Rattle.amqp_performatives.specs.declared.performative.Performative.TheVariants.{Attach}
 use Rattle.amqp_links.specs.declared.fate.Fate.{Fate}
@@ -8,11 +10,24 @@ use Rattle.amqp_links.specs.declared.marks.Marks.{Marks}
 use Rattle.amqp_links.specs.Credits.{role_of}
 use Rattle.amqp_links.specs.Links.{IsFirst}
 use Rattle.amqp_links.specs.Marks.{with_marks}
+use Rattle.amqp_links.specs.Resuming.{ResumingView, resuming_by_us, waiting_as}
+use Rattle.amqp_waiting.specs.declared.item.SuspendedItem.{SuspendedItem}
+use Rattle.amqp_waiting.specs.OurUnsettled.{is_fair_item}
+use Rattle.amqp_waiting.specs.Waiting.{has_twice, unclear}
 use Rattle.amqp_rules.specs.View.{View, LinkView, EndView, is_mapped, is_ours, is_offered_as, is_sender, free_handle, new_link}
 use Rattle.amqp_rules.specs.Attach.{own_attach, attach_sent, count_of, Wanted as Asked_for}
 use Rattle.amqp_rules.specs.Sending.{frame_refused}
 use Rattle.amqp_endpoint.specs.declared.endpoint.attach.Wanted.{Wanted}
 use Rattle.amqp_endpoint.specs.declared.endpoint.attach.Meeting.{Meeting}
+
+-- the deliveries that are brought in
+abbrev pub items_in : Option (Bor (List SuspendedItem)) → List SuspendedItem
+items_in None = []
+items_in (Some b) = b.now
+
+-- a disposition could not have the state of one of them
+abbrev pub has_unfair : List SuspendedItem → Bool
+has_unfair is = list_any (λ i. not (is_fair_item i)) is
 
 abbrev pub wanted_of : Wanted → Asked_for
 wanted_of w =
@@ -25,12 +40,18 @@ wanted_of w =
       target = w.target.now;
       count = w.count;
       max_message = w.max_message;
+      items = items_in w.brought;
     }
 
 -- an offered link has our attach, or one more is asked for
-abbrev pub attached_fate : List ℕ → Option ℕ → ℕ → EndView → Marks → Fate
-attached_fate name (Some key) n end m = Ours key n end m
-attached_fate name None n end m = Asked name end m
+abbrev pub attached_fate : List ℕ → Option ℕ → ℕ → EndView → Marks → ResumingView → Fate
+attached_fate name (Some key) n end m r = Ours key n end m r
+attached_fate name None n end m r = Asked name end m r
+
+-- what the link has to resume then, by the link that is met
+abbrev pub resuming_met : Asked_for → Option LinkView → ResumingView
+resuming_met a None = waiting_as (map unclear a.items)
+resuming_met a (Some l) = resuming_by_us a.items l
 
 -- the link with the delivery-count that our attach tells where we send
 abbrev pub counted_by : Asked_for → LinkView → LinkView
@@ -51,5 +72,7 @@ pub record IsMeeting (v : View) (a : Asked_for) (w : Meeting) : Type 0 where
   pub unused : is_some (find (is_ours a.role a.name) v.links) ≡ false
   pub handle : w.handle ≡ free_handle v.links
   pub low : nat_lt v.handle_max (free_handle v.links) ≡ false
+  pub distinct : has_twice a.items ≡ false
+  pub fair : list_any (λ i. not (is_fair_item i)) a.items ≡ false
   pub written : frame_refused v.max_frame (Some (Attach (attach_sent v a))) [] ≡ None
   pub meets : Meets v a w.met w.number w.marks

@@ -2,6 +2,7 @@ pub mod Stores
 pub mod Plan
 pub mod Taking
 pub mod Starting
+pub mod Resuming
 pub mod Disposing
 pub mod Flowing
 pub mod Answered

@@ -12,6 +12,7 @@ use Rattle.amqp_rules.specs.declared.reply.Given.{Given}
 use Rattle.amqp_rules.specs.View.{View, SessionView, LinkView, SendingView, next_delivery}
 use Rattle.amqp_rules.specs.Carry.{size_so_far}
 use Rattle.amqp_rules.specs.Sending.{sent_of}
+use Rattle.amqp_rules.specs.Sound.{IsWaitingApart, IsSound as IsSoundView}
 use Rattle.amqp_endpoint.specs.declared.plan.Session.{Session}
 use Rattle.amqp_endpoint.specs.declared.plan.Plan.{Plan}
 use Rattle.amqp_deliveries.specs.declared.change.Change.{Change}
@@ -74,11 +75,12 @@ IsShort steps sending = size_so_far sending ≤ steps * 2 ^ 64
 
 abbrev pub AreShort : ℕ → Fate → Type 0
 AreShort steps (fate.Marked key n m) = IsShort steps m.sending
-AreShort steps (fate.Ours key n end m) = IsShort steps m.sending
-AreShort steps (fate.Theirs key n end m) = IsShort steps m.sending
-AreShort steps (fate.Asked name end m) = IsShort steps m.sending
-AreShort steps (fate.Offered name end m) = IsShort steps m.sending
+AreShort steps (fate.Ours key n end m r) = IsShort steps m.sending
+AreShort steps (fate.Theirs key n end m r) = IsShort steps m.sending
+AreShort steps (fate.Asked name end m r) = IsShort steps m.sending
+AreShort steps (fate.Offered name end m r) = IsShort steps m.sending
 AreShort steps (fate.Heard key n m t) = IsShort steps m.sending
+AreShort steps (fate.Resumed key n m tag) = IsShort steps m.sending
 AreShort steps _ = Unit {0}
 
 -- the id of the delivery that we begin next
@@ -123,6 +125,15 @@ pub record IsSound (v : View) (p : Plan) : Type 0 where
   pub short : AreShort (v.steps + 1) p.fate
   pub counted : IsCounted v p.change p.session
   pub alone : IsAlone p.fate p.change
+
+-- what waits on a link has no tag of a delivery that is unsettled on it
+pub record IsApart (v : View) : Type 0 where
+  pub sound : IsSoundView v
+  pub apart : IsWaitingApart v
+
+-- and so it is after the step
+abbrev pub KeepsApart : View → View → Type 0
+KeepsApart v after = IsApart v → IsApart after
 
 -- the plan of a step that has this answer and leaves this view
 pub record IsPlan {E : Type 0} (v : View) (answer : Result Reply E) (after : View) (p : Plan) : Type 0 where
@@ -180,3 +191,4 @@ pub record IsKept (steps : ℕ) (s : Session) (st : StoresView) : Type 0 where
   pub short : AreShortOn steps st.links.list
   pub ours : AreBehind steps (next_id s) (held_items Sender st.tables)
   pub theirs : AreBehindExpected steps s.expected st.tables.received
+  pub apart : IsApart (view_of steps s st)

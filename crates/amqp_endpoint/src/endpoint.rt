@@ -1,6 +1,6 @@
 //! One end of a session.
 ghost use Rattle.std.specs.Prelude.{◌≡◌, ◌<◌, ◌^◌, OnOk, OnErr, IfOk};
-ghost use Rattle.amqp_endpoint.specs.Plan.{IsSound, octets_sent, plan_reply, planned};
+ghost use Rattle.amqp_endpoint.specs.Plan.{IsSound, KeepsApart, octets_sent, plan_reply, planned};
 
 use crate::cutting::Cutter;
 use crate::plan::{Plan, Session};
@@ -39,6 +39,7 @@ mod peer_flow;
 mod peer_transfer;
 mod readers;
 mod refresh;
+mod resume;
 mod start;
 mod steps;
 mod suspend;
@@ -77,6 +78,7 @@ impl Endpoint {
     pub(crate) fn commit(&mut self, plan: Plan) -> Result<(Reply, Option<Bytes>), AllocError>
         requires steps { self.old.steps < 2 ^ 30 }
         requires sound { IsSound self.old plan }
+        requires apart { KeepsApart self.old (planned self.old plan) }
         ensures reply { IfOk result (λ both. both.0 ≡ plan_reply plan self.old) }
         ensures octets { IfOk result (λ both. both.1 ≡ octets_sent plan.sent) }
         ensures next { OnOk result (self.new ≡ planned self.old plan) }

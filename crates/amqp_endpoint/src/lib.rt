@@ -10,13 +10,16 @@
 //! |---|---|
 //! | opened, begin, refresh, beat; the peer's begin and open | O(1) |
 //! | start, carry, grant, offer, drained, learn; a flow, a transfer | O(log n) |
-//! | attach, of either end | O(log n + m), for m links of its name |
+//! | attach, of either end | O(log n + m), for m links of its name; where deliveries wait or are told, O(k) for k of them more |
+//! | rejoin | as an attach, and a step for each pair of its deliveries |
+//! | resume | O(log n) |
 //! | take | O(log n), and one copy of a payload that came in several transfers |
 //! | abort | O(log n + log u) |
 //! | dispose, the peer's disposition, of k deliveries | O(log u + k), and O(log n) for each that the peer tells of; those beside them on the shorter side move where deliveries end |
 //! | detach, of either end | O(log n + u) |
 //! | suspend, and a detach of the peer's that does not close | O(log n + u), and O(log r) for each that is ready or put aside, for r ready ones |
 //! | end, of either end | O(n + u) |
+//! | what would be put aside of all links of a role, asked without a step | O(n · u) |
 //!
 //! | module | what it has |
 //! |---|---|

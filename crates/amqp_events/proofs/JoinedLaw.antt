@@ -1,7 +1,7 @@
 -- The deliveries of a link, as formulas over all its transfers and as single changes.
-use Rattle.std.proofs.Common.{◌≡◌, Bool, true, false, cond, None, Some, List, [], ◌∷◌, ◌++◌, filter, reverse, drop, ℕ, ◌≤◌, length, refl, sym, append-nil, drop-drop, ◌+◌}
+use Rattle.std.proofs.Common.{◌≡◌, Bool, true, false, cond, not, None, Some, List, [], ◌∷◌, ◌++◌, filter, reverse, drop, ℕ, ◌≤◌, length, refl, sym, append-nil, drop-drop, ◌+◌}
 use Rattle.std.proofs.lemmas.List.{reverse-append, drop-append-le}
-use Rattle.amqp_events.specs.Joined.{Transferred, Status, Open, Complete, Aborted, Delivery, first_of, and_more, goes_on, is_complete, with_transfer, joined, unfinished_of, unfinished, complete, ready, next_delivery, next_unfinished, completed}
+use Rattle.amqp_events.specs.Joined.{Transferred, Status, Open, Complete, Aborted, Delivery, first_of, and_more, goes_on, is_given, with_transfer, joined, unfinished_of, unfinished, complete, ready, next_delivery, next_unfinished, completed}
 
 -- the newest delivery after the transfer, and those that are then complete
 newest : (t : Transferred) (ds : List Delivery) → unfinished_of (with_transfer t ds) ≡ next_unfinished t (unfinished_of ds)
@@ -24,15 +24,15 @@ made d status = record d { status = status }
 
 -- by the newest delivery's status
 after-one : (t : Transferred) (ds : List Delivery) (d : Delivery) (status : Status)
-    → reverse (filter is_complete (with_transfer t (made d status ∷ ds)))
-    ≡ reverse (filter is_complete (made d status ∷ ds)) ++ completed (next_delivery t (unfinished_of (made d status ∷ ds)))
-after-one t ds d Open = one-front (is_complete (and_more t (made d Open))) (and_more t (made d Open)) (filter is_complete ds)
-after-one t ds d Complete = one-front (is_complete (first_of t)) (first_of t) (made d Complete ∷ filter is_complete ds)
-after-one t ds d Aborted = one-front (is_complete (first_of t)) (first_of t) (filter is_complete ds)
+    → reverse (filter is_given (with_transfer t (made d status ∷ ds)))
+    ≡ reverse (filter is_given (made d status ∷ ds)) ++ completed (next_delivery t (unfinished_of (made d status ∷ ds)))
+after-one t ds d Open = one-front (is_given (and_more t (made d Open))) (and_more t (made d Open)) (filter is_given ds)
+after-one t ds d Complete = one-front (is_given (first_of t)) (first_of t) (cond (not d.resumed) (made d Complete ∷ filter is_given ds) (filter is_given ds))
+after-one t ds d Aborted = one-front (is_given (first_of t)) (first_of t) (filter is_given ds)
 
 after-all : (t : Transferred) (ds : List Delivery)
-    → reverse (filter is_complete (with_transfer t ds)) ≡ reverse (filter is_complete ds) ++ completed (next_delivery t (unfinished_of ds))
-after-all t [] = one-front (is_complete (first_of t)) (first_of t) []
+    → reverse (filter is_given (with_transfer t ds)) ≡ reverse (filter is_given ds) ++ completed (next_delivery t (unfinished_of ds))
+after-all t [] = one-front (is_given (first_of t)) (first_of t) []
 after-all t (d ∷ ds) = after-one t ds d d.status
 
 pub complete-step : (t : Transferred) (past : List Transferred) → complete (t ∷ past) ≡ complete past ++ completed (next_delivery t (unfinished past))

@@ -19,9 +19,9 @@ pub fn run<R: AllocGlobal + Print>(rt: &R) -> anyhow::Result<()> {
 
 fn talk<R: AllocGlobal + Print>(rt: &R, one: &mut End, other: &mut End) -> anyhow::Result<()> {
     exchange(rt, one, other)?;
-    one.apply(rt, &ops::begin())?;
+    one.apply(rt, ops::begin())?;
     exchange(rt, one, other)?;
-    other.apply(rt, &ops::begin())?;
+    other.apply(rt, ops::begin())?;
     exchange(rt, one, other)?;
     send(rt, one, other, "there", 0)?;
     send(rt, other, one, "back", 1)?;
@@ -39,17 +39,17 @@ fn send<R: AllocGlobal + Print>(
     name: &str,
     link: u32,
 ) -> anyhow::Result<()> {
-    from.apply(rt, &attach(rt.alloc(), name, Role::Sender)?)?;
+    from.apply(rt, attach(rt.alloc(), name, Role::Sender)?)?;
     exchange(rt, from, to)?;
-    to.apply(rt, &attach(rt.alloc(), name, Role::Receiver)?)?;
-    to.apply(rt, &ops::grant(link, 10))?;
+    to.apply(rt, attach(rt.alloc(), name, Role::Receiver)?)?;
+    to.apply(rt, ops::grant(link, 10))?;
     exchange(rt, from, to)?;
-    from.apply(rt, &start(rt.alloc(), link)?)?;
+    from.apply(rt, start(rt.alloc(), link)?)?;
     exchange(rt, from, to)?;
-    to.apply(rt, &ops::take(link))?;
-    to.apply(rt, &ops::accept(0))?;
+    to.apply(rt, ops::take(link))?;
+    to.apply(rt, ops::accept(0))?;
     exchange(rt, from, to)?;
-    from.apply(rt, &ops::learn(link))
+    from.apply(rt, ops::learn(link))
 }
 
 /// One end, and its name.
@@ -67,8 +67,10 @@ impl End {
     }
 
     /// Does the operation, and tells what it gave.
-    pub fn apply<R: Print>(&mut self, rt: &R, op: &Op) -> anyhow::Result<()> {
-        let given = self.conn.apply(op)?;
+    pub fn apply<R: Print>(&mut self, rt: &R, op: Op) -> anyhow::Result<()> {
+        let answer = self.conn.apply(&op);
+        drop(op);
+        let given = answer?;
         tell(rt, self.name, &given)
     }
 
@@ -142,7 +144,8 @@ fn tell<R: Print>(rt: &R, name: &str, given: &Given) -> anyhow::Result<()> {
         | Given::Gone(_)
         | Given::Delivery(_)
         | Given::Suspended(_)
-        | Given::Parted(_, _) => Ok(()),
+        | Given::Parted(_, _)
+        | Given::Resumed(_) => Ok(()),
     }
 }
 

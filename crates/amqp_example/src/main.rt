@@ -6,6 +6,7 @@
 //! | `session` | `amqp_journal`: operations and heard frames in, frames to send out |
 //! | `first` | `amqp_conn`: a message sent to a peer, in some lines |
 //! | `connection` | `amqp_conn`: octets in, octets out |
+//! | `rejoined` | `amqp_conn`: a link that goes on over several connections |
 //! | `shared` | `amqp_shared`: two threads send on one connection |
 //! | `operations` | the operations that these do |
 //!
@@ -16,6 +17,7 @@ mod codec;
 mod connection;
 mod first;
 mod operations;
+mod rejoined;
 mod session;
 mod shared;
 
@@ -41,5 +43,6 @@ fn run<R: AllocGlobal + Print + Threads + Wait + Sync>(rt: &R) -> anyhow::Result
     session::run(rt)?;
     first::send_first(rt)?;
     connection::run(rt)?;
+    rejoined::run(rt)?;
     shared::run(rt)
 }

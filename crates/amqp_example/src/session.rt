@@ -16,23 +16,31 @@ const UNITS: u32 = 8;
 
 /// A message is sent, taken, accepted and settled.
 pub fn run<R: AllocGlobal + Print>(rt: &R) -> anyhow::Result<()> {
+    let mut sender = End::new(rt.alloc(), "sender")?;
+    let mut receiver = End::new(rt.alloc(), "receiver")?;
+    talk(rt, &mut sender, &mut receiver)
+}
+
+fn talk<R: AllocGlobal + Print>(
+    rt: &R,
+    sender: &mut End,
+    receiver: &mut End,
+) -> anyhow::Result<()> {
     let alloc = rt.alloc();
-    let mut sender = End::new(alloc, "sender")?;
-    let mut receiver = End::new(alloc, "receiver")?;
-    sender.apply(rt, &ops::begin())?;
-    exchange(rt, &mut sender, &mut receiver)?;
-    receiver.apply(rt, &ops::begin())?;
-    exchange(rt, &mut sender, &mut receiver)?;
-    sender.apply(rt, &attach(alloc, "news", Role::Sender)?)?;
-    receiver.apply(rt, &attach(alloc, "news", Role::Receiver)?)?;
-    exchange(rt, &mut sender, &mut receiver)?;
+    sender.apply(rt, ops::begin())?;
+    exchange(rt, sender, receiver)?;
+    receiver.apply(rt, ops::begin())?;
+    exchange(rt, sender, receiver)?;
+    sender.apply(rt, attach(alloc, "news", Role::Sender)?)?;
+    receiver.apply(rt, attach(alloc, "news", Role::Receiver)?)?;
+    exchange(rt, sender, receiver)?;
     // The link has no credit yet. A refusal has changed nothing, so the same operation may be tried again.
-    sender.apply(rt, &start(alloc, 0)?)?;
-    receiver.apply(rt, &ops::grant(0, 10))?;
-    exchange(rt, &mut sender, &mut receiver)?;
-    sender.apply(rt, &start(alloc, 0)?)?;
-    exchange(rt, &mut sender, &mut receiver)?;
-    settle(rt, &mut sender, &mut receiver)
+    sender.apply(rt, start(alloc, 0)?)?;
+    receiver.apply(rt, ops::grant(0, 10))?;
+    exchange(rt, sender, receiver)?;
+    sender.apply(rt, start(alloc, 0)?)?;
+    exchange(rt, sender, receiver)?;
+    settle(rt, sender, receiver)
 }
 
 /// The receiver takes the message and accepts it; the sender learns of it.
@@ -41,10 +49,10 @@ fn settle<R: AllocGlobal + Print>(
     sender: &mut End,
     receiver: &mut End,
 ) -> anyhow::Result<()> {
-    receiver.apply(rt, &ops::take(0))?;
-    receiver.apply(rt, &ops::accept(0))?;
+    receiver.apply(rt, ops::take(0))?;
+    receiver.apply(rt, ops::accept(0))?;
     exchange(rt, sender, receiver)?;
-    sender.apply(rt, &ops::learn(0))?;
+    sender.apply(rt, ops::learn(0))?;
     sender.tell_steps(rt)?;
     receiver.tell_steps(rt)
 }
@@ -75,8 +83,10 @@ impl End {
     }
 
     /// Does an operation. What is to be sent waits as a unit.
-    fn apply<R: Print>(&mut self, rt: &R, op: &Op) -> anyhow::Result<()> {
-        match self.logged.apply(op) {
+    fn apply<R: Print>(&mut self, rt: &R, op: Op) -> anyhow::Result<()> {
+        let answer = self.logged.apply(&op);
+        drop(op);
+        match answer {
             Ok(given) => self.tell(rt, &given),
             Err(refusal) => Ok(println!(rt; "{}: refused, {refusal}", self.name)?),
         }
@@ -108,6 +118,7 @@ impl End {
             Given::Attached(link) => Ok(println!(rt; "{name}: link {link} is attached")?),
             Given::Gone(link) => Ok(println!(rt; "{name}: link {link} is gone")?),
             Given::Suspended(_) => Ok(println!(rt; "{name}: a link is put aside")?),
+            Given::Resumed(_) => Ok(println!(rt; "{name}: a delivery is resumed")?),
             Given::Parted(link, _) => Ok(println!(rt;
                 "{name}: link {link} is put aside by the peer"
             )?),

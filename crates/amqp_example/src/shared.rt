@@ -4,8 +4,9 @@ ghost use Rattle.amqp_shared.specs.Passes.{IsNamed};
 use crate::connection::End;
 use crate::operations::attach;
 use amqp_conn::{Bytes, Config, Op, Role, Tag, Text, ops};
-use amqp_shared::{Name, Pass, Seed, Shared, WriterEnd, open_shared};
+use amqp_shared::{Closed, Name, NotClosed, Pass, Seed, Shared, WriterEnd, open_shared};
 use anyhow::{Context, anyhow, ensure};
+use std::alloc::Global;
 use std::marker::Brand;
 use std::sync::Wait;
 use std::thread;
@@ -36,12 +37,34 @@ fn talk<N: Name + Send + Sync, R: AllocGlobal + Print + Threads + Wait + Sync>(
     requires { IsNamed seed N.name N.parts N.ring }
 {
     let (shared, mut pass, mut writer) = open_shared::<N>(seed);
-    begin(rt, &shared, &mut pass, &mut writer, peer)?;
+    match speak(rt, &shared, &mut pass, &mut writer, peer) {
+        Ok((first, second)) => close(rt, shared, writer, pass, first, second),
+        Err(error) => Err(error),
+    }
+}
+
+/// Two threads send, each with a pass of its own, which it gives back.
+fn speak<N: Name + Send + Sync, R: AllocGlobal + Print + Threads + Wait + Sync>(
+    rt: &R,
+    shared: &Shared<N>,
+    pass: &mut Pass<N>,
+    writer: &mut WriterEnd<N>,
+    peer: &mut End,
+) -> anyhow::Result<(Pass<N>, Pass<N>)> {
+    begin(rt, shared, pass, writer, peer)?;
+    let (first, second) = split(pass)?;
+    let (first, second) = send_by_two(rt, shared, first, second);
+    match exchange(rt, shared, pass, writer, peer) {
+        Ok(()) => Ok((first, second)),
+        Err(error) => Err(error),
+    }
+}
+
+/// Two passes, split off this one.
+fn split<N: Name>(pass: &mut Pass<N>) -> anyhow::Result<(Pass<N>, Pass<N>)> {
     let first = pass.split().context("a pass of 65536 parts can be split")?;
     let second = pass.split().context("a pass of 65535 parts can be split")?;
-    let (first, second) = send_by_two(rt, &shared, first, second);
-    exchange(rt, &shared, &mut pass, &mut writer, peer)?;
-    close(rt, shared, writer, pass, first, second)
+    Ok((first, second))
 }
 
 /// A session, and a link on which the peer has given credit for ten deliveries.
@@ -53,19 +76,14 @@ fn begin<N: Name, R: AllocGlobal + Print + Wait>(
     peer: &mut End,
 ) -> anyhow::Result<()> {
     exchange(rt, shared, pass, writer, peer)?;
-    apply(rt, shared, pass, &ops::begin())?;
+    apply(rt, shared, pass, ops::begin())?;
     exchange(rt, shared, pass, writer, peer)?;
-    peer.apply(rt, &ops::begin())?;
+    peer.apply(rt, ops::begin())?;
     exchange(rt, shared, pass, writer, peer)?;
-    apply(
-        rt,
-        shared,
-        pass,
-        &attach(rt.alloc(), "there", Role::Sender)?,
-    )?;
+    apply(rt, shared, pass, attach(rt.alloc(), "there", Role::Sender)?)?;
     exchange(rt, shared, pass, writer, peer)?;
-    peer.apply(rt, &attach(rt.alloc(), "there", Role::Receiver)?)?;
-    peer.apply(rt, &ops::grant(0, 10))?;
+    peer.apply(rt, attach(rt.alloc(), "there", Role::Receiver)?)?;
+    peer.apply(rt, ops::grant(0, 10))?;
     exchange(rt, shared, pass, writer, peer)
 }
 
@@ -109,17 +127,19 @@ fn send<N: Name, R: AllocGlobal + Wait>(
     let tag_of = Tag::new(&tag).context("a tag has at most 32 octets")?;
     let payload = Bytes::copy_from_slice(rt.alloc(), &tag)?;
     let start = ops::start(0, tag_of, payload);
-    apply(rt, shared, pass, &start)
+    apply(rt, shared, pass, start)
 }
 
 fn apply<N: Name, R: Wait>(
     rt: &R,
     shared: &Shared<N>,
     pass: &mut Pass<N>,
-    op: &Op,
+    op: Op,
 ) -> anyhow::Result<()> {
     let mut guard = shared.lock(rt);
-    match shared.call(&mut guard, pass, op) {
+    let answer = shared.call(&mut guard, pass, &op);
+    drop(op);
+    match answer {
         Ok(_) => Ok(()),
         Err(refusal) => Err(refusal.into()),
     }
@@ -174,14 +194,37 @@ fn close<N: Name, R: AllocGlobal + Print>(
     second: Pass<N>,
 ) -> anyhow::Result<()> {
     let made = [pass.made(), first.made(), second.made()];
-    let mut passes = Vec::new(rt.alloc());
+    match gather(rt.alloc(), pass, first, second) {
+        Ok(passes) => tell(rt, made, shared.close(passes, writer)),
+        Err(error) => Err(error),
+    }
+}
+
+fn gather<N: Name>(
+    alloc: Global,
+    pass: Pass<N>,
+    first: Pass<N>,
+    second: Pass<N>,
+) -> anyhow::Result<Vec<Pass<N>>> {
+    let mut passes = Vec::new(alloc);
     passes.push(pass)?;
     passes.push(first)?;
     passes.push(second)?;
-    let closed = match shared.close(passes, writer) {
-        Ok(closed) => closed,
-        Err(refusal) => return Err(anyhow!("{}", refusal.reason)),
-    };
+    Ok(passes)
+}
+
+fn tell<N: Name, R: Print>(
+    rt: &R,
+    made: [u64; 3],
+    closed: Result<Closed, NotClosed<N>>,
+) -> anyhow::Result<()> {
+    match closed {
+        Ok(closed) => tell_closed(rt, made, &closed),
+        Err(refusal) => Err(anyhow!("{}", refusal.reason)),
+    }
+}
+
+fn tell_closed<R: Print>(rt: &R, made: [u64; 3], closed: &Closed) -> anyhow::Result<()> {
     let steps = closed.conn.logged().steps();
     println!(rt;
         "shared: steps of the passes: {} + {} + {}, of the journal: {steps}",

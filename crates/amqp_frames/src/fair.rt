@@ -76,7 +76,7 @@ pub(crate) fn is_receiver_mode(mode: Option<u8>) -> bool
     }
 }
 
-fn is_tag(tag: &Option<Tag>) -> bool
+pub(crate) fn is_tag(tag: &Option<Tag>) -> bool
     ensures { result ≡ where_present is_tag tag.now }
 {
     match tag {
@@ -94,7 +94,8 @@ pub(crate) fn is_fair_error(failed: &Option<Boxed<AmqpError>>) -> bool
     }
 }
 
-pub(crate) fn is_fair_state(reached: &Option<DeliveryState>) -> bool
+/// Whether a frame could carry the state: its values are there, and one that is none of the five has another descriptor (part 3, 3.4).
+pub fn is_fair_state(reached: &Option<DeliveryState>) -> bool
     ensures { result ≡ where_present is_fair_state reached.now }
 {
     match reached {

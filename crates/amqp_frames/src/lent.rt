@@ -1,24 +1,26 @@
 //! The measures of frames whose bodies own memory, from parts that are lent: so a frame can be refused before anything is copied into its body.
 ghost use Rattle.std.specs.Prelude.{◌≡◌, ℕ, Some, None, []};
-ghost use Rattle.amqp_performatives.specs.Bodies.{attach_fields, disposition_fields, detach_fields, end_fields};
-ghost use Rattle.amqp_performatives.specs.Fair.{is_fair_attach};
+ghost use Rattle.amqp_performatives.specs.Bodies.{attach_fields, transfer_fields, disposition_fields, detach_fields, end_fields};
+ghost use Rattle.amqp_performatives.specs.Fair.{is_fair, is_fair_attach};
 ghost use Rattle.amqp_performatives.specs.Listed.{fields_at};
 ghost use Rattle.amqp_frames.specs.Measuring.{Measures};
-ghost use Rattle.amqp_frames.specs.Lent.{attach_of, disposition_of, detach_of, end_of};
+ghost use Rattle.amqp_frames.specs.Lent.{attach_of, resuming_of, disposition_of, detach_of, end_of};
 
 use crate::fair::{
     any_present, is_fair_begin, is_fair_error, is_fair_open, is_fair_state, is_receiver_mode,
-    is_sender_mode,
+    is_sender_mode, is_tag,
 };
 use crate::fault::FrameRefusal;
 use crate::kinds::measure_open_body;
 use crate::measured::{Measured, measure_list};
-use amqp_performatives::field::{Field, any, boolean, failure, role, state, ubyte, uint, ulong};
+use amqp_performatives::field::{
+    Field, any, boolean, failure, mapping, role, state, ubyte, uint, ulong,
+};
 use amqp_performatives::listed::begin_fields;
 use amqp_performatives::{AmqpError, BeginBody, DeliveryState, OpenBody, Performative, Role};
-use amqp_types::{Boxed, Value};
+use amqp_types::{Boxed, Items, Tag, Value};
 
-/// What an attach says, as `AttachBody`, with its name and its ends lent. Its other fields are absent.
+/// What an attach says, as `AttachBody`, with its name, its ends and its map of unsettled deliveries lent. Its other fields are absent.
 #[derive(Clone, Copy)]
 pub struct AttachParts<'a> {
     pub name: &'a str,
@@ -28,6 +30,7 @@ pub struct AttachParts<'a> {
     pub rcv_settle_mode: Option<u8>,
     pub source: &'a Option<Boxed<Value>>,
     pub target: &'a Option<Boxed<Value>>,
+    pub unsettled: &'a Option<Items<(Value, Value)>>,
     pub initial_delivery_count: Option<u32>,
     pub max_message_size: Option<u64>,
 }
@@ -60,6 +63,28 @@ pub fn measure_open(body: &OpenBody, max: u32) -> Result<Measured, FrameRefusal>
         return Err(FrameRefusal::NotWritable);
     }
     measure_open_body(body, 0, max)
+}
+
+/// What a transfer says that resumes a delivery, as `TransferBody`, with its tag and its state lent. It has no payload, and its other fields are absent
+/// (part 2, 2.6.13 and 2.7.5).
+#[derive(Clone, Copy)]
+pub struct ResumingParts<'a> {
+    pub handle: u32,
+    pub delivery_id: u32,
+    pub delivery_tag: &'a Tag,
+    pub settled: Option<bool>,
+    pub state: &'a Option<DeliveryState>,
+    pub aborted: Option<bool>,
+}
+
+/// As `measure_frame` of a transfer of these parts, on any channel.
+pub fn measure_resuming(parts: &ResumingParts<'_>, max: u32) -> Result<Measured, FrameRefusal>
+    ensures { (channel : ℕ) → Measures result (record { channel = channel; body = Some (Performative.Transfer (resuming_of parts.now)); payload = [] }) max }
+{
+    if !is_fair_resuming(parts) {
+        return Err(FrameRefusal::NotWritable);
+    }
+    measure_list(&resuming_fields(parts), 0, max)
 }
 
 /// As `measure_frame` of a disposition that says this and no `batchable`, on any channel.
@@ -128,12 +153,36 @@ fn attach_fields<'a>(parts: &AttachParts<'a>) -> [Field<'a>; 14]
         ubyte(parts.rcv_settle_mode),
         any(parts.source),
         any(parts.target),
-        Field::Absent,
+        mapping(parts.unsettled),
         Field::Absent,
         uint(parts.initial_delivery_count),
         ulong(parts.max_message_size),
         Field::Absent,
         Field::Absent,
+        Field::Absent,
+    ]
+}
+
+fn is_fair_resuming(parts: &ResumingParts<'_>) -> bool
+    ensures { result ≡ is_fair (Performative.Transfer (resuming_of parts.now)) }
+{
+    is_tag(&Some(*parts.delivery_tag)) && is_fair_state(parts.state)
+}
+
+fn resuming_fields<'a>(parts: &ResumingParts<'a>) -> [Field<'a>; 11]
+    ensures { fields_at result ≡ transfer_fields (resuming_of parts.now) }
+{
+    [
+        Field::Uint(parts.handle),
+        Field::Uint(parts.delivery_id),
+        Field::Binary(parts.delivery_tag.octets()),
+        Field::Absent,
+        boolean(parts.settled),
+        Field::Absent,
+        Field::Absent,
+        state(parts.state),
+        Field::Boolean(true),
+        boolean(parts.aborted),
         Field::Absent,
     ]
 }

@@ -11,7 +11,7 @@
 //! - [`Frame`]: a channel, a performative and a transfer's payload
 //! - Writing: [`write_frame`] into octets of its own; [`append_frame`] behind others, as for a batch. [`measure_frame`] tells without memory whether
 //!   and in how many octets a frame is written, and [`write_measured`] writes it then; [`frame_refusal`] tells the refusal alone.
-//! - Measures before a body is made, from lent parts: [`measure_open`], [`measure_begin`], [`measure_attach`], [`measure_disposition`], [`measure_detach`], [`measure_end`]
+//! - Measures before a body is made, from lent parts: [`measure_open`], [`measure_begin`], [`measure_attach`], [`measure_resuming`], [`measure_disposition`], [`measure_detach`], [`measure_end`]
 //! - Reading: [`Framer`] takes pieces of a stream, by `feed`, `feed_shared` or `feed_all`, and tells a [`FrameFault`]
 //! - Laws: [`written_is_framed`], [`always_written`], [`one_answer`], [`one_frame`], [`cutting`]
 #![tactic(auto)]
@@ -40,14 +40,15 @@ pub use amqp_performatives::{
     EndBody, FlowBody, OpenBody, Performative, Role, TransferBody,
 };
 pub use append::append_frame;
+pub use fair::is_fair_state;
 pub use fault::{FrameFault, FrameRefusal};
 pub use filled::Filled;
 pub use frame::Frame;
 pub use framer::Framer;
 pub use laws::{always_written, cutting, one_answer, one_frame};
 pub use lent::{
-    AttachParts, measure_attach, measure_begin, measure_detach, measure_disposition, measure_end,
-    measure_open,
+    AttachParts, ResumingParts, measure_attach, measure_begin, measure_detach, measure_disposition,
+    measure_end, measure_open, measure_resuming,
 };
 pub use measured::{Measured, frame_refusal, measure_frame};
 pub use stream::Stopped;

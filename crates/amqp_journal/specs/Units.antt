@@ -50,6 +50,7 @@ given_link (given.Taken t) = Some t.link
 given_link (given.Learned t) = Some t.link
 given_link (given.Parted k s) = Some k
 given_link (given.Suspended s) = None
+given_link (given.Resumed r) = None
 given_link (given.Delivery id) = None
 given_link given.Nothing = None
 
@@ -62,6 +63,7 @@ given_id (given.Link k) = None
 given_id (given.Offered k) = None
 given_id (given.Attached k) = None
 given_id (given.Gone k) = None
+given_id (given.Resumed r) = r.id
 given_id (given.Suspended s) = None
 given_id (given.Parted k s) = None
 given_id given.Nothing = None

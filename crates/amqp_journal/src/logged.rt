@@ -1,5 +1,5 @@
 //! An endpoint with the journal of its steps and the units that wait.
-ghost use Rattle.std.specs.Prelude.{ℕ, List, ◌≡◌, ◌≢◌, ◌<◌, ◌≤◌, ◌^◌, ◌⊎◌, ◌+◌, ◌++◌, ◌∷◌, ◌↔◌, length, [], drop, take, find, remove, map, vec_len, vec_capacity, option_to_list, Option, Some, None, Ok, IsTrue, IfErr, IfSome, IfNone, OnOk, OnErr, IfOk, slice_get};
+ghost use Rattle.std.specs.Prelude.{ℕ, List, ◌≡◌, ◌≢◌, ◌<◌, ◌≤◌, ◌^◌, ◌⊎◌, ◌+◌, ◌-◌, ◌++◌, ◌∷◌, ◌↔◌, length, [], drop, take, find, remove, map, vec_len, vec_capacity, option_to_list, Option, Some, None, Ok, IsTrue, IfErr, IfSome, IfNone, OnOk, OnErr, IfOk, slice_get};
 ghost use Rattle.std.specs.VecDeque.{deque_len, deque_capacity};
 ghost use Rattle.amqp_rules.specs.declared.config.Config.{Config};
 ghost use Rattle.amqp_rules.specs.Limits.{IsWithinLimits};
@@ -131,6 +131,16 @@ impl Logged {
         ensures { result ≡ length self.now.journal }
     {
         self.endpoint.steps()
+    }
+
+    /// How many steps more it takes: each that was accepted counts against the limit, also where it was forgotten. At 0 all is refused, so a busy program
+    /// goes on with its links over another connection before.
+    pub fn steps_left(&self) -> u32
+        ensures { result ≡ self.now.config.journal_limit - length self.now.journal }
+    {
+        self.config
+            .journal_limit
+            .saturating_sub(self.endpoint.steps())
     }
 
     /// The endpoint, as it stands.

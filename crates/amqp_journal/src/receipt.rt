@@ -39,7 +39,7 @@ pub(crate) fn link_of(given: &Given) -> Option<u32>
         | Given::Parted(link, _) => Some(*link),
         Given::Taken(taken) => Some(taken.get().link),
         Given::Learned(learned) => Some(learned.get().link),
-        Given::Delivery(_) | Given::Suspended(_) | Given::Nothing => None,
+        Given::Delivery(_) | Given::Suspended(_) | Given::Resumed(_) | Given::Nothing => None,
     }
 }
 
@@ -51,6 +51,7 @@ pub(crate) fn id_of(given: &Given) -> Option<u32>
         Given::Delivery(id) | Given::Ready(_, id) => Some(*id),
         Given::Taken(taken) => Some(taken.get().id),
         Given::Learned(learned) => Some(learned.get().id),
+        Given::Resumed(resumed) => resumed.get().id,
         Given::Link(_)
         | Given::Offered(_)
         | Given::Attached(_)

@@ -1,5 +1,6 @@
 -- Nothing was told of a link that is to come.
-use Rattle.std.proofs.Common.{◌≡◌, ◌<◌, ◌≤◌, ℕ, ◌&&◌, Bool, true, false, not, cond, Option, Some, None, List, [], ◌∷◌, ◌++◌, length, map, filter, find, drop, refl, sym, ap, ◌∙◌, arith, eqb, length-append}
+use Rattle.amqp_waiting.specs.Waiting.{WaitingItem, waits_as}
+use Rattle.std.proofs.Common.{◌≡◌, ◌<◌, ◌≤◌, ℕ, ◌&&◌, Bool, true, false, not, cond, Option, Some, None, List, [], ◌∷◌, ◌++◌, length, map, filter, find, drop, refl, sym, ap, ◌∙◌, arith, eqb, length-append, ◌||◌, ◌==◌}
 use Rattle.std.specs.List.{cons_option}
 use Rattle.std.proofs.lemmas.Bool.{eqb-true}
 use Rattle.amqp_performatives.specs.declared.bodies.DispositionBody.{DispositionBody}
@@ -9,10 +10,10 @@ use Rattle.amqp_performatives.specs.declared.performative.Performative.{Performa
 use Rattle.amqp_performatives.specs.declared.performative.Performative.TheVariants as heard
 use Rattle.amqp_rules.specs.declared.config.Config.{Config}
 use Rattle.amqp_rules.specs.declared.op.Op.{Op}
-use Rattle.amqp_rules.specs.declared.op.Op.TheVariants.{Start, Carry, Abort, Dispose}
-use Rattle.amqp_rules.specs.View.{LinkView, SendingView, has_number, has_peer_handle, is_over, next_delivery, change_first}
+use Rattle.amqp_rules.specs.declared.op.Op.TheVariants.{Start, Carry, Abort, Dispose, Resume}
+use Rattle.amqp_rules.specs.View.{LinkView, SendingView, has_number, has_peer_handle, is_over, next_delivery, change_first, rcv_mode}
 use Rattle.amqp_rules.specs.Sound.{Every}
-use Rattle.amqp_rules.specs.Deliveries.{begun_on, continued_on, sending_on, said_of, heard_of, left_by_peer}
+use Rattle.amqp_rules.specs.Deliveries.{begun_on, continued_on, sending_on, said_of, heard_of, left_by_peer, resumed_on, resumed_as, is_sent_anew, is_partial}
 use Rattle.amqp_rules.proofs.Listed.{by-bool, length-changed}
 use Rattle.amqp_events.specs.Event.{Disposition, Event, Item, Begins, Continues, PassesOver, Says, Hears, Leaves, Over, Learns, Takes, Nothing}
 use Rattle.amqp_events.specs.Unsettled.{begins, ends}
@@ -66,6 +67,20 @@ begun-below m id k tag settled links None h below = tt
 begun-below m id k tag true links (Some l) h below = tt
 begun-below m id k tag false links (Some l) h below = (below l h, tt)
 
+item-below : (m id k : ℕ) (settled : Bool) (l : LinkView) (o : Option WaitingItem) → k < m → AreBelow m (added_sent (begins (resumed_as id k settled l o)))
+item-below m id k settled l None h = tt
+item-below m id k settled l (Some w) h = by (is_sent_anew w) (settled || is_partial w)
+  where
+    by : (b over : Bool) → AreBelow m (added_sent (begins (cond b (Begins (record { id = id; link = k; tag = w.tag; second = rcv_mode l == 1; local = w.state; remote = w.theirs }) (not over)) Nothing)))
+    by true true = tt
+    by true false = (h, tt)
+    by false over = tt
+
+resumed-below : (m id k : ℕ) (tag : List ℕ) (settled : Bool) (links : List LinkView) (o : Option LinkView) → find (has_number k) links ≡ o
+    → ((on : LinkView) → find (has_number k) links ≡ Some on → k < m) → AreBelow m (added_sent (begins (resumed_on id k tag settled o)))
+resumed-below m id k tag settled links None h below = tt
+resumed-below m id k tag settled links (Some l) h below = item-below m id k settled l (find (waits_as tag) l.waiting) (below l h)
+
 continued-below : (m : ℕ) (over : Bool) (o : Option SendingView) → AreBelow m (added_sent (begins (continued_on over o)))
 continued-below m over None = tt
 continued-below m over (Some d) = tt
@@ -97,6 +112,8 @@ own-below c past (Start link tag format settled payload more) =
 own-below c past (Carry link payload more) = continued-below (length (link_pasts past)) false (sending_on (find (has_number link) (links_at past)))
 own-below c past (Abort link) = continued-below (length (link_pasts past)) true (sending_on (find (has_number link) (links_at past)))
 own-below c past (Dispose role first last settled state) = said-below (length (link_pasts past)) role (record { first = first; last = last; settled = settled; state = state })
+own-below c past (Resume link tag settled) =
+    resumed-below (length (link_pasts past)) (next_delivery (base c 0 past)) link tag settled (links_at past) (find (has_number link) (links_at past)) refl (there-below past link)
 own-below c past _ = tt
 
 body-below : (c : Config) (past : List Entry) (channel : ℕ) (body : Option Performative) (payload : List ℕ)

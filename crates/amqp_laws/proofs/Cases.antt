@@ -146,7 +146,7 @@ random_002 : short_lines_of (record { first_id = 4294967294; window = 2048; jour
     ∷ ask_link 4
     ∷ ask_held Sender
     ∷ ask_held Receiver ∷ [])
-    ≡ (held (record { id = 4294967295; link = 0; tag = (200 ∷ 219 ∷ []); second = false; local = None; remote = None } ∷ []) ∷ held ([]) ∷ link None ∷ link (Some (record { role = Receiver; phase = phase.Attached; count = 0; credit = 0; drain = false; mid = false; ready = 0 })) ∷ link (Some (record { role = Receiver; phase = phase.Offered; count = 0; credit = 0; drain = false; mid = false; ready = 0 })) ∷ link None ∷ link (Some (record { role = Receiver; phase = phase.Attached; count = 1; credit = 4; drain = false; mid = false; ready = 0 })) ∷ windows (record { next_in = (Some 1); incoming = 2047; next_out = 4294967294; remote_in = 2048; remote_out = 4294967294; next_delivery = 4294967294 }) ∷ ok (given.Taken (record { id = 4294967295; link = 0; tag = (200 ∷ 219 ∷ []); format = 0; payload = (120 ∷ 120 ∷ 120 ∷ 120 ∷ 120 ∷ 120 ∷ 120 ∷ 120 ∷ 120 ∷ 120 ∷ 120 ∷ 120 ∷ 120 ∷ 120 ∷ 120 ∷ 120 ∷ 120 ∷ 120 ∷ 120 ∷ 120 ∷ 120 ∷ 120 ∷ 120 ∷ 120 ∷ 120 ∷ 120 ∷ 120 ∷ 120 ∷ 120 ∷ 120 ∷ 120 ∷ 120 ∷ 120 ∷ 120 ∷ 120 ∷ 120 ∷ 120 ∷ 120 ∷ 120 ∷ 120 ∷ 120 ∷ 120 ∷ 120 ∷ 120 ∷ 120 ∷ 120 ∷ 120 ∷ 120 ∷ 120 ∷ 120 ∷ 120 ∷ 120 ∷ 120 ∷ 120 ∷ 120 ∷ 120 ∷ 120 ∷ 120 ∷ 120 ∷ 120 ∷ 120 ∷ 120 ∷ 120 ∷ 120 ∷ 120 ∷ 120 ∷ 120 ∷ 120 ∷ 120 ∷ 120 ∷ 120 ∷ 120 ∷ 120 ∷ 120 ∷ 120 ∷ 120 ∷ 120 ∷ 120 ∷ 120 ∷ 120 ∷ 120 ∷ 120 ∷ 120 ∷ 120 ∷ 120 ∷ 120 ∷ 120 ∷ 120 ∷ 120 ∷ 120 ∷ 120 ∷ 120 ∷ 120 ∷ 120 ∷ 120 ∷ 120 ∷ 120 ∷ 120 ∷ 120 ∷ 120 ∷ 120 ∷ 120 ∷ 120 ∷ 120 ∷ 120 ∷ 120 ∷ 120 ∷ 120 ∷ 120 ∷ 120 ∷ 120 ∷ 120 ∷ 120 ∷ 120 ∷ 120 ∷ 120 ∷ 120 ∷ 120 ∷ 120 ∷ 120 ∷ 120 ∷ 120 ∷ 120 ∷ 120 ∷ 120 ∷ 120 ∷ 120 ∷ 120 ∷ 120 ∷ 120 ∷ 120 ∷ 120 ∷ 120 ∷ 120 ∷ 120 ∷ 120 ∷ 120 ∷ 120 ∷ 120 ∷ 120 ∷ 120 ∷ 120 ∷ 120 ∷ 120 ∷ 120 ∷ 120 ∷ 120 ∷ 120 ∷ 120 ∷ 120 ∷ 120 ∷ 120 ∷ 120 ∷ 120 ∷ 120 ∷ 120 ∷ 120 ∷ 120 ∷ 120 ∷ 120 ∷ 120 ∷ 120 ∷ 120 ∷ 120 ∷ 120 ∷ 120 ∷ 120 ∷ 120 ∷ 120 ∷ 120 ∷ 120 ∷ 120 ∷ 120 ∷ 120 ∷ 120 ∷ 120 ∷ 120 ∷ 120 ∷ 120 ∷ 120 ∷ 120 ∷ 120 ∷ 120 ∷ 120 ∷ 120 ∷ 120 ∷ 120 ∷ 120 ∷ 120 ∷ 120 ∷ 120 ∷ 120 ∷ 120 ∷ 120 ∷ 120 ∷ 120 ∷ 120 ∷ 120 ∷ 120 ∷ 120 ∷ 120 ∷ 120 ∷ 120 ∷ 120 ∷ 120 ∷ 120 ∷ 120 ∷ 120 ∷ 120 ∷ 120 ∷ 120 ∷ 120 ∷ 120 ∷ 120 ∷ 120 ∷ 120 ∷ 120 ∷ 120 ∷ 120 ∷ 120 ∷ 120 ∷ 120 ∷ 120 ∷ 120 ∷ 120 ∷ 120 ∷ 120 ∷ 120 ∷ 120 ∷ 120 ∷ 120 ∷ 120 ∷ 120 ∷ 120 ∷ 120 ∷ 120 ∷ 120 ∷ 120 ∷ 120 ∷ 120 ∷ 120 ∷ 120 ∷ 120 ∷ 120 ∷ 120 ∷ 120 ∷ 120 ∷ 120 ∷ 120 ∷ 120 ∷ 120 ∷ 120 ∷ 120 ∷ 120 ∷ 120 ∷ 120 ∷ 120 ∷ 120 ∷ 120 ∷ 120 ∷ 120 ∷ 120 ∷ 120 ∷ 120 ∷ 120 ∷ 120 ∷ 120 ∷ 120 ∷ 120 ∷ 120 ∷ 120 ∷ 120 ∷ 120 ∷ 120 ∷ 120 ∷ 120 ∷ 120 ∷ 120 ∷ 120 ∷ 120 ∷ 120 ∷ 120 ∷ 120 ∷ 120 ∷ 120 ∷ 120 ∷ 120 ∷ 120 ∷ 120 ∷ 120 ∷ 120 ∷ 120 ∷ 120 ∷ 120 ∷ 120 ∷ 120 ∷ 120 ∷ 120 ∷ 120 ∷ 120 ∷ 120 ∷ 120 ∷ 120 ∷ 120 ∷ 120 ∷ 120 ∷ 120 ∷ 120 ∷ 120 ∷ 120 ∷ 120 ∷ 120 ∷ 120 ∷ 120 ∷ 120 ∷ 120 ∷ 120 ∷ 120 ∷ 120 ∷ 120 ∷ 120 ∷ 120 ∷ 120 ∷ 120 ∷ 120 ∷ 120 ∷ 120 ∷ 120 ∷ 120 ∷ 120 ∷ 120 ∷ 120 ∷ 120 ∷ 120 ∷ 120 ∷ 120 ∷ 120 ∷ 120 ∷ 120 ∷ 120 ∷ 120 ∷ 120 ∷ 120 ∷ 120 ∷ 120 ∷ 120 ∷ 120 ∷ 120 ∷ 120 ∷ 120 ∷ 120 ∷ 120 ∷ 120 ∷ 120 ∷ 120 ∷ 120 ∷ 120 ∷ 120 ∷ 120 ∷ 120 ∷ 120 ∷ 120 ∷ 120 ∷ 120 ∷ 120 ∷ 120 ∷ 120 ∷ 120 ∷ 120 ∷ 120 ∷ 120 ∷ 120 ∷ 120 ∷ 120 ∷ 120 ∷ 120 ∷ 120 ∷ 120 ∷ 120 ∷ 120 ∷ 120 ∷ 120 ∷ 120 ∷ 120 ∷ 120 ∷ 120 ∷ 120 ∷ 120 ∷ 120 ∷ 120 ∷ 120 ∷ 120 ∷ 120 ∷ 120 ∷ 120 ∷ 120 ∷ 120 ∷ 120 ∷ 120 ∷ 120 ∷ 120 ∷ 120 ∷ 120 ∷ 120 ∷ 120 ∷ 120 ∷ 120 ∷ 120 ∷ 120 ∷ 120 ∷ 120 ∷ 120 ∷ 120 ∷ 120 ∷ 120 ∷ 120 ∷ 120 ∷ 120 ∷ 120 ∷ 120 ∷ 120 ∷ 120 ∷ 120 ∷ 120 ∷ 120 ∷ 120 ∷ 120 ∷ 120 ∷ 120 ∷ 120 ∷ 120 ∷ 120 ∷ 120 ∷ 120 ∷ 120 ∷ 120 ∷ 120 ∷ 120 ∷ 120 ∷ 120 ∷ 120 ∷ 120 ∷ 120 ∷ 120 ∷ 120 ∷ 120 ∷ 120 ∷ 120 ∷ 120 ∷ 120 ∷ 120 ∷ 120 ∷ 120 ∷ 120 ∷ 120 ∷ 120 ∷ 120 ∷ 120 ∷ 120 ∷ 120 ∷ 120 ∷ 120 ∷ 120 ∷ 120 ∷ 120 ∷ 120 ∷ 120 ∷ 120 ∷ 120 ∷ 120 ∷ 120 ∷ 120 ∷ 120 ∷ 120 ∷ 120 ∷ 120 ∷ 120 ∷ 120 ∷ 120 ∷ 120 ∷ 120 ∷ []); settled = false; second = false })) ([]) ([]) ∷ violated 9 ∷ ok given.Nothing ([]) ([]) ∷ ok (given.Ready 0 4294967295) ([]) ([]) ∷ ok given.Nothing ([]) ([] ∷ []) ∷ ok (given.Link 3) ([]) ([] ∷ []) ∷ ok given.Nothing ([]) ([] ∷ []) ∷ ok (given.Offered 3) ([]) ([]) ∷ ok given.Nothing ([]) ([]) ∷ link (Some (record { role = Receiver; phase = phase.Offered; count = 0; credit = 0; drain = false; mid = false; ready = 0 })) ∷ violated 8 ∷ ok given.Nothing ([]) ([] ∷ []) ∷ ok (given.Gone 1) ([]) ([]) ∷ ok given.Nothing ([]) ([]) ∷ ok (given.Taken (record { id = 4294967294; link = 0; tag = (195 ∷ 26 ∷ []); format = 0; payload = (120 ∷ 120 ∷ []); settled = true; second = false })) ([]) ([]) ∷ ok given.Nothing ([]) ([] ∷ []) ∷ link (Some (record { role = Receiver; phase = phase.Offered; count = 0; credit = 0; drain = false; mid = false; ready = 0 })) ∷ ok given.Nothing ([]) ([] ∷ []) ∷ windows (record { next_in = (Some 1738859353); incoming = 2047; next_out = 4294967294; remote_in = 2048; remote_out = 0; next_delivery = 4294967294 }) ∷ violated 14 ∷ windows (record { next_in = (Some 1738859353); incoming = 2047; next_out = 4294967294; remote_in = 2048; remote_out = 0; next_delivery = 4294967294 }) ∷ ok given.Nothing ([]) ([]) ∷ held ([]) ∷ ok (given.Ready 0 4294967294) ([]) ([]) ∷ refused 7 ∷ refused 18 ∷ ok (given.Offered 2) ([]) ([]) ∷ refused 9 ∷ ok given.Nothing ([]) ([] ∷ []) ∷ ok (given.Attached 1) ([]) ([]) ∷ ok (given.Link 1) ([]) ([] ∷ []) ∷ ok given.Nothing ([]) ([] ∷ []) ∷ ok (given.Attached 0) ([]) ([]) ∷ ok (given.Link 0) ([]) ([] ∷ []) ∷ ok given.Nothing ([]) ([]) ∷ ok given.Nothing ([]) ([] ∷ []) ∷ ok given.Nothing ([]) ([]) ∷ [])
+    ≡ (held ([]) ∷ held ([]) ∷ link None ∷ link (Some (record { role = Receiver; phase = phase.Attached; count = 0; credit = 0; drain = false; mid = false; ready = 0 })) ∷ link (Some (record { role = Receiver; phase = phase.Offered; count = 0; credit = 0; drain = false; mid = false; ready = 0 })) ∷ link None ∷ link (Some (record { role = Receiver; phase = phase.Attached; count = 1; credit = 4; drain = false; mid = false; ready = 0 })) ∷ windows (record { next_in = (Some 1); incoming = 2047; next_out = 4294967294; remote_in = 2048; remote_out = 4294967294; next_delivery = 4294967294 }) ∷ refused 25 ∷ violated 9 ∷ ok given.Nothing ([]) ([]) ∷ ok given.Nothing ([]) ([]) ∷ ok given.Nothing ([]) ([] ∷ []) ∷ ok (given.Link 3) ([]) ([] ∷ []) ∷ ok given.Nothing ([]) ([] ∷ []) ∷ ok (given.Offered 3) ([]) ([]) ∷ ok given.Nothing ([]) ([]) ∷ link (Some (record { role = Receiver; phase = phase.Offered; count = 0; credit = 0; drain = false; mid = false; ready = 0 })) ∷ violated 8 ∷ ok given.Nothing ([]) ([] ∷ []) ∷ ok (given.Gone 1) ([]) ([]) ∷ ok given.Nothing ([]) ([]) ∷ ok (given.Taken (record { id = 4294967294; link = 0; tag = (195 ∷ 26 ∷ []); format = 0; payload = (120 ∷ 120 ∷ []); settled = true; second = false })) ([]) ([]) ∷ ok given.Nothing ([]) ([] ∷ []) ∷ link (Some (record { role = Receiver; phase = phase.Offered; count = 0; credit = 0; drain = false; mid = false; ready = 0 })) ∷ ok given.Nothing ([]) ([] ∷ []) ∷ windows (record { next_in = (Some 1738859353); incoming = 2047; next_out = 4294967294; remote_in = 2048; remote_out = 0; next_delivery = 4294967294 }) ∷ violated 14 ∷ windows (record { next_in = (Some 1738859353); incoming = 2047; next_out = 4294967294; remote_in = 2048; remote_out = 0; next_delivery = 4294967294 }) ∷ ok given.Nothing ([]) ([]) ∷ held ([]) ∷ ok (given.Ready 0 4294967294) ([]) ([]) ∷ refused 7 ∷ refused 18 ∷ ok (given.Offered 2) ([]) ([]) ∷ refused 9 ∷ ok given.Nothing ([]) ([] ∷ []) ∷ ok (given.Attached 1) ([]) ([]) ∷ ok (given.Link 1) ([]) ([] ∷ []) ∷ ok given.Nothing ([]) ([] ∷ []) ∷ ok (given.Attached 0) ([]) ([]) ∷ ok (given.Link 0) ([]) ([] ∷ []) ∷ ok given.Nothing ([]) ([]) ∷ ok given.Nothing ([]) ([] ∷ []) ∷ ok given.Nothing ([]) ([]) ∷ [])
 unfolding octets_of frame_refused canon spelled class_of is_utf8 chars encode
 random_002 = refl
 

@@ -1,5 +1,10 @@
 -- No delivery begins without credit, at either end.
-use Rattle.std.proofs.Common.{◌≡◌, ℕ, ◌<◌, eqb, Bool, true, false, not, Option, None, Some, Ok, List, [], ◌∷◌, ◌++◌, find, refl, ap, sym, ◌∙◌, subst, arith}
+use Rattle.amqp_rules.specs.declared.refusal.Refusal.{Refusal}
+use Rattle.amqp_rules.specs.declared.refusal.Refusal.TheVariants.{NotWaiting, Unclear as Not_clear}
+use Rattle.amqp_waiting.specs.Waiting.{WaitingItem, waits_as}
+use Rattle.amqp_rules.specs.Resume.{unless_refused, resume_answer, resume_sends, early_refusals, resume_refusals, resume_item, resume_body, resumed_to, outcome_of, is_unclear, absent_reply, resume_begins, item_sends}
+use Rattle.amqp_rules.specs.Deliveries.{is_sent_anew}
+use Rattle.std.proofs.Common.{◌≡◌, ℕ, ◌<◌, eqb, Bool, true, false, not, Option, None, Some, Ok, List, [], ◌∷◌, ◌++◌, find, refl, ap, sym, ◌∙◌, subst, arith, Result, Err, cond}
 use Rattle.std.proofs.lemmas.Bool.{eqb-false}
 use Rattle.std.proofs.lemmas.List.{reverse-append}
 use Rattle.std.proofs.Common.{append_assoc}
@@ -7,7 +12,7 @@ use Rattle.amqp_performatives.specs.declared.bodies.TransferBody.{TransferBody}
 use Rattle.amqp_performatives.specs.declared.performative.Performative.{Performative}
 use Rattle.amqp_performatives.specs.declared.performative.Performative.TheVariants as heard
 use Rattle.amqp_rules.specs.declared.op.Op.{Op}
-use Rattle.amqp_rules.specs.declared.op.Op.TheVariants.{Start}
+use Rattle.amqp_rules.specs.declared.op.Op.TheVariants.{Start, Resume}
 use Rattle.amqp_rules.specs.declared.reply.Reply.{Reply}
 use Rattle.amqp_rules.specs.declared.reply.Given.TheVariants.{Delivery}
 use Rattle.amqp_rules.specs.declared.violation.ViolationKind.TheVariants.{OutOfSession, BadHandle}
@@ -18,7 +23,7 @@ use Rattle.amqp_rules.specs.Sending.{sends}
 use Rattle.amqp_rules.specs.Start.{start_answer, start_refusals, start_body}
 use Rattle.amqp_rules.specs.PeerTransfer.{transfer_answer, transfer_violations, transfer_reply, delivery_violations}
 use Rattle.amqp_rules.specs.Answer.{heard_answer, is_dropped}
-use Rattle.amqp_rules.proofs.Accepted.{on-link-ok, sends-ok, unless_Ok, there_Ok, answered_Ok, no_refusal, NoneHolds}
+use Rattle.amqp_rules.proofs.Accepted.{on-link-ok, sends-ok, unless_Ok, there_Ok, answered_Ok, no_refusal, NoneHolds, unless_refused_Ok}
 use Rattle.amqp_laws.specs.declared.entry.Entry.{Entry}
 use Rattle.amqp_laws.specs.declared.entry.Step.{Step}
 use Rattle.amqp_laws.specs.declared.entry.Step.TheVariants.{Opened, Own, Heard}
@@ -39,8 +44,35 @@ start-credit v link tag format settled payload more reply h =
     let a = sends-ok v.max_frame (start_refusals v o.on tag settled payload) (start_body (handle_of o.on.ours) id tag format settled more) payload (Delivery id) reply o.said in
     rw o.found (positive o.on.credit.credit a.none_holds.1.1.1.1.1.0)
 
+item-credit : (v : View) (l : LinkView) (settled : Bool) (w : WaitingItem) (reply : Reply) → resume_item v l settled w ≡ Ok reply → is_sent_anew w ≡ true → 0 < l.credit.credit
+item-credit v l settled w reply h anew = by (is_unclear w) (is_sent_anew w) h anew
+  where
+    by : (unclear sent : Bool)
+        → cond unclear (Err Not_clear) (cond sent (resume_sends v l settled w) (Ok absent_reply)) ≡ Ok reply
+        → sent ≡ true → 0 < l.credit.credit
+    by true sent k s = absurd (cc)
+    by false false k s = absurd (cc)
+    by false true k s =
+        let a = sends-ok v.max_frame (resume_refusals v l settled w) (resume_body (handle_of l.ours) (next_delivery v) settled w) [] (resumed_to w.verdict (Some (next_delivery v)) (outcome_of w)) reply k in
+        positive l.credit.credit a.none_holds.1.0
+
+found-credit : (v : View) (l : LinkView) (settled : Bool) (o : Option WaitingItem) (reply : Reply) → if_there o NotWaiting (resume_item v l settled) ≡ Ok reply → item_sends o ≡ true → 0 < l.credit.credit
+found-credit v l settled None reply h anew = absurd (cc)
+found-credit v l settled (Some w) reply h anew = item-credit v l settled w reply h anew
+
+-- a resume that sends something has credit
+resume-credit : (v : View) (link : ℕ) (tag : List ℕ) (settled : Bool) (reply : Reply)
+    → resume_answer v link tag settled ≡ Ok reply → resume_begins tag (find (has_number link) v.links) ≡ true → 0 < credit_of (find (has_number link) v.links)
+resume-credit v link tag settled reply h anew =
+    let say : LinkView → Result Reply Refusal = λ l. unless_refused (first_refusal (early_refusals l)) (if_there (find (waits_as tag) l.waiting) NotWaiting (resume_item v l settled)) in
+    let o = on-link-ok v link say reply h in
+    let item = (unless_refused_Ok (first_refusal (early_refusals o.on)) (if_there (find (waits_as tag) o.on.waiting) NotWaiting (resume_item v o.on settled)) reply o.said).1 in
+    let anew' : resume_begins tag (Some o.on) ≡ true = ap (resume_begins tag) (sym o.found) ∙ anew in
+    rw o.found (found-credit v o.on settled (find (waits_as tag) o.on.waiting) reply item anew')
+
 own-credit : (v : View) (op : Op) (reply : Reply) → Answers v (Own op) reply → StartsWithCredit v (Own op)
 own-credit v (Start link tag format settled payload more) reply h = start-credit v link tag format settled payload more reply h
+own-credit v (Resume link tag settled) reply h = resume-credit v link tag settled reply h
 own-credit v _ reply h = tt
 
 starts-with : (v : View) (step : Step) (reply : Reply) → Answers v step reply → StartsWithCredit v step

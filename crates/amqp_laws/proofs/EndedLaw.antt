@@ -1,5 +1,8 @@
 -- Each reply names the deliveries that its step ends.
-use Rattle.std.proofs.Common.{◌≡◌, ℕ, ◌||◌, Bool, true, false, not, cond, Option, None, Some, Result, Ok, Err, List, [], ◌∷◌, map, option_map, find, refl, sym}
+use Rattle.amqp_waiting.specs.Waiting.{WaitingItem, waits_as}
+use Rattle.amqp_rules.specs.Rejoin.{rejoined}
+use Rattle.amqp_rules.specs.Resume.{unless_refused, resume_sends, early_refusals, resume_refusals, resume_item, resume_body, resumed_to, outcome_of, is_unclear, absent_reply}
+use Rattle.std.proofs.Common.{◌≡◌, ℕ, ◌||◌, Bool, true, false, not, cond, Option, None, Some, Result, Ok, Err, List, [], ◌∷◌, map, option_map, find, refl, sym, ◌==◌}
 use Rattle.std.specs.Option.{option_or}
 use Rattle.amqp_performatives.specs.declared.bodies.DetachBody.{DetachBody}
 use Rattle.amqp_performatives.specs.declared.bodies.Role.{Role}
@@ -7,17 +10,17 @@ use Rattle.amqp_performatives.specs.declared.bodies.Role.TheVariants.{Sender, Re
 use Rattle.amqp_performatives.specs.declared.performative.Performative.{Performative}
 use Rattle.amqp_performatives.specs.declared.performative.Performative.TheVariants as heard
 use Rattle.amqp_rules.specs.declared.op.Op.{Op}
-use Rattle.amqp_rules.specs.declared.op.Op.TheVariants.{Begin, Attach, Start, Carry, Abort, Dispose, Learn, Grant, Offer, Drained, Refresh, Take, Detach, Suspend, End, Beat}
+use Rattle.amqp_rules.specs.declared.op.Op.TheVariants.{Begin, Attach, Start, Carry, Abort, Dispose, Learn, Grant, Offer, Drained, Refresh, Take, Detach, Suspend, Rejoin, Resume, End, Beat}
 use Rattle.amqp_rules.specs.declared.reply.Reply.{Reply}
 use Rattle.amqp_rules.specs.declared.reply.Given.{Given}
 use Rattle.amqp_rules.specs.declared.refusal.Refusal.{Refusal}
-use Rattle.amqp_rules.specs.declared.refusal.Refusal.TheVariants.{NoLink, WrongRole, NotMapped}
+use Rattle.amqp_rules.specs.declared.refusal.Refusal.TheVariants.{NoLink, WrongRole, NotMapped, NotWaiting, Unclear as Not_clear}
 use Rattle.amqp_rules.specs.declared.violation.ViolationKind.TheVariants.{OutOfSession, BadHandle}
-use Rattle.amqp_rules.specs.View.{View, LinkView, SendingView, has_number, has_peer_handle, handle_of, is_mapped, is_attached, is_ending, is_offered_as, next_delivery, same_role, takes_frames}
+use Rattle.amqp_rules.specs.View.{View, LinkView, SendingView, has_number, has_peer_handle, handle_of, is_mapped, is_attached, is_ending, is_offered_as, next_delivery, same_role, takes_frames, rcv_mode}
 use Rattle.amqp_rules.specs.Refusing.{first_refusal, answered, if_there, unless, unlinked}
 use Rattle.amqp_rules.specs.Sending.{frame_refused, sends, sends_ending, reply_of, reply_ending}
 use Rattle.amqp_rules.specs.OnLink.{on_link}
-use Rattle.amqp_rules.specs.Deliveries.{sent_by_own, sent_by_body, received_by_own, received_by_body, begun_on, continued_on, sending_on, left_by_peer, ended_by, disposition_of}
+use Rattle.amqp_rules.specs.Deliveries.{sent_by_own, sent_by_body, received_by_own, received_by_body, begun_on, continued_on, sending_on, left_by_peer, ended_by, disposition_of, resumed_on, resumed_as, is_sent_anew, is_partial}
 use Rattle.amqp_rules.specs.Take.{take_first}
 use Rattle.amqp_rules.specs.Learn.{learn_first}
 use Rattle.amqp_rules.specs.declared.reply.Given.TheVariants as given
@@ -45,7 +48,7 @@ use Rattle.amqp_rules.specs.PeerDetach.{detach_reply, parting}
 use Rattle.amqp_rules.specs.PeerEnd.{end_reply}
 use Rattle.amqp_rules.specs.PeerTransfer.{transfer_violations, transfer_reply}
 use Rattle.amqp_rules.specs.Answer.{own_answer, body_answer}
-use Rattle.amqp_events.specs.Event.{Item, Disposition, Event, Leaves, Over, Learns, Takes}
+use Rattle.amqp_events.specs.Event.{Item, Disposition, Event, Leaves, Over, Learns, Takes, Begins}
 use Rattle.amqp_events.specs.Event.{Nothing as No_event}
 use Rattle.amqp_events.specs.Joined.{Delivery}
 use Rattle.amqp_events.specs.Told.{Telling, next_sent_held}
@@ -114,10 +117,34 @@ ends-learn l (t ∷ ts) h = sym h
 
 -- # Each kind of step
 
+item-none : (id k : ℕ) (settled : Bool) (l : LinkView) (o : Option WaitingItem) (i : Item) → ends (resumed_as id k settled l o) i ≡ false
+item-none id k settled l None i = refl
+item-none id k settled l (Some w) i = by (is_sent_anew w) (Begins (record { id = id; link = k; tag = w.tag; second = rcv_mode l == 1; local = w.state; remote = w.theirs }) (not (settled || is_partial w))) refl
+  where
+    by : (b : Bool) (e : Event) → ends e i ≡ false → ends (cond b e No_event) i ≡ false
+    by true e h = h
+    by false e h = refl
+
+pub resumed-none : (id k : ℕ) (tag : List ℕ) (settled : Bool) (o : Option LinkView) (i : Item) → ends (resumed_on id k tag settled o) i ≡ false
+resumed-none id k tag settled None i = refl
+resumed-none id k tag settled (Some l) i = item-none id k settled l (find (waits_as tag) l.waiting) i
+
+ends-unless_refused : (l : List (Role × ℕ)) (o : Option Refusal) (a : Result Reply Refusal) → Ends l a → Ends l (unless_refused o a)
+ends-unless_refused l None a h = h
+ends-unless_refused l (Some e) a h = tt
+
+ends-item : (v : View) (l : List (Role × ℕ)) (k : LinkView) (settled : Bool) (w : WaitingItem) → l ≡ [] → Ends l (resume_item v k settled w)
+ends-item v l k settled w none = by (is_unclear w) (is_sent_anew w)
+  where
+    by : (unclear anew : Bool) → Ends l (cond unclear (Err Not_clear) (cond anew (resume_sends v k settled w) (Ok absent_reply)))
+    by true anew = tt
+    by false false = sym none
+    by false true = ends-sends l v.max_frame (resume_refusals v k settled w) (resume_body (handle_of k.ours) (next_delivery v) settled w) [] (resumed_to w.verdict (Some (next_delivery v)) (outcome_of w)) none
+
 pub own-ends : (v : View) (op : Op) → Ends (ended_by (sent_by_own v op) (received_by_own v op) v) (own_answer v op)
 own-ends v Begin = ends-sends (ended_by No_event No_event v) v.max_frame (begin_refusals v) (begin_body v) [] given.Nothing (still v)
 own-ends v (Attach name role snd rcv source target count max_message) =
-    let a : Wanted = record { name = name; role = role; snd = snd; rcv = rcv; source = source; target = target; count = count; max_message = max_message } in
+    let a : Wanted = record { name = name; role = role; snd = snd; rcv = rcv; source = source; target = target; count = count; max_message = max_message; items = [] } in
     ends-sends (ended_by No_event No_event v) v.max_frame (attach_refusals v a) (Some (heard.Attach (attach_sent v a))) [] (given.Link (number_met v.made (find (is_offered_as a.role a.name) v.links))) (still v)
 own-ends v (Start link tag format settled payload more) =
     let e = sent_by_own v (Start link tag format settled payload more) in
@@ -171,6 +198,16 @@ own-ends v (Suspend link) =
     let l = ended_by (Leaves link) (Leaves link) v in
     ends-on l v link (λ k. sends_ending v.max_frame (detach_refusals k) (detach_body (handle_of k.ours) None None) l (given.Suspended (put_aside v k)))
     (λ k. ends-ending l v.max_frame (detach_refusals k) (detach_body (handle_of k.ours) None None) (given.Suspended (put_aside v k)))
+own-ends v (Rejoin r) =
+    let a = rejoined r in
+    ends-sends (ended_by No_event No_event v) v.max_frame (attach_refusals v a) (Some (heard.Attach (attach_sent v a))) [] (given.Link (number_met v.made (find (is_offered_as a.role a.name) v.links))) (still v)
+own-ends v (Resume link tag settled) =
+    let e = sent_by_own v (Resume link tag settled) in
+    let l = ended_by e No_event v in
+    let none = ends-none e No_event v (λ i. resumed-none (next_delivery v) link tag settled (find (has_number link) v.links) i) (λ i. refl) in
+    ends-on l v link (λ k. unless_refused (first_refusal (early_refusals k)) (if_there (find (waits_as tag) k.waiting) NotWaiting (resume_item v k settled)))
+    (λ k. ends-unless_refused l (first_refusal (early_refusals k)) (if_there (find (waits_as tag) k.waiting) NotWaiting (resume_item v k settled))
+    (ends-there l (find (waits_as tag) k.waiting) NotWaiting (resume_item v k settled) (λ w found. ends-item v l k settled w none)))
 own-ends v (End error) =
     ends-ending (ended_by Over Over v) v.max_frame ((not (is_mapped v.session), NotMapped) ∷ []) (end_body error) given.Nothing
 own-ends v Beat = ends-sends (ended_by No_event No_event v) v.max_frame [] None [] given.Nothing (still v)

@@ -4,10 +4,10 @@ use Rattle.amqp_performatives.specs.declared.bodies.TransferBody.{TransferBody}
 use Rattle.amqp_performatives.specs.declared.performative.Performative.{Performative}
 use Rattle.amqp_performatives.specs.declared.performative.Performative.TheVariants as heard
 use Rattle.amqp_rules.specs.declared.op.Op.{Op}
-use Rattle.amqp_rules.specs.declared.op.Op.TheVariants.{Start, Carry, Abort}
+use Rattle.amqp_rules.specs.declared.op.Op.TheVariants.{Start, Carry, Abort, Resume}
 use Rattle.amqp_rules.specs.declared.config.Config.{Config}
 use Rattle.amqp_rules.specs.View.{LinkView, has_number, has_peer_handle, next_delivery}
-use Rattle.amqp_rules.specs.Deliveries.{begun_on, sending_on, continued_on, left_by_peer, transfer_on, sent_by_own, sent_by_body, received_by_own, received_by_body}
+use Rattle.amqp_rules.specs.Deliveries.{begun_on, sending_on, continued_on, left_by_peer, transfer_on, sent_by_own, sent_by_body, received_by_own, received_by_body, resumed_on}
 use Rattle.amqp_events.specs.Event.{Event}
 use Rattle.amqp_laws.specs.declared.entry.Entry.{Entry}
 use Rattle.amqp_laws.specs.declared.entry.Step.{Step}
@@ -52,6 +52,10 @@ transfer-told : (events : List Event) (b : TransferBody) (o : Option LinkView) �
 transfer-told events b None = refl
 transfer-told events b (Some l) = refl
 
+resumed-told : (events : List Event) (id k : ℕ) (tag : List ℕ) (settled : Bool) (o : Option LinkView) → resumed_on id k tag settled (option_map (with_told events) o) ≡ resumed_on id k tag settled o
+resumed-told events id k tag settled None = refl
+resumed-told events id k tag settled (Some l) = refl
+
 own-sent : (c : Config) (n : ℕ) (past : List Entry) (op : Op) → sent_by_own (seen c n past) op ≡ sent_by_own (base c 0 past) op
 own-sent c n past (Start link tag format settled payload more) =
     rw (numbered-told (sent_events c past) link (links_at past)) (begun-told (sent_events c past) (next_delivery (base c 0 past)) link tag settled (find (has_number link) (links_at past)))
@@ -59,6 +63,8 @@ own-sent c n past (Carry link payload more) =
     rw (numbered-told (sent_events c past) link (links_at past)) (continued-told (sent_events c past) false (find (has_number link) (links_at past)))
 own-sent c n past (Abort link) =
     rw (numbered-told (sent_events c past) link (links_at past)) (continued-told (sent_events c past) true (find (has_number link) (links_at past)))
+own-sent c n past (Resume link tag settled) =
+    rw (numbered-told (sent_events c past) link (links_at past)) (resumed-told (sent_events c past) (next_delivery (base c 0 past)) link tag settled (find (has_number link) (links_at past)))
 own-sent c n past _ = refl
 
 body-sent : (c : Config) (n : ℕ) (past : List Entry) (body : Option Performative) → sent_by_body (seen c n past) body ≡ sent_by_body (base c 0 past) body

@@ -1,5 +1,5 @@
 -- The deliveries that we receive have the ids that are expected, and free tags, along every lawful journal.
-use Rattle.std.proofs.Common.{◌≡◌, ℕ, ◌&&◌, ◌||◌, eqb, Bool, true, false, not, cond, Option, None, Some, Ok, is_none, unwrap_or, List, [], ◌∷◌, ◌++◌, length, option_map, find, refl, sym, ◌∙◌, subst}
+use Rattle.std.proofs.Common.{◌≡◌, ℕ, ◌&&◌, ◌||◌, eqb, Bool, true, false, not, cond, Option, None, Some, Ok, is_none, unwrap_or, List, [], ◌∷◌, ◌++◌, length, option_map, find, refl, sym, ◌∙◌, subst, is_some}
 use Rattle.std.specs.List.{list_any}
 use Rattle.std.proofs.lemmas.Bool.{eqb-true, or_parts}
 use Rattle.amqp_performatives.specs.declared.bodies.TransferBody.{TransferBody}
@@ -17,7 +17,7 @@ use Rattle.amqp_rules.specs.declared.violation.Violation.{Violation}
 use Rattle.amqp_rules.specs.declared.violation.ViolationKind.TheVariants.{OutOfSession, BadHandle}
 use Rattle.amqp_rules.specs.declared.config.Config.{Config}
 use Rattle.amqp_rules.specs.View.{View, LinkView, takes_frames, has_peer_handle, rcv_mode}
-use Rattle.amqp_rules.specs.Deliveries.{transferred, said_of, heard_of, left_by_peer, transfer_on, belongs_to}
+use Rattle.amqp_rules.specs.Deliveries.{transferred, said_of, heard_of, left_by_peer, transfer_on, belongs_to, begins_unsettled, brought_by, state_brought}
 use Rattle.amqp_events.specs.Tags.{is_tagged}
 use Rattle.amqp_rules.specs.Refusing.{first_refusal, answered, if_there, unlinked}
 use Rattle.amqp_rules.specs.PeerTransfer.{transfer_answer, transfer_violations, transfer_reply, delivery_violations, name_violations, is_unexpected, is_other}
@@ -66,31 +66,35 @@ follows-next : (b : TransferBody) (next : Option ℕ) → is_none b.delivery_id 
 follows-next b None h k = tt
 follows-next b (Some next) h k = follows-given b.delivery_id next h k
 
-free-begin : (id k : ℕ) (tag : List ℕ) (second over : Bool) (state : Option DeliveryState) (events : List Event)
+free-begin : (id k : ℕ) (tag : List ℕ) (second unsettled : Bool) (ours state : Option DeliveryState) (events : List Event)
     → list_any (is_tagged k tag) (held events) ≡ false
-    → IsFree (Begins (record { id = id; link = k; tag = tag; second = second; local = None; remote = state }) (not over)) events
-free-begin id k tag second true state events h = tt
-free-begin id k tag second false state events h = h
+    → IsFree (Begins (record { id = id; link = k; tag = tag; second = second; local = ours; remote = state }) unsettled) events
+free-begin id k tag second false ours state events h = tt
+free-begin id k tag second true ours state events h = h
+
+neither-of : (a b : Bool) → (a || b) ≡ false → (a ≡ false) × (b ≡ false)
+neither-of true b h = absurd (cc)
+neither-of false b h = (refl, h)
 
 by-delivery : (v : View) (b : TransferBody) (l : LinkView) (rest : List (Bool × Violation)) (t : Transferred) (d : Option Delivery) (events : List Event)
     → t.id ≡ unwrap_or b.delivery_id 0 → t.tag ≡ unwrap_or b.delivery_tag []
     → v.expected ≡ expected events → v.received ≡ held events
-    → NoneHolds (name_violations v b l d ++ rest) → IsTaken (belongs_to l.number t b.state d) events
+    → NoneHolds (name_violations v b l d ++ rest) → IsTaken (belongs_to l.number l.waiting t b.state d) events
 by-delivery v b l rest t (Some d) events id tag next all h = record { next = tt; free = tt }
 by-delivery v b l rest t None events id tag next all h =
     let named = or_parts (is_none b.delivery_id) (is_none b.delivery_tag) h.0 in
     let P : Option ℕ → Type 0 = λ o. Follows (unwrap_or b.delivery_id 0) o in
     let follows = subst P next (follows-next b v.expected named.0 h.1.0) in
-    let untagged : list_any (is_tagged l.number t.tag) (held events) ≡ false = rw (tag, ← all) h.1.1.0 in
+    let untagged : list_any (is_tagged l.number t.tag) (held events) ≡ false = rw (tag, ← all) (neither-of _ _ h.1.1.0).0 in
     record {
       next = rw id follows;
-      free = free-begin t.id l.number t.tag t.second (t.settled || t.aborted) b.state events untagged;
+      free = free-begin t.id l.number t.tag t.second (begins_unsettled t (brought_by t l.waiting)) (state_brought (brought_by t l.waiting)) b.state events untagged;
     }
 
 by-left : (v : View) (b : TransferBody) (payload : List ℕ) (l : LinkView) (left : Bool) (events : List Event)
     → v.expected ≡ expected events → v.received ≡ held events
     → NoneHolds (cond left [] (delivery_violations v b payload l))
-    → IsTaken (cond left (PassesOver b.delivery_id) (belongs_to l.number (transferred (rcv_mode l) b []) b.state l.receiving)) events
+    → IsTaken (cond left (PassesOver b.delivery_id) (belongs_to l.number l.waiting (transferred (rcv_mode l) b []) b.state l.receiving)) events
 by-left v b payload l true events next all h = record { next = tt; free = tt }
 by-left v b payload l false events next all h = by-delivery v b l _ (transferred (rcv_mode l) b []) l.receiving events refl refl next all h
 

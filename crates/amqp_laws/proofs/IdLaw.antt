@@ -1,4 +1,7 @@
 -- The first transfers that are sent have consecutive ids.
+use Rattle.amqp_waiting.specs.Waiting.{WaitingItem, waits_as}
+use Rattle.amqp_rules.specs.Rejoin.{rejoined}
+use Rattle.amqp_rules.specs.Resume.{unless_refused, resume_sends, early_refusals, resume_refusals, resume_item, resume_body, resumed_to, outcome_of, is_unclear, absent_reply}
 use Rattle.std.proofs.Common.{◌≡◌, ℕ, ◌||◌, Bool, true, false, not, cond, Option, None, Some, Result, Ok, Err, List, [], ◌∷◌, ◌++◌, option_map, find, refl, ap, sym, ◌∙◌, subst}
 use Rattle.std.specs.Option.{option_or}
 use Rattle.amqp_performatives.specs.declared.bodies.Role.{Role}
@@ -7,18 +10,18 @@ use Rattle.amqp_performatives.specs.declared.performative.Performative.{Performa
 use Rattle.amqp_performatives.specs.declared.performative.Performative.TheVariants as heard
 use Rattle.amqp_frames.specs.declared.frame.Frame.{Frame}
 use Rattle.amqp_rules.specs.declared.op.Op.{Op}
-use Rattle.amqp_rules.specs.declared.op.Op.TheVariants.{Begin, Attach, Start, Carry, Abort, Dispose, Learn, Grant, Offer, Drained, Refresh, Take, Detach, Suspend, End, Beat}
+use Rattle.amqp_rules.specs.declared.op.Op.TheVariants.{Begin, Attach, Start, Carry, Abort, Dispose, Learn, Grant, Offer, Drained, Refresh, Take, Detach, Suspend, Rejoin, Resume, End, Beat}
 use Rattle.amqp_rules.specs.declared.reply.Reply.{Reply}
 use Rattle.amqp_rules.specs.declared.reply.Given.{Given}
 use Rattle.amqp_rules.specs.declared.refusal.Refusal.{Refusal}
-use Rattle.amqp_rules.specs.declared.refusal.Refusal.TheVariants.{NoLink, WrongRole, NotMapped}
+use Rattle.amqp_rules.specs.declared.refusal.Refusal.TheVariants.{NoLink, WrongRole, NotMapped, NotWaiting, Unclear as Not_clear}
 use Rattle.amqp_rules.specs.declared.violation.Violation.{Violation}
 use Rattle.amqp_rules.specs.declared.violation.ViolationKind.TheVariants.{OutOfSession, BadHandle}
 use Rattle.amqp_rules.specs.View.{View, LinkView, has_number, has_peer_handle, handle_of, is_mapped, is_attached, is_ending, is_offered_as, next_delivery, same_role, takes_frames}
 use Rattle.amqp_rules.specs.Refusing.{first_refusal, answered, if_there, unless, unlinked}
 use Rattle.amqp_rules.specs.Sending.{frame_refused, sends, sends_ending, reply_of, reply_ending}
 use Rattle.amqp_rules.specs.OnLink.{on_link}
-use Rattle.amqp_rules.specs.Deliveries.{sent_by_own, received_by_own, ended_by, disposition_of}
+use Rattle.amqp_rules.specs.Deliveries.{sent_by_own, received_by_own, ended_by, disposition_of, is_sent_anew}
 use Rattle.amqp_rules.specs.Take.{take_first}
 use Rattle.amqp_rules.specs.Learn.{learn_first}
 use Rattle.amqp_rules.specs.declared.reply.Given.TheVariants as given
@@ -97,61 +100,87 @@ rep-ending P max rows body l g h = rep-answered P (option_or (first_refusal rows
 abbrev Sends : List ℕ → Reply → Type 0
 Sends ids r = ids_in r ≡ ids
 
-rep-take : (link : ℕ) (ds : List Delivery) → Replies (Sends []) (take_first link ds)
-rep-take link [] = tt
-rep-take link (d ∷ ds) = refl
+-- a reply has the next id where the operation begins a delivery by it
+abbrev begins_by : Op → Reply → Bool
+begins_by op r = starts (record { step = Own op; reply = r })
 
-rep-learn : (ts : List Telling) → Replies (Sends []) (learn_first ts)
-rep-learn [] = tt
-rep-learn (t ∷ ts) = refl
+abbrev Told : View → Op → Reply → Type 0
+Told v op r = ids_in r ≡ cond (begins_by op r) (next_delivery v ∷ []) []
 
-own-ids : (v : View) (op : Op) → Replies (Sends (cond (is_start (Some op)) (next_delivery v ∷ []) [])) (own_answer v op)
-own-ids v Begin = rep-sends (Sends []) v.max_frame (begin_refusals v) (begin_body v) [] given.Nothing refl
+rep-take : (v : View) (n link : ℕ) (ds : List Delivery) → Replies (Told v (Take n)) (take_first link ds)
+rep-take v n link [] = tt
+rep-take v n link (d ∷ ds) = refl
+
+rep-learn : (v : View) (n : ℕ) (ts : List Telling) → Replies (Told v (Learn n)) (learn_first ts)
+rep-learn v n [] = tt
+rep-learn v n (t ∷ ts) = refl
+
+resume-ids : (v : View) (link : ℕ) (tag : List ℕ) (settled : Bool) (k : LinkView) (w : WaitingItem) → Replies (Told v (Resume link tag settled)) (resume_item v k settled w)
+resume-ids v link tag settled k w = by (is_unclear w) (is_sent_anew w)
+  where
+    by : (unclear anew : Bool) → Replies (Told v (Resume link tag settled)) (cond unclear (Err Not_clear) (cond anew (resume_sends v k settled w) (Ok absent_reply)))
+    by true anew = tt
+    by false false = refl
+    by false true = rep-sends (Told v (Resume link tag settled)) v.max_frame (resume_refusals v k settled w) (resume_body (handle_of k.ours) (next_delivery v) settled w) [] (resumed_to w.verdict (Some (next_delivery v)) (outcome_of w)) refl
+
+rep-unless_refused : (P : Reply → Type 0) (o : Option Refusal) (a : Result Reply Refusal) → Replies P a → Replies P (unless_refused o a)
+rep-unless_refused P None a h = h
+rep-unless_refused P (Some e) a h = tt
+
+own-ids : (v : View) (op : Op) → Replies (Told v op) (own_answer v op)
+own-ids v Begin = rep-sends (Told v Begin) v.max_frame (begin_refusals v) (begin_body v) [] given.Nothing refl
 own-ids v (Attach name role snd rcv source target count max_message) =
-    let a : Wanted = record { name = name; role = role; snd = snd; rcv = rcv; source = source; target = target; count = count; max_message = max_message } in
-    rep-sends (Sends []) v.max_frame (attach_refusals v a) (Some (heard.Attach (attach_sent v a))) [] (given.Link (number_met v.made (find (is_offered_as a.role a.name) v.links))) refl
+    let a : Wanted = record { name = name; role = role; snd = snd; rcv = rcv; source = source; target = target; count = count; max_message = max_message; items = [] } in
+    rep-sends (Told v (Attach name role snd rcv source target count max_message)) v.max_frame (attach_refusals v a) (Some (heard.Attach (attach_sent v a))) [] (given.Link (number_met v.made (find (is_offered_as a.role a.name) v.links))) refl
 own-ids v (Start link tag format settled payload more) =
-    rep-on (Sends (next_delivery v ∷ [])) v link (λ l. sends v.max_frame (start_refusals v l tag settled payload) (start_body (handle_of l.ours) (next_delivery v) tag format settled more) payload (given.Delivery (next_delivery v)))
-    (λ k. rep-sends (Sends (next_delivery v ∷ [])) v.max_frame (start_refusals v k tag settled payload) (start_body (handle_of k.ours) (next_delivery v) tag format settled more) payload (given.Delivery (next_delivery v)) refl)
+    rep-on (Told v (Start link tag format settled payload more)) v link (λ l. sends v.max_frame (start_refusals v l tag settled payload) (start_body (handle_of l.ours) (next_delivery v) tag format settled more) payload (given.Delivery (next_delivery v)))
+    (λ k. rep-sends (Told v (Start link tag format settled payload more)) v.max_frame (start_refusals v k tag settled payload) (start_body (handle_of k.ours) (next_delivery v) tag format settled more) payload (given.Delivery (next_delivery v)) refl)
 own-ids v (Carry link payload more) =
-    rep-on (Sends []) v link (λ l. sends v.max_frame (carry_refusals v l payload) (later_body (handle_of l.ours) (flag more) None) payload given.Nothing)
-    (λ k. rep-sends (Sends []) v.max_frame (carry_refusals v k payload) (later_body (handle_of k.ours) (flag more) None) payload given.Nothing refl)
+    rep-on (Told v (Carry link payload more)) v link (λ l. sends v.max_frame (carry_refusals v l payload) (later_body (handle_of l.ours) (flag more) None) payload given.Nothing)
+    (λ k. rep-sends (Told v (Carry link payload more)) v.max_frame (carry_refusals v k payload) (later_body (handle_of k.ours) (flag more) None) payload given.Nothing refl)
 own-ids v (Abort link) =
     let l = ended_by (sent_by_own v (Abort link)) No_event v in
-    rep-on (Sends []) v link (λ k. sends_ending v.max_frame (abort_refusals v k) (later_body (handle_of k.ours) None (Some true)) l given.Nothing)
-    (λ k. rep-ending (Sends []) v.max_frame (abort_refusals v k) (later_body (handle_of k.ours) None (Some true)) l given.Nothing refl)
+    rep-on (Told v (Abort link)) v link (λ k. sends_ending v.max_frame (abort_refusals v k) (later_body (handle_of k.ours) None (Some true)) l given.Nothing)
+    (λ k. rep-ending (Told v (Abort link)) v.max_frame (abort_refusals v k) (later_body (handle_of k.ours) None (Some true)) l given.Nothing refl)
 own-ids v (Dispose role first last settled state) =
     let op = Dispose role first last settled state in
     let d : Disposition = record { first = first; last = last; settled = settled; state = state } in
-    rep-ending (Sends []) v.max_frame (dispose_refusals v role d) (dispose_body role d) (ended_by (sent_by_own v op) (received_by_own v op) v) given.Nothing refl
+    rep-ending (Told v (Dispose role first last settled state)) v.max_frame (dispose_refusals v role d) (dispose_body role d) (ended_by (sent_by_own v op) (received_by_own v op) v) given.Nothing refl
 own-ids v (Learn link) =
-    rep-there (Sends []) (find (has_number link) v.links) NoLink (λ k. unless (not (same_role Sender k.role)) WrongRole (learn_first k.told))
-    (λ k. rep-unless (Sends []) (not (same_role Sender k.role)) WrongRole (learn_first k.told) (rep-learn k.told))
+    rep-there (Told v (Learn link)) (find (has_number link) v.links) NoLink (λ k. unless (not (same_role Sender k.role)) WrongRole (learn_first k.told))
+    (λ k. rep-unless (Told v (Learn link)) (not (same_role Sender k.role)) WrongRole (learn_first k.told) (rep-learn v link k.told))
 own-ids v (Grant link credit drain echo) =
-    rep-on (Sends []) v link (λ k. sends v.max_frame (grant_refusals k credit) (grant_body v.windows (granted_on credit drain k) drain echo) [] given.Nothing)
-    (λ k. rep-sends (Sends []) v.max_frame (grant_refusals k credit) (grant_body v.windows (granted_on credit drain k) drain echo) [] given.Nothing refl)
+    rep-on (Told v (Grant link credit drain echo)) v link (λ k. sends v.max_frame (grant_refusals k credit) (grant_body v.windows (granted_on credit drain k) drain echo) [] given.Nothing)
+    (λ k. rep-sends (Told v (Grant link credit drain echo)) v.max_frame (grant_refusals k credit) (grant_body v.windows (granted_on credit drain k) drain echo) [] given.Nothing refl)
 own-ids v (Offer link available) =
-    rep-on (Sends []) v link (λ k. sends v.max_frame (attached_as Sender k []) (offer_body v.windows (offered available k)) [] given.Nothing)
-    (λ k. rep-sends (Sends []) v.max_frame (attached_as Sender k []) (offer_body v.windows (offered available k)) [] given.Nothing refl)
+    rep-on (Told v (Offer link available)) v link (λ k. sends v.max_frame (attached_as Sender k []) (offer_body v.windows (offered available k)) [] given.Nothing)
+    (λ k. rep-sends (Told v (Offer link available)) v.max_frame (attached_as Sender k []) (offer_body v.windows (offered available k)) [] given.Nothing refl)
 own-ids v (Drained link) =
-    rep-on (Sends []) v link (λ k. sends v.max_frame (drained_refusals k) (drained_body v.windows (drained k)) [] given.Nothing)
-    (λ k. rep-sends (Sends []) v.max_frame (drained_refusals k) (drained_body v.windows (drained k)) [] given.Nothing refl)
+    rep-on (Told v (Drained link)) v link (λ k. sends v.max_frame (drained_refusals k) (drained_body v.windows (drained k)) [] given.Nothing)
+    (λ k. rep-sends (Told v (Drained link)) v.max_frame (drained_refusals k) (drained_body v.windows (drained k)) [] given.Nothing refl)
 own-ids v (Refresh echo) =
-    rep-sends (Sends []) v.max_frame ((not (is_mapped v.session), NotMapped) ∷ []) (refresh_body v.windows echo) [] given.Nothing refl
+    rep-sends (Told v (Refresh echo)) v.max_frame ((not (is_mapped v.session), NotMapped) ∷ []) (refresh_body v.windows echo) [] given.Nothing refl
 own-ids v (Take link) =
-    rep-there (Sends []) (find (has_number link) v.links) NoLink (λ k. unless (not (same_role Receiver k.role)) WrongRole (take_first k.number k.ready))
-    (λ k. rep-unless (Sends []) (not (same_role Receiver k.role)) WrongRole (take_first k.number k.ready) (rep-take k.number k.ready))
+    rep-there (Told v (Take link)) (find (has_number link) v.links) NoLink (λ k. unless (not (same_role Receiver k.role)) WrongRole (take_first k.number k.ready))
+    (λ k. rep-unless (Told v (Take link)) (not (same_role Receiver k.role)) WrongRole (take_first k.number k.ready) (rep-take v link k.number k.ready))
 own-ids v (Detach link error) =
     let l = ended_by (Leaves link) (Leaves link) v in
-    rep-on (Sends []) v link (λ k. sends_ending v.max_frame (detach_refusals k) (detach_body (handle_of k.ours) (Some true) error) l given.Nothing)
-    (λ k. rep-ending (Sends []) v.max_frame (detach_refusals k) (detach_body (handle_of k.ours) (Some true) error) l given.Nothing refl)
+    rep-on (Told v (Detach link error)) v link (λ k. sends_ending v.max_frame (detach_refusals k) (detach_body (handle_of k.ours) (Some true) error) l given.Nothing)
+    (λ k. rep-ending (Told v (Detach link error)) v.max_frame (detach_refusals k) (detach_body (handle_of k.ours) (Some true) error) l given.Nothing refl)
 own-ids v (Suspend link) =
     let l = ended_by (Leaves link) (Leaves link) v in
-    rep-on (Sends []) v link (λ k. sends_ending v.max_frame (detach_refusals k) (detach_body (handle_of k.ours) None None) l (given.Suspended (put_aside v k)))
-    (λ k. rep-ending (Sends []) v.max_frame (detach_refusals k) (detach_body (handle_of k.ours) None None) l (given.Suspended (put_aside v k)) refl)
+    rep-on (Told v (Suspend link)) v link (λ k. sends_ending v.max_frame (detach_refusals k) (detach_body (handle_of k.ours) None None) l (given.Suspended (put_aside v k)))
+    (λ k. rep-ending (Told v (Suspend link)) v.max_frame (detach_refusals k) (detach_body (handle_of k.ours) None None) l (given.Suspended (put_aside v k)) refl)
+own-ids v (Rejoin r) =
+    let a = rejoined r in
+    rep-sends (Told v (Rejoin r)) v.max_frame (attach_refusals v a) (Some (heard.Attach (attach_sent v a))) [] (given.Link (number_met v.made (find (is_offered_as a.role a.name) v.links))) refl
+own-ids v (Resume link tag settled) =
+    rep-on (Told v (Resume link tag settled)) v link (λ k. unless_refused (first_refusal (early_refusals k)) (if_there (find (waits_as tag) k.waiting) NotWaiting (resume_item v k settled)))
+    (λ k. rep-unless_refused (Told v (Resume link tag settled)) (first_refusal (early_refusals k)) (if_there (find (waits_as tag) k.waiting) NotWaiting (resume_item v k settled))
+    (rep-there (Told v (Resume link tag settled)) (find (waits_as tag) k.waiting) NotWaiting (resume_item v k settled) (λ w. resume-ids v link tag settled k w)))
 own-ids v (End error) =
-    rep-ending (Sends []) v.max_frame ((not (is_mapped v.session), NotMapped) ∷ []) (end_body error) (ended_by Over Over v) given.Nothing refl
-own-ids v Beat = rep-sends (Sends []) v.max_frame [] None [] given.Nothing refl
+    rep-ending (Told v (End error)) v.max_frame ((not (is_mapped v.session), NotMapped) ∷ []) (end_body error) (ended_by Over Over v) given.Nothing refl
+own-ids v Beat = rep-sends (Told v Beat) v.max_frame [] None [] given.Nothing refl
 
 either-reply : (b : Bool) (x y : Reply) (ids : List ℕ) → Sends ids x → Sends ids y → Sends ids (cond b x y)
 either-reply true x y ids h k = h
@@ -192,10 +221,10 @@ heard-ids v f reply h = by_dropped (is_dropped v f.body) refl
 
 -- an entry sends one id where it is a Start: that of the next delivery
 pub entry-ids : (c : Config) (past : List Entry) (step : Step) (reply : Reply) → Answers (at c past) step reply
-    → ids_in reply ≡ cond (is_start (own_in step)) (wire (c.first_id + started (live past)) ∷ []) []
+    → ids_in reply ≡ cond (starts (record { step = step; reply = reply })) (wire (c.first_id + started (live past)) ∷ []) []
 entry-ids c past (Opened told) reply h = ap ids_in (sym h)
 entry-ids c past (Own op) reply h =
-    subst (λ (r : Result Reply Refusal). Replies (Sends (cond (is_start (Some op)) (next_delivery (at c past) ∷ []) [])) r) h (own-ids (at c past) op)
+    subst (λ (r : Result Reply Refusal). Replies (Told (at c past) op) r) h (own-ids (at c past) op)
 entry-ids c past (Heard f) reply h = heard-ids (at c past) f reply h
 
 -- # All entries
@@ -230,17 +259,17 @@ counted-more first n ids false k = rw append-nil k
 live-started : (e : Entry) (before : List Entry) → started (live (e ∷ before)) ≡ more (cond (starts e) 1 0) (started (live before))
 live-started e before = by_live (some_entry entry_ends (live before) && hears_no_end e.step) refl
   where
-    no_start : (step : Step) → hears_no_end step ≡ true → is_start (own_in step) ≡ false
-    no_start (Opened told) h = refl
-    no_start (Own op) h = absurd (cc)
-    no_start (Heard f) h = refl
+    no_start : (step : Step) (reply : Reply) → hears_no_end step ≡ true → starts (record { step = step; reply = reply }) ≡ false
+    no_start (Opened told) reply h = refl
+    no_start (Own op) reply h = absurd (cc)
+    no_start (Heard f) reply h = refl
 
     second : (a b : Bool) → a && b ≡ true → b ≡ true
     second true b h = h
     second false b h = absurd (cc)
 
     by_live : (b : Bool) → some_entry entry_ends (live before) && hears_no_end e.step ≡ b → started (cond b (live before) (e ∷ live before)) ≡ more (cond (starts e) 1 0) (started (live before))
-    by_live true h = let none = no_start e.step (second (some_entry entry_ends (live before)) (hears_no_end e.step) h) in rw none refl
+    by_live true h = let none = no_start e.step e.reply (second (some_entry entry_ends (live before)) (hears_no_end e.step) h) in rw none refl
     by_live false h = refl
 
 ids-counted : (c : Config) (past : List Entry) → IsReplayed c past → Counted c.first_id (started (live past)) (flat_map (λ e. ids_in e.reply) (reverse past))

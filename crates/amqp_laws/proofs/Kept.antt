@@ -1,47 +1,23 @@
 -- What holds of the unsettled deliveries of a lawful journal.
-use Rattle.std.proofs.Common.{◌≡◌, ◌≤◌, ◌+◌, ℕ, ◌^◌, ◌&&◌, Bool, true, false, cond, List, [], ◌∷◌, suc, length, map, refl, ap, sym, subst, arith}
-use Rattle.amqp_events.specs.Event.{Item, Event}
+use Rattle.std.proofs.Common.{◌≤◌, ◌+◌, ℕ, ◌^◌, List, length, sym, subst, arith}
+use Rattle.amqp_events.specs.Event.{Item}
 use Rattle.amqp_events.specs.Laws.{AreInOrder, IsPast}
-use Rattle.amqp_events.specs.Unsettled.{held, shown, still_held}
+use Rattle.amqp_events.specs.Unsettled.{held}
 use Rattle.amqp_events.specs.Tags.{AreApart}
-use Rattle.amqp_events.specs.Told.{sent_item, sent_held}
 use Rattle.amqp_events.proofs.Summary.{sent-order, sent-past, heard-order, heard-past}
 use Rattle.amqp_events.proofs.TagLaw.{tags-apart}
 use Rattle.amqp_rules.specs.declared.config.Config.{Config}
 use Rattle.amqp_rules.specs.View.{next_delivery}
 use Rattle.amqp_laws.specs.declared.entry.Entry.{Entry}
-use Rattle.amqp_laws.specs.Past.{some_entry}
-use Rattle.amqp_laws.specs.Said.{ends, hears_no_end}
 use Rattle.amqp_laws.specs.Live.{live}
 use Rattle.amqp_laws.specs.At.{at, sent_events, received_events}
 use Rattle.amqp_laws.specs.Lawful.{IsReplayed}
 use Rattle.amqp_laws.specs.DeliveryLaws.{AreKept}
 use Rattle.amqp_laws.proofs.SentOrder.{sent-so}
+use Rattle.amqp_laws.proofs.SentTags.{sent-free}
 use Rattle.amqp_laws.proofs.HeardOrder.{heard-so}
+use Rattle.amqp_laws.proofs.Shown.{items-held, sent-events_many, received-events_many, live-few}
 use Rattle.amqp_flow.specs.Serial.{wire}
-
-items-shown : (ds : List (Item × List Event)) → map (λ s. s.item) (map sent_item ds) ≡ map shown ds
-items-shown [] = refl
-items-shown (d ∷ ds) = ap (λ is. shown d ∷ is) (items-shown ds)
-
-pub items-held : (events : List Event) → map (λ s. s.item) (sent_held events) ≡ held events
-items-held events = items-shown (still_held events)
-
-pub sent-events_many : (c : Config) (past : List Entry) → length (sent_events c past) ≡ length past
-sent-events_many c [] = refl
-sent-events_many c (e ∷ before) = ap suc (sent-events_many c before)
-
-pub received-events_many : (c : Config) (past : List Entry) → length (received_events c past) ≡ length past
-received-events_many c [] = refl
-received-events_many c (e ∷ before) = ap suc (received-events_many c before)
-
-pub live-few : (past : List Entry) → length (live past) ≤ length past
-live-few [] = omega arith
-live-few (e ∷ before) = by_live (some_entry ends (live before) && hears_no_end e.step) (live-few before)
-  where
-    by_live : (b : Bool) → length (live before) ≤ length before → length (cond b (live before) (e ∷ live before)) ≤ suc (length before)
-    by_live true h = omega (arith, h)
-    by_live false h = omega (arith, h)
 
 pub kept : (c : Config) (past : List Entry) → IsReplayed c past → length past ≤ 2 ^ 30 → AreKept (at c past)
 kept c past h few =
@@ -59,7 +35,7 @@ kept c past h few =
     record {
       sent_order = subst O same (sent-order c.first_id (sent_events c p) s.order few_sent);
       sent_past = subst P same (subst Q s.count (sent-past c.first_id (sent_events c p) s.order few_sent));
-      sent_tags = subst T same (tags-apart (sent_events c p) s.free);
+      sent_tags = subst T same (tags-apart (sent_events c p) (sent-free c past h few));
       received_order = heard-order (received_events c p) r.order few_received;
       received_past = heard-past (received_events c p) r.order few_received;
       received_tags = tags-apart (received_events c p) r.free;

@@ -13,7 +13,7 @@ use Rattle.amqp_laws.specs.Lawful.{IsReplayed}
 use Rattle.amqp_laws.specs.DeliveryLaws.{AreLeft, named, only}
 use Rattle.amqp_laws.proofs.SentOrder.{sent-so}
 use Rattle.amqp_laws.proofs.HeardOrder.{heard-so}
-use Rattle.amqp_laws.proofs.Kept.{items-held, sent-events_many, received-events_many, live-few}
+use Rattle.amqp_laws.proofs.Shown.{items-held, sent-events_many, received-events_many, live-few}
 use Rattle.amqp_laws.proofs.Twice.{names_in, names-so, names-named}
 
 pub are_left : (c : Config) (journal : List Entry) → IsReplayed c (past journal) → length journal ≤ 2 ^ 30 → AreLeft c journal

@@ -1,10 +1,16 @@
 pub mod Scripts
 pub mod Rows
+pub mod BroughtLaw
+pub mod ResumeOk
+pub mod ResumeLaw
 pub mod SessionRows
+pub mod ResumeRows
 pub mod Cases
 pub mod Events
 pub mod SentOrder
 pub mod HeardOrder
+pub mod Shown
+pub mod SentTags
 pub mod Kept
 pub mod TableLaw
 pub mod EndedLaw

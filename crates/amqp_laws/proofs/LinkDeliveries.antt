@@ -1,5 +1,6 @@
 -- The deliveries of a link, over its own past and as single changes.
-use Rattle.std.proofs.Common.{◌≡◌, ℕ, ◌≤◌, ◌++◌, Bool, true, false, cond, Option, None, Some, option_map, List, [], ◌∷◌, length, drop, refl, length-append}
+use Rattle.std.specs.List.{cons_option}
+use Rattle.std.proofs.Common.{◌≡◌, ℕ, ◌≤◌, ◌++◌, Bool, true, false, cond, Option, None, Some, option_map, List, [], ◌∷◌, length, drop, refl, length-append, subst, sym}
 use Rattle.amqp_performatives.specs.declared.bodies.TransferBody.{TransferBody}
 use Rattle.amqp_performatives.specs.declared.performative.Performative.TheVariants as heard
 use Rattle.amqp_performatives.specs.declared.bodies.Role.{Role}
@@ -11,12 +12,12 @@ use Rattle.amqp_rules.specs.Sending.{reply_of, reply_ending}
 use Rattle.amqp_rules.specs.Start.{start_body, sending_after}
 use Rattle.amqp_rules.specs.Carry.{later_body, carried}
 use Rattle.amqp_rules.specs.Telling.{flag}
-use Rattle.amqp_events.specs.Joined.{Delivery, unfinished, next_unfinished, next_delivery, complete, completed}
+use Rattle.amqp_events.specs.Joined.{Delivery, unfinished, next_unfinished, next_delivery, complete, completed, Transferred, goes_on}
 use Rattle.amqp_events.proofs.JoinedLaw.{unfinished-step, ready-step, take-step}
 use Rattle.amqp_laws.specs.declared.entry.Entry.{Entry}
 use Rattle.amqp_laws.specs.declared.entry.Step.TheVariants.{Own, Heard}
 use Rattle.amqp_laws.specs.Past.{some_entry}
-use Rattle.amqp_laws.specs.Said.{detaches}
+use Rattle.amqp_laws.specs.Said.{detaches, transfer_sent}
 use Rattle.amqp_laws.specs.Attaches.{our_attach, peer_attach}
 use Rattle.amqp_laws.specs.Transfers.{sent_on, heard_on, mode_by, sending, receiving, ready_on, size_of, taken}
 
@@ -35,12 +36,43 @@ abbrev later : ℕ → Option Bool → Option Bool → TransferBody
 later handle more aborted =
     record { handle = handle; delivery_id = None; delivery_tag = None; message_format = None; settled = None; more = more; rcv_settle_mode = None; state = None; resume = None; aborted = aborted; batchable = None }
 
+-- none that we send is brought in
+abbrev Plain : Option Delivery → Type 0
+Plain None = Unit {0}
+Plain (Some d) = d.resumed ≡ false
+
+plain-delivery : (t : Transferred) (o : Option Delivery) → t.resumed ≡ false → Plain o → (next_delivery t o).resumed ≡ false
+plain-delivery t None h p = h
+plain-delivery t (Some d) h p = p
+
+plain-step : (t : Transferred) (o : Option Delivery) → t.resumed ≡ false → Plain o → Plain (next_unfinished t o)
+plain-step t o h p = by (goes_on (next_delivery t o))
+  where
+    by : (b : Bool) → Plain (cond b (Some (next_delivery t o)) None)
+    by true = plain-delivery t o h p
+    by false = tt
+
+plain-more : (mode : ℕ) (past : List Transferred) (o : Option (TransferBody × List ℕ)) → Plain (unfinished past)
+    → Plain (unfinished (cons_option (option_map (λ t. record (transferred mode t.0 t.1) { resumed = false }) o) past))
+plain-more mode past None h = h
+plain-more mode past (Some t) h =
+    let x : Transferred = record (transferred mode t.0 t.1) { resumed = false } in
+    subst Plain (sym (unfinished-step x past)) (plain-step x (unfinished past) refl h)
+
+plain-sent : (past : List Entry) → Plain (unfinished (sent_on past))
+plain-sent [] = tt
+plain-sent (e ∷ past) = plain-more (mode_by (peer_attach past)) (sent_on past) (transfer_sent e) (plain-sent past)
+
+plain-so : (o : Option Delivery) (d : Delivery) → o ≡ Some d → Plain o → d.resumed ≡ false
+plain-so None d e h = absurd (cc)
+plain-so (Some x) d e h = let same : x ≡ d = cc in subst (λ (y : Delivery). y.resumed ≡ false) same h
+
 pub carry-sending : (link : ℕ) (payload : List ℕ) (more : Bool) (handle : ℕ) (given : Given) (past : List Entry) (d : Delivery)
     → some_entry detaches past ≡ false → unfinished (sent_on past) ≡ Some d
     → sending (record { step = Own (Carry link payload more); reply = reply_of (later_body handle (flag more) None) payload given } ∷ past)
     ≡ carried (length payload) more (sending past)
 carry-sending link payload true handle given past d stays some =
-    rw (stays, unfinished-step (transferred (mode_by (peer_attach past)) (later handle (Some true) None) payload) (sent_on past), some, length-append d.payload payload) refl
+    rw (stays, unfinished-step (transferred (mode_by (peer_attach past)) (later handle (Some true) None) payload) (sent_on past), some, plain-so (unfinished (sent_on past)) d some (plain-sent past), length-append d.payload payload) refl
 carry-sending link payload false handle given past d stays some =
     rw (stays, unfinished-step (transferred (mode_by (peer_attach past)) (later handle None None) payload) (sent_on past), some) refl
 

@@ -1,5 +1,14 @@
--- The deliveries that we send have consecutive ids, and free tags, along every lawful journal.
-use Rattle.std.proofs.Common.{◌≡◌, ℕ, ◌+◌, ◌&&◌, ◌||◌, Bool, true, false, cond, Option, None, Some, Ok, List, [], ◌∷◌, length, map, option_map, find, refl, ap, sym, ◌∙◌, subst}
+-- The deliveries that we send have consecutive ids along every lawful journal.
+use Rattle.amqp_flow.specs.Serial.{wire}
+use Rattle.amqp_events.specs.Event.{Nothing as No_event}
+use Rattle.amqp_rules.proofs.Listed.{by-bool}
+use Rattle.amqp_laws.proofs.ResumeOk.{anew-ok, absent-ok, anew_reply, resume_entry}
+use Rattle.amqp_rules.specs.Refusing.{first_refusal, if_there}
+use Rattle.amqp_waiting.specs.Waiting.{WaitingItem, waits_as}
+use Rattle.amqp_rules.specs.declared.refusal.Refusal.{Refusal}
+use Rattle.amqp_rules.specs.declared.refusal.Refusal.TheVariants.{NotWaiting}
+use Rattle.amqp_rules.specs.Resume.{unless_refused, resume_answer, early_refusals, resume_item, resumed_to, outcome_of, absent_reply}
+use Rattle.std.proofs.Common.{◌≡◌, ℕ, ◌+◌, ◌&&◌, ◌||◌, Bool, true, false, cond, Option, None, Some, Ok, List, [], ◌∷◌, length, map, option_map, find, refl, ap, sym, ◌∙◌, subst, Result, not, ◌==◌}
 use Rattle.std.specs.List.{list_any}
 use Rattle.std.proofs.lemmas.Bool.{eqb-true}
 use Rattle.amqp_performatives.specs.declared.bodies.DispositionBody.{DispositionBody}
@@ -8,17 +17,17 @@ use Rattle.amqp_performatives.specs.declared.bodies.Role.TheVariants.{Sender, Re
 use Rattle.amqp_performatives.specs.declared.performative.Performative.{Performative}
 use Rattle.amqp_performatives.specs.declared.performative.Performative.TheVariants as heard
 use Rattle.amqp_rules.specs.declared.op.Op.{Op}
-use Rattle.amqp_rules.specs.declared.op.Op.TheVariants.{Start, Carry, Abort, Dispose}
+use Rattle.amqp_rules.specs.declared.op.Op.TheVariants.{Start, Carry, Abort, Dispose, Resume}
 use Rattle.amqp_rules.specs.declared.reply.Reply.{Reply}
 use Rattle.amqp_rules.specs.declared.reply.Given.TheVariants.{Delivery}
 use Rattle.amqp_rules.specs.declared.config.Config.{Config}
-use Rattle.amqp_rules.specs.View.{LinkView, SendingView, has_number, has_peer_handle, next_delivery, handle_of}
-use Rattle.amqp_rules.specs.Deliveries.{begun_on, sending_on, continued_on, said_of, heard_of, left_by_peer}
-use Rattle.amqp_events.specs.Tags.{is_tagged}
+use Rattle.amqp_rules.specs.View.{LinkView, SendingView, has_number, has_peer_handle, next_delivery, handle_of, rcv_mode}
+use Rattle.amqp_rules.specs.Deliveries.{begun_on, sending_on, continued_on, said_of, heard_of, left_by_peer, resumed_on, resumed_as, is_sent_anew, is_partial}
+use Rattle.amqp_events.specs.Tags.{is_tagged, IsFree}
 use Rattle.amqp_rules.specs.Sending.{sends}
 use Rattle.amqp_rules.specs.Start.{start_answer, start_refusals, start_body}
-use Rattle.amqp_rules.proofs.Accepted.{on-link-ok, sends-ok}
-use Rattle.amqp_events.specs.Event.{Item, Disposition, Event}
+use Rattle.amqp_rules.proofs.Accepted.{on-link-ok, there_Ok, unless_refused_Ok}
+use Rattle.amqp_events.specs.Event.{Item, Disposition, Event, Begins}
 use Rattle.amqp_events.specs.Since.{more}
 use Rattle.amqp_events.specs.Numbers.{deliveries, is_begin, IsSent, AreSentInOrder}
 use Rattle.amqp_events.specs.Unsettled.{still_held, shown, held}
@@ -33,7 +42,7 @@ use Rattle.amqp_laws.specs.Live.{live}
 use Rattle.amqp_laws.specs.Session.{links_at}
 use Rattle.amqp_laws.specs.At.{base, seen, started, with_told, sent_events, sent_by}
 use Rattle.amqp_laws.specs.Lawful.{Answers, IsReplayed}
-use Rattle.amqp_laws.proofs.Events.{numbered-told}
+use Rattle.amqp_laws.proofs.Events.{numbered-told, sent-same}
 
 -- # What is found
 
@@ -45,66 +54,50 @@ found-passes test (l ∷ links) on h = by_test (test l) refl (found-passes test 
     by_test true e rest h = let same : l ≡ on = cc in subst (λ (x : LinkView). test x ≡ true) same e
     by_test false e rest h = rest h
 
--- what is so of some item that is held is asked of what is held
-pub any-item : (test : Item → Bool) (ds : List (Item × List Event)) → list_any (λ s. test s.item) (map sent_item ds) ≡ list_any test (map shown ds)
-any-item test [] = refl
-any-item test (d ∷ ds) = ap (λ b. test (shown d) || b) (any-item test ds)
-
 -- # One event
 
 -- an event by which no delivery of ours begins
 record IsSilent (first : ℕ) (e : Event) (before : List Event) : Type 0 where
   sent : IsSent first e before
   none : is_begin e ≡ false
-  free : IsFree e before
 
 silent-continued : (first : ℕ) (over : Bool) (d : Option SendingView) (before : List Event) → IsSilent first (continued_on over d) before
-silent-continued first over None before = record { sent = tt; none = refl; free = tt }
-silent-continued first over (Some d) before = record { sent = tt; none = refl; free = tt }
+silent-continued first over None before = record { sent = tt; none = refl }
+silent-continued first over (Some d) before = record { sent = tt; none = refl }
 
 silent-said : (first : ℕ) (role : Role) (d : Disposition) (before : List Event) → IsSilent first (said_of Sender role d) before
-silent-said first Sender d before = record { sent = tt; none = refl; free = tt }
-silent-said first Receiver d before = record { sent = tt; none = refl; free = tt }
+silent-said first Sender d before = record { sent = tt; none = refl }
+silent-said first Receiver d before = record { sent = tt; none = refl }
 
 silent-heard : (first : ℕ) (b : DispositionBody) (role : Role) (before : List Event) → IsSilent first (heard_of Sender b role) before
-silent-heard first b Sender before = record { sent = tt; none = refl; free = tt }
-silent-heard first b Receiver before = record { sent = tt; none = refl; free = tt }
+silent-heard first b Sender before = record { sent = tt; none = refl }
+silent-heard first b Receiver before = record { sent = tt; none = refl }
 
 silent-left : (first : ℕ) (o : Option LinkView) (before : List Event) → IsSilent first (left_by_peer o) before
-silent-left first None before = record { sent = tt; none = refl; free = tt }
-silent-left first (Some l) before = record { sent = tt; none = refl; free = tt }
+silent-left first None before = record { sent = tt; none = refl }
+silent-left first (Some l) before = record { sent = tt; none = refl }
 
 -- # All events
 
 pub record SentSo (c : Config) (past : List Entry) : Type 0 where
   pub order : AreSentInOrder c.first_id (sent_events c past)
   pub count : deliveries (sent_events c past) ≡ started past
-  pub free : AreFree (sent_events c past)
 
 -- nothing begins
 goes-silent : (c : Config) (past : List Entry) (e : Entry) → started (e ∷ past) ≡ started past → IsSilent c.first_id (sent_by (base c 0 past) e.step) (sent_events c past) → SentSo c past → SentSo c (e ∷ past)
 goes-silent c past e same q s =
-    record { order = (s.order, q.sent); count = rw (q.none, same) s.count; free = (s.free, q.free) }
-
-free-start : (id link : ℕ) (tag : List ℕ) (settled : Bool) (l : LinkView) (events : List Event)
-    → list_any (is_tagged link tag) (held events) ≡ false → IsFree (begun_on id link tag settled (Some l)) events
-free-start id link tag true l events h = tt
-free-start id link tag false l events h = h
+    record { order = (s.order, q.sent); count = rw (q.none, same) s.count }
 
 goes-start : (c : Config) (past : List Entry) (e : Entry) (link : ℕ) (tag : List ℕ) (settled : Bool) (o : Option LinkView) (on : LinkView)
     → option_map (with_told (sent_events c past)) o ≡ Some on
     → started (e ∷ past) ≡ started past + 1
     → sent_by (base c 0 past) e.step ≡ begun_on (next_delivery (base c 0 past)) link tag settled o
-    → list_any (is_tagged link tag) (held (sent_events c past)) ≡ false
     → SentSo c past → SentSo c (e ∷ past)
-goes-start c past e link tag settled None on found one is free s = absurd (cc)
-goes-start c past e link tag settled (Some l) on found one is free s =
-    let events = sent_events c past in
-    let first = c.first_id in
+goes-start c past e link tag settled None on found one is s = absurd (cc)
+goes-start c past e link tag settled (Some l) on found one is s =
     record {
       order = (s.order, rw (is, s.count) refl);
       count = rw (is, one, s.count) refl;
-      free = (s.free, rw is (free-start (next_delivery (base c 0 past)) link tag settled l events free));
     }
 
 sent-start : (c : Config) (n : ℕ) (past : List Entry) (link : ℕ) (tag : List ℕ) (format : ℕ) (settled : Bool) (payload : List ℕ) (more : Bool) (reply : Reply)
@@ -114,13 +107,52 @@ sent-start c n past link tag format settled payload more reply h s =
     let v = seen c n past in
     let id = next_delivery v in
     let o = on-link-ok v link (λ l. sends v.max_frame (start_refusals v l tag settled payload) (start_body (handle_of l.ours) id tag format settled more) payload (Delivery id)) reply h in
-    let a = sends-ok v.max_frame (start_refusals v o.on tag settled payload) (start_body (handle_of o.on.ours) id tag format settled more) payload (Delivery id) reply o.said in
-    let number : o.on.number ≡ link = eqb-true o.on.number link (found-passes (has_number link) v.links o.on o.found) in
-    let untagged : list_any (λ s. is_tagged o.on.number tag s.item) v.sent ≡ false = a.none_holds.1.1.1.0 in
     let there = sym (numbered-told (sent_events c past) link (links_at past)) ∙ o.found in
-    let free : list_any (is_tagged link tag) (held (sent_events c past)) ≡ false =
-    sym (any-item (is_tagged link tag) (still_held (sent_events c past))) ∙ subst (λ (k : ℕ). list_any (λ s. is_tagged k tag s.item) v.sent ≡ false) number untagged in
-    goes-start c past (record { step = Own (Start link tag format settled payload more); reply = reply }) link tag settled (find (has_number link) (links_at past)) o.on there refl refl free s
+    goes-start c past (record { step = Own (Start link tag format settled payload more); reply = reply }) link tag settled (find (has_number link) (links_at past)) o.on there refl refl s
+
+goes-resume : (c : Config) (past : List Entry) (e : Entry) (item : Item) (unsettled : Bool)
+    → started (e ∷ past) ≡ started past + 1
+    → sent_by (base c 0 past) e.step ≡ Begins item unsettled
+    → item.id ≡ next_delivery (base c 0 past)
+    → SentSo c past → SentSo c (e ∷ past)
+goes-resume c past e item unsettled one is id s =
+    let events = sent_events c past in
+    record {
+      order = (s.order, subst (λ (x : Event). IsSent c.first_id x events) (sym is) (id ∙ ap (λ (n : ℕ). wire (c.first_id + n)) (sym s.count)));
+      count = rw (is, one, s.count) refl;
+    }
+
+sent-resume : (c : Config) (n : ℕ) (past : List Entry) (link : ℕ) (tag : List ℕ) (settled : Bool) (reply : Reply)
+    → resume_answer (seen c n past) link tag settled ≡ Ok reply
+    → SentSo c past → SentSo c (resume_entry link tag settled reply ∷ past)
+sent-resume c n past link tag settled reply h s =
+    let v = seen c n past in
+    let id = next_delivery v in
+    let say : LinkView → Result Reply Refusal = λ l. unless_refused (first_refusal (early_refusals l)) (if_there (find (waits_as tag) l.waiting) NotWaiting (resume_item v l settled)) in
+    let o = on-link-ok v link say reply h in
+    let p = unless_refused_Ok (first_refusal (early_refusals o.on)) (if_there (find (waits_as tag) o.on.waiting) NotWaiting (resume_item v o.on settled)) reply o.said in
+    let t = there_Ok (find (waits_as tag) o.on.waiting) NotWaiting (resume_item v o.on settled) reply p.1 in
+    let w : WaitingItem = t.on in
+    let item : Item = record { id = id; link = link; tag = w.tag; second = rcv_mode o.on == 1; local = w.state; remote = w.theirs } in
+    let event : resumed_on id link tag settled (find (has_number link) v.links) ≡ resumed_as id link settled o.on (Some w) =
+    ap (resumed_on id link tag settled) o.found ∙ ap (resumed_as id link settled o.on) t.found in
+    let same = sent-same c n past (Own (Resume link tag settled)) in
+    by-bool (is_sent_anew w)
+    (λ (sent : is_sent_anew w ≡ true).
+    let k = anew-ok v o.on settled w reply t.said sent in
+    let given = resumed_to w.verdict (Some id) (outcome_of w) in
+    let e' = resume_entry link tag settled (anew_reply (handle_of o.on.ours) id w.tag (settled && not (is_partial w)) (outcome_of w) (is_partial w) given) in
+    let is : sent_by (base c 0 past) e'.step ≡ Begins item (not (settled || is_partial w)) =
+    sym same ∙ event ∙ ap (λ (b : Bool). cond b (Begins item (not (settled || is_partial w))) No_event) sent in
+    let so = goes-resume c past e' item (not (settled || is_partial w)) refl is refl s in
+    subst (λ (r : Reply). SentSo c (resume_entry link tag settled r ∷ past)) k.replies so)
+    (λ (none : is_sent_anew w ≡ false).
+    let gone = absent-ok v o.on settled w reply t.said none in
+    let e' = resume_entry link tag settled absent_reply in
+    let is : sent_by (base c 0 past) e'.step ≡ No_event =
+    sym same ∙ event ∙ ap (λ (b : Bool). cond b (Begins item (not (settled || is_partial w))) No_event) none in
+    let so = goes-silent c past e' refl (subst (λ (x : Event). IsSilent c.first_id x (sent_events c past)) (sym is) (record { sent = tt; none = refl })) s in
+    subst (λ (r : Reply). SentSo c (resume_entry link tag settled r ∷ past)) gone so)
 
 sent-own : (c : Config) (n : ℕ) (past : List Entry) (op : Op) (reply : Reply) → Answers (seen c n past) (Own op) reply → SentSo c past → SentSo c (record { step = Own op; reply = reply } ∷ past)
 sent-own c n past (Start link tag format settled payload more) reply h s = sent-start c n past link tag format settled payload more reply h s
@@ -130,7 +162,8 @@ sent-own c n past (Abort link) reply h s =
     goes-silent c past (record { step = Own (Abort link); reply = reply }) refl (silent-continued c.first_id true (sending_on (find (has_number link) (links_at past))) (sent_events c past)) s
 sent-own c n past (Dispose role first last settled state) reply h s =
     goes-silent c past (record { step = Own (Dispose role first last settled state); reply = reply }) refl (silent-said c.first_id role (record { first = first; last = last; settled = settled; state = state }) (sent_events c past)) s
-sent-own c n past op reply h s = record { order = (s.order, tt); count = s.count; free = (s.free, tt) }
+sent-own c n past (Resume link tag settled) reply h s = sent-resume c n past link tag settled reply h s
+sent-own c n past op reply h s = record { order = (s.order, tt); count = s.count }
 
 sent-body : (c : Config) (past : List Entry) (channel : ℕ) (body : Option Performative) (payload : List ℕ) (reply : Reply) → SentSo c past
     → SentSo c (record { step = Heard (record { channel = channel; body = body; payload = payload }); reply = reply } ∷ past)
@@ -138,15 +171,15 @@ sent-body c past channel (Some (heard.Disposition b)) payload reply s =
     goes-silent c past (record { step = Heard (record { channel = channel; body = Some (heard.Disposition b); payload = payload }); reply = reply }) refl (silent-heard c.first_id b b.role (sent_events c past)) s
 sent-body c past channel (Some (heard.Detach b)) payload reply s =
     goes-silent c past (record { step = Heard (record { channel = channel; body = Some (heard.Detach b); payload = payload }); reply = reply }) refl (silent-left c.first_id (find (has_peer_handle b.handle) (links_at past)) (sent_events c past)) s
-sent-body c past channel body payload reply s = record { order = (s.order, tt); count = s.count; free = (s.free, tt) }
+sent-body c past channel body payload reply s = record { order = (s.order, tt); count = s.count }
 
 pub sent-one : (c : Config) (n : ℕ) (past : List Entry) (step : Step) (reply : Reply) → Answers (seen c n past) step reply → SentSo c past → SentSo c (record { step = step; reply = reply } ∷ past)
-sent-one c n past (Opened told) reply h s = record { order = (s.order, tt); count = s.count; free = (s.free, tt) }
+sent-one c n past (Opened told) reply h s = record { order = (s.order, tt); count = s.count }
 sent-one c n past (Own op) reply h s = sent-own c n past op reply h s
 sent-one c n past (Heard f) reply h s = sent-body c past f.channel f.body f.payload reply s
 
 pub sent-so : (c : Config) (past : List Entry) → IsReplayed c past → SentSo c (live past)
-sent-so c [] h = record { order = tt; count = refl; free = tt }
+sent-so c [] h = record { order = tt; count = refl }
 sent-so c (e ∷ before) h = by_live (some_entry ends (live before) && hears_no_end e.step) (sent-so c before h.0)
   where
     by_live : (b : Bool) → SentSo c (live before) → SentSo c (cond b (live before) (e ∷ live before))

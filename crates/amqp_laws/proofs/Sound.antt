@@ -4,7 +4,7 @@ use Rattle.std.proofs.lemmas.List.{reverse-append}
 use Rattle.amqp_rules.specs.declared.config.Config.{Config}
 use Rattle.amqp_rules.specs.declared.reply.Reply.{Reply}
 use Rattle.amqp_rules.specs.View.{View, initial}
-use Rattle.amqp_rules.specs.Sound.{Every, IsSound, IsUnfinished}
+use Rattle.amqp_rules.specs.Sound.{Every, IsSound, IsUnfinished, IsWaitingApart}
 use Rattle.amqp_laws.specs.declared.entry.Entry.{Entry}
 use Rattle.amqp_laws.specs.declared.entry.Step.{Step}
 use Rattle.amqp_laws.specs.declared.entry.Step.TheVariants.{Opened, Own, Heard}
@@ -14,6 +14,7 @@ use Rattle.amqp_laws.specs.Windows.{sent_transfers}
 use Rattle.amqp_laws.specs.At.{at}
 use Rattle.amqp_laws.specs.Lawful.{Answers, IsLawful, IsReplayed, GoesOn, next}
 use Rattle.amqp_rules.proofs.Soundness.{heard-is-sound, initial-is-sound, opened-is-sound, own-is-sound}
+use Rattle.amqp_rules.proofs.Apart.{heard-apart-after, initial-apart, opened-apart, own-apart}
 use Rattle.amqp_rules.proofs.Unfinished.{heard-unfinished-after, own-unfinished}
 use Rattle.amqp_laws.proofs.Counting.{left-none}
 use Rattle.amqp_laws.proofs.Taking.{takes-few}
@@ -68,3 +69,17 @@ at-unfinished c (e ∷ before) h short =
     let s : length before + 1 ≤ 2 ^ 30 = rw (← add-one (length before)) at short in
     let fewer : length before ≤ 2 ^ 30 = omega (arith, s) in
     subst (λ (v : View). Every IsUnfinished v.links) (sym (law c before e h.0 fewer h.1)) (next-unfinished (at c before) e.step e.reply h.1 (at-unfinished c before h.0 fewer))
+
+-- # What waits
+
+next-apart : (v : View) (step : Step) (reply : Reply) → Answers v step reply → IsSound v → IsWaitingApart v → IsWaitingApart (next v step)
+next-apart v (Opened told) reply h s a = opened-apart v told a
+next-apart v (Own op) reply h s a = own-apart v op reply h s.links.numbers a
+next-apart v (Heard f) reply h s a = heard-apart-after v f reply h s.links.numbers a
+
+pub at-apart : (c : Config) (past : List Entry) → IsReplayed c past → length past ≤ 2 ^ 30 → IsWaitingApart (at c past)
+at-apart c [] h short = subst (λ (v : View). IsWaitingApart v) (at-first c) (initial-apart c)
+at-apart c (e ∷ before) h short =
+    let s : length before + 1 ≤ 2 ^ 30 = rw (← add-one (length before)) at short in
+    let fewer : length before ≤ 2 ^ 30 = omega (arith, s) in
+    subst (λ (v : View). IsWaitingApart v) (sym (law c before e h.0 fewer h.1)) (next-apart (at c before) e.step e.reply h.1 (at-is-sound c before h.0 fewer) (at-apart c before h.0 fewer))

@@ -32,7 +32,7 @@ use Rattle.amqp_laws.proofs.LinkDeliveries.{start-sending}
 use Rattle.amqp_laws.proofs.ToldLink.{told-step, change-told, mute-links, IsMute}
 use Rattle.amqp_laws.proofs.TableLaw.{table-law}
 
-wire-sum : (n j : ℕ) → wire (n + j) ≡ wire (wire n + j)
+pub wire-sum : (n j : ℕ) → wire (n + j) ≡ wire (wire n + j)
 wire-sum n j = omega arith
 
 pub left-sum : (limit n j : ℕ) → limit - (n + j) ≡ (limit - n) - j
@@ -44,7 +44,7 @@ start_entry link tag format settled payload more handle id =
     record { step = Own (Start link tag format settled payload more); reply = reply_of (start_body handle id tag format settled more) payload (Delivery id) }
 
 -- nothing is unfinished on a link that shows nothing
-nothing-sent : (past : List Entry) → some_entry detaches past ≡ false → is_some (sending past) ≡ false → unfinished (sent_on past) ≡ None
+pub nothing-sent : (past : List Entry) → some_entry detaches past ≡ false → is_some (sending past) ≡ false → unfinished (sent_on past) ≡ None
 nothing-sent past stays none = shown (unfinished (sent_on past)) refl
   where
     shown : (d : Option _) → unfinished (sent_on past) ≡ d → d ≡ None

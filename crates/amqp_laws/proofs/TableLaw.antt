@@ -1,4 +1,7 @@
 -- The unsettled deliveries and the expected id, as formulas over the whole past and as single changes: for every kind of step.
+use Rattle.amqp_rules.proofs.Listed.{by-bool}
+use Rattle.amqp_waiting.specs.Waiting.{WaitingItem, waits_as}
+use Rattle.amqp_rules.specs.Resume.{resume_begins, item_sends, next_resume}
 use Rattle.std.proofs.Common.{◌≡◌, ℕ, Bool, true, false, cond, Option, None, Some, List, ◌∷◌, find, is_some, refl, sym, ◌∙◌}
 use Rattle.amqp_performatives.specs.declared.bodies.DispositionBody.{DispositionBody}
 use Rattle.amqp_performatives.specs.declared.bodies.Role.{Role}
@@ -7,10 +10,10 @@ use Rattle.amqp_performatives.specs.declared.performative.Performative.{Performa
 use Rattle.amqp_performatives.specs.declared.performative.Performative.TheVariants as heard
 use Rattle.amqp_frames.specs.declared.frame.Frame.{Frame}
 use Rattle.amqp_rules.specs.declared.op.Op.{Op}
-use Rattle.amqp_rules.specs.declared.op.Op.TheVariants.{Begin, Attach, Start, Carry, Abort, Dispose, Learn, Grant, Offer, Drained, Refresh, Take, Detach, Suspend, End, Beat}
+use Rattle.amqp_rules.specs.declared.op.Op.TheVariants.{Begin, Attach, Start, Carry, Abort, Dispose, Learn, Grant, Offer, Drained, Refresh, Take, Detach, Suspend, Rejoin, Resume, End, Beat}
 use Rattle.amqp_rules.specs.declared.config.Config.{Config}
-use Rattle.amqp_rules.specs.View.{View, LinkView, SendingView, has_number, has_peer_handle, is_offered_as, is_asked_as, opposite}
-use Rattle.amqp_rules.specs.Deliveries.{sent_by_own, sent_by_body, received_by_own, received_by_body, continued_on, sending_on, said_of, heard_of, left_by_peer}
+use Rattle.amqp_rules.specs.View.{View, LinkView, SendingView, has_number, has_peer_handle, is_offered_as, is_asked_as, opposite, next_delivery}
+use Rattle.amqp_rules.specs.Deliveries.{sent_by_own, sent_by_body, received_by_own, received_by_body, continued_on, sending_on, said_of, heard_of, left_by_peer, resumed_on, resumed_as}
 use Rattle.amqp_rules.specs.Answer.{next_own, next_body, next_heard, is_dropped}
 use Rattle.amqp_events.specs.Event.{Disposition, Event, Continues, Learns, Takes}
 use Rattle.amqp_events.specs.Event.{Nothing as No_event}
@@ -59,6 +62,22 @@ left-none : (o : Option LinkView) (next : Option ℕ) → next ≡ one_past (id_
 left-none None next = refl
 left-none (Some l) next = refl
 
+-- nothing begins where no transfer is sent
+no-begin : (id k : ℕ) (settled : Bool) (l : LinkView) (o : Option WaitingItem) → item_sends o ≡ false → resumed_as id k settled l o ≡ No_event
+no-begin id k settled l None h = refl
+no-begin id k settled l (Some w) h = rw h refl
+
+no-resumed : (id k : ℕ) (tag : List ℕ) (settled : Bool) (o : Option LinkView) → resume_begins tag o ≡ false → resumed_on id k tag settled o ≡ No_event
+no-resumed id k tag settled None h = refl
+no-resumed id k tag settled (Some l) h = no-begin id k settled l (find (waits_as tag) l.waiting) h
+
+resumed-tables : (v : View) (link : ℕ) (tag : List ℕ) (settled : Bool) (o : Option LinkView) → find (has_number link) v.links ≡ o
+    → Tables v (sent_by_own v (Resume link tag settled)) No_event (next_resume v link tag settled)
+resumed-tables v link tag settled o is =
+    by-bool (resume_begins tag (find (has_number link) v.links))
+    (λ (anew : resume_begins tag (find (has_number link) v.links) ≡ true). rw anew record { sends = refl; receives = sym (held-left No_event v.received nothing-left); expects = refl })
+    (λ (none : resume_begins tag (find (has_number link) v.links) ≡ false). rw (none, no-resumed (next_delivery v) link tag settled (find (has_number link) v.links) none) (stays v _ refl refl refl))
+
 own-tables : (v : View) (op : Op) → Tables v (sent_by_own v op) (received_by_own v op) (next_own v op)
 own-tables v (Attach name role snd rcv source target count max_message) =
     joins v (is_some (find (is_offered_as role name) v.links)) _ _ (stays v _ refl refl refl) (stays v _ refl refl refl)
@@ -75,6 +94,9 @@ own-tables v (Take link) =
     record { sends = sym (sent-left No_event v.sent nothing-left); receives = sym (held-left (Takes link) v.received (takes-left link)); expects = refl }
 own-tables v (Detach link error) = record { sends = refl; receives = refl; expects = refl }
 own-tables v (Suspend link) = record { sends = refl; receives = refl; expects = refl }
+own-tables v (Rejoin r) =
+    joins v (is_some (find (is_offered_as r.role r.name) v.links)) _ _ (stays v _ refl refl refl) (stays v _ refl refl refl)
+own-tables v (Resume link tag settled) = resumed-tables v link tag settled (find (has_number link) v.links) refl
 own-tables v (End error) = record { sends = sym (sent-over v.sent); receives = sym (held-over v.received); expects = refl }
 own-tables v Begin = stays v _ refl refl refl
 own-tables v (Grant link credit drain echo) = stays v _ refl refl refl

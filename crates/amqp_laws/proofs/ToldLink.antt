@@ -1,5 +1,6 @@
 -- What was told, with each link, over the whole past and as single changes.
-use Rattle.std.proofs.Common.{◌≡◌, ℕ, ◌<◌, ◌&&◌, Bool, true, false, cond, not, Option, None, Some, Ok, List, [], ◌∷◌, length, map, find, refl, subst, append-nil, arith}
+use Rattle.amqp_waiting.specs.Waiting.{WaitingItem, waits_as}
+use Rattle.std.proofs.Common.{◌≡◌, ℕ, ◌<◌, ◌&&◌, Bool, true, false, cond, not, Option, None, Some, Ok, List, [], ◌∷◌, length, map, find, refl, subst, append-nil, arith, ◌||◌, ◌==◌}
 use Rattle.std.proofs.lemmas.Bool.{eqb-true}
 use Rattle.amqp_performatives.specs.declared.performative.Performative.{Performative}
 use Rattle.amqp_performatives.specs.declared.performative.Performative.TheVariants as heard
@@ -7,15 +8,15 @@ use Rattle.amqp_performatives.specs.declared.bodies.DispositionBody.{Disposition
 use Rattle.amqp_performatives.specs.declared.bodies.Role.{Role}
 use Rattle.amqp_performatives.specs.declared.bodies.Role.TheVariants.{Sender, Receiver}
 use Rattle.amqp_rules.specs.declared.op.Op.{Op}
-use Rattle.amqp_rules.specs.declared.op.Op.TheVariants.{Start, Carry, Abort, Dispose, Learn}
+use Rattle.amqp_rules.specs.declared.op.Op.TheVariants.{Start, Carry, Abort, Dispose, Learn, Resume}
 use Rattle.amqp_rules.specs.declared.reply.Reply.{Reply}
 use Rattle.amqp_rules.specs.declared.refusal.Refusal.TheVariants.{NoLink, WrongRole}
 use Rattle.amqp_rules.specs.declared.config.Config.{Config}
-use Rattle.amqp_rules.specs.View.{LinkView, SendingView, has_number, has_peer_handle, change_first, same_role, next_delivery}
+use Rattle.amqp_rules.specs.View.{LinkView, SendingView, has_number, has_peer_handle, change_first, same_role, next_delivery, rcv_mode}
 use Rattle.amqp_rules.specs.Refusing.{unless}
 use Rattle.amqp_rules.specs.Learn.{learn_answer, learn_first}
 use Rattle.amqp_rules.specs.PeerDisposition.{told_more}
-use Rattle.amqp_rules.specs.Deliveries.{begun_on, continued_on, sending_on, said_of, heard_of, left_by_peer}
+use Rattle.amqp_rules.specs.Deliveries.{begun_on, continued_on, sending_on, said_of, heard_of, left_by_peer, resumed_on, resumed_as, is_sent_anew, is_partial}
 use Rattle.amqp_rules.proofs.Accepted.{there_Ok, unless_Ok}
 use Rattle.amqp_events.specs.Event.{Disposition, Event, Begins, Continues, PassesOver, Says, Hears, Leaves, Over, Learns, Takes}
 use Rattle.amqp_events.specs.Event.{Nothing as No_event}
@@ -131,12 +132,25 @@ learn-finds c n past link reply h =
         by_test true h rest = let same : with_told events l ≡ on = cc in rw (← same) refl
         by_test false h rest = rest h
 
+item-quietly : (id k : ℕ) (settled : Bool) (l : LinkView) (o : Option WaitingItem) (events : List Event) → LearnsSome (resumed_as id k settled l o) events
+item-quietly id k settled l None events = tt
+item-quietly id k settled l (Some w) events = by (is_sent_anew w) (Begins (record { id = id; link = k; tag = w.tag; second = rcv_mode l == 1; local = w.state; remote = w.theirs }) (not (settled || is_partial w))) tt
+  where
+    by : (b : Bool) (e : Event) → LearnsSome e events → LearnsSome (cond b e No_event) events
+    by true e h = h
+    by false e h = tt
+
+resumed-quietly : (id k : ℕ) (tag : List ℕ) (settled : Bool) (o : Option LinkView) (events : List Event) → LearnsSome (resumed_on id k tag settled o) events
+resumed-quietly id k tag settled None events = tt
+resumed-quietly id k tag settled (Some l) events = item-quietly id k settled l (find (waits_as tag) l.waiting) events
+
 own-learns : (c : Config) (n : ℕ) (past : List Entry) (op : Op) (reply : Reply) → Answers (seen c n past) (Own op) reply → LearnsSome (sent_by (base c 0 past) (Own op)) (sent_events c past)
 own-learns c n past (Start link tag format settled payload more) reply h = begun-quietly (next_delivery (base c 0 past)) link tag settled (find (has_number link) (links_at past)) (sent_events c past)
 own-learns c n past (Carry link payload more) reply h = learns-quietly (sending_on (find (has_number link) (links_at past))) false (sent_events c past)
 own-learns c n past (Abort link) reply h = learns-quietly (sending_on (find (has_number link) (links_at past))) true (sent_events c past)
 own-learns c n past (Dispose role first last settled state) reply h = said-quietly role (record { first = first; last = last; settled = settled; state = state }) (sent_events c past)
 own-learns c n past (Learn link) reply h = learn-finds c n past link reply h
+own-learns c n past (Resume link tag settled) reply h = resumed-quietly (next_delivery (base c 0 past)) link tag settled (find (has_number link) (links_at past)) (sent_events c past)
 own-learns c n past _ reply h = tt
 
 body-learns : (c : Config) (past : List Entry) (body : Option Performative) (channel : ℕ) (payload : List ℕ) → LearnsSome (sent_by (base c 0 past) (Heard (record { channel = channel; body = body; payload = payload }))) (sent_events c past)

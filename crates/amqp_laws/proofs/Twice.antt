@@ -37,7 +37,7 @@ use Rattle.amqp_laws.specs.DeliveryLaws.{named, NeverTwice, only}
 use Rattle.amqp_laws.proofs.Events.{sent-same, received-same}
 use Rattle.amqp_laws.proofs.SentOrder.{sent-so}
 use Rattle.amqp_laws.proofs.HeardOrder.{heard-so, kept-taken}
-use Rattle.amqp_laws.proofs.Kept.{items-held, live-few, sent-events_many, received-events_many}
+use Rattle.amqp_laws.proofs.Shown.{items-held, live-few, sent-events_many, received-events_many}
 use Rattle.amqp_laws.proofs.EndedLaw.{Ends, own-ends, body-ends, ends-none}
 
 -- # One role's ids

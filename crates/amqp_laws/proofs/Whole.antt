@@ -1,12 +1,13 @@
 -- One entry more is one step of the view.
-use Rattle.std.proofs.Common.{◌≡◌, ◌<◌, ℕ, ◌+◌, ◌^◌, ◌&&◌, suc, Bool, true, false, cond, Option, Some, Ok, List, ◌∷◌, length, refl, sym, ap, ◌∙◌, add-one}
+use Rattle.std.proofs.Common.{◌≡◌, ◌<◌, ℕ, ◌+◌, ◌^◌, ◌&&◌, suc, Bool, true, false, cond, Option, Some, Ok, List, [], ◌∷◌, length, refl, sym, ap, ◌∙◌, add-one}
 use Rattle.amqp_performatives.specs.declared.performative.Performative.{Performative}
 use Rattle.amqp_performatives.specs.declared.performative.Performative.TheVariants as heard
 use Rattle.amqp_frames.specs.declared.frame.Frame.{Frame}
 use Rattle.amqp_rules.specs.declared.op.Op.{Op}
-use Rattle.amqp_rules.specs.declared.op.Op.TheVariants.{Begin, Attach, Start, Carry, Abort, Dispose, Learn, Grant, Offer, Drained, Refresh, Take, Detach, Suspend, End, Beat}
+use Rattle.amqp_rules.specs.declared.op.Op.TheVariants.{Begin, Attach, Start, Carry, Abort, Dispose, Learn, Grant, Offer, Drained, Refresh, Take, Detach, Suspend, Rejoin, Resume, End, Beat}
 use Rattle.amqp_rules.specs.declared.config.Config.{Config}
 use Rattle.amqp_rules.specs.declared.reply.Reply.{Reply}
+use Rattle.amqp_rules.specs.Rejoin.{rejoined}
 use Rattle.amqp_rules.specs.Answer.{body_answer, heard_answer, is_dropped, is_end, next_body, next_heard, next_own, own_answer}
 use Rattle.amqp_rules.specs.View.{is_ending}
 use Rattle.amqp_rules.specs.Sound.{Every}
@@ -23,7 +24,8 @@ use Rattle.amqp_laws.specs.Links.{link_pasts}
 use Rattle.amqp_laws.specs.At.{at, seen, sent_events}
 use Rattle.amqp_laws.specs.Lawful.{Answers, next}
 use Rattle.amqp_laws.proofs.SessionLaw.{opened-law, begin-law, refresh-law, end-law, beat-law, begin-heard-law, end-heard-law}
-use Rattle.amqp_laws.proofs.AttachLaw.{attach-law, attach-heard-law}
+use Rattle.amqp_laws.proofs.ResumeLaw.{resume-law}
+use Rattle.amqp_laws.proofs.AttachLaw.{attach-law, attach-law-bare, attach-heard-law}
 use Rattle.amqp_laws.proofs.StartWhole.{start-whole}
 use Rattle.amqp_laws.proofs.OtherWhole.{carry-whole, disposition-whole}
 use Rattle.amqp_laws.proofs.HeldWhole.{abort-whole, dispose-whole, learn-whole}
@@ -43,7 +45,7 @@ own-law : (c : Config) (n : ℕ) (past : List Entry) (op : Op) (reply : Reply)
     → seen c (n + 1) (record { step = Own op; reply = reply } ∷ past) ≡ next_own (seen c n past) op
 own-law c n past Begin reply learnt h = begin-law c n past reply learnt h
 own-law c n past (Attach name role snd rcv source target count max_message) reply learnt h =
-    attach-law c n past (record { name = name; role = role; snd = snd; rcv = rcv; source = source; target = target; count = count; max_message = max_message }) reply learnt h
+    attach-law-bare c n past (record { name = name; role = role; snd = snd; rcv = rcv; source = source; target = target; count = count; max_message = max_message; items = [] }) reply learnt h
 own-law c n past (Start link tag format settled payload more) reply learnt h = start-whole c n past link tag format settled payload more reply learnt h
 own-law c n past (Carry link payload more) reply learnt h = carry-whole c n past link payload more reply learnt h
 own-law c n past (Abort link) reply learnt h = abort-whole c n past link reply learnt h
@@ -56,6 +58,8 @@ own-law c n past (Refresh echo) reply learnt h = refresh-law c n past echo reply
 own-law c n past (Take link) reply learnt h = take-law c n past link reply learnt h
 own-law c n past (Detach link error) reply learnt h = detach-law c n past link error reply learnt h
 own-law c n past (Suspend link) reply learnt h = suspend-law c n past link reply learnt h
+own-law c n past (Rejoin r) reply learnt h = attach-law c n past (rejoined r) reply learnt h
+own-law c n past (Resume link tag settled) reply learnt h = resume-law c n past link tag settled reply learnt h
 own-law c n past (End error) reply learnt h = end-law c n past error reply learnt h
 own-law c n past Beat reply learnt h = beat-law c n past reply learnt h
 

@@ -1,11 +1,12 @@
 -- Journals in which every reply is the specification's.
-use Rattle.std.specs.Prelude.{ℕ, ◌≡◌, ◌<◌, ◌≤◌, false, Option, None, Some, Ok, List, [], ◌∷◌, ◌++◌, length, find}
+use Rattle.std.specs.Prelude.{ℕ, ◌≡◌, ◌<◌, ◌≤◌, true, false, Option, None, Some, Ok, List, [], ◌∷◌, ◌++◌, length, find}
 use Rattle.amqp_performatives.specs.declared.bodies.TransferBody.{TransferBody}
 use Rattle.amqp_rules.specs.declared.reply.Reply.{Reply}
 use Rattle.amqp_rules.specs.declared.config.Config.{Config}
-use Rattle.amqp_rules.specs.declared.op.Op.TheVariants.{Start}
+use Rattle.amqp_rules.specs.declared.op.Op.TheVariants.{Start, Resume}
 use Rattle.amqp_rules.specs.View.{View, LinkView, has_number, has_peer_handle}
 use Rattle.amqp_rules.specs.Opened.{no_reply, next_opened}
+use Rattle.amqp_rules.specs.Resume.{resume_begins}
 use Rattle.amqp_rules.specs.Answer.{own_answer, heard_answer, next_own, next_heard}
 use Rattle.amqp_laws.specs.declared.entry.Entry.{Entry}
 use Rattle.amqp_laws.specs.declared.entry.Step.{Step}
@@ -38,9 +39,10 @@ abbrev pub credit_of : Option LinkView → ℕ
 credit_of None = 0
 credit_of (Some l) = l.credit.credit
 
--- a start on link k is preceded by credit
+-- a start on link k is preceded by credit, and a resume that sends something
 abbrev pub StartsWithCredit : View → Step → Type 0
 StartsWithCredit v (Own (Start link tag format settled payload more)) = 0 < credit_of (find (has_number link) v.links)
+StartsWithCredit v (Own (Resume link tag settled)) = resume_begins tag (find (has_number link) v.links) ≡ true → 0 < credit_of (find (has_number link) v.links)
 StartsWithCredit v _ = Unit {0}
 
 -- a transfer that is heard on a link that we have not left, and that begins a delivery, is preceded by credit

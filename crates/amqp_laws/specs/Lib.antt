@@ -9,6 +9,7 @@ pub mod Attaches
 pub mod Transfers
 pub mod Sending
 pub mod Receiving
+pub mod Brought
 -- which entries concern which link; the session and its windows
 pub mod Links
 pub mod Session

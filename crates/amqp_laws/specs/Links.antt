@@ -6,7 +6,7 @@ use Rattle.amqp_performatives.specs.declared.performative.Performative.{Performa
 use Rattle.amqp_performatives.specs.declared.performative.Performative.TheVariants as heard
 use Rattle.amqp_flow.specs.Credit.{CreditView}
 use Rattle.amqp_rules.specs.declared.op.Op.{Op}
-use Rattle.amqp_rules.specs.declared.op.Op.TheVariants.{Attach, Start, Carry, Abort, Learn, Grant, Offer, Drained, Take, Detach, Suspend}
+use Rattle.amqp_rules.specs.declared.op.Op.TheVariants.{Attach, Start, Carry, Abort, Learn, Grant, Offer, Drained, Take, Detach, Suspend, Rejoin, Resume}
 use Rattle.amqp_rules.specs.View.{LinkView, has_number, has_peer_handle, is_asked_as, is_offered_as, opposite, change_first}
 use Rattle.amqp_rules.specs.Attach.{end_of}
 use Rattle.amqp_laws.specs.declared.entry.Entry.{Entry}
@@ -18,6 +18,7 @@ use Rattle.amqp_laws.specs.Attaches.{our_attach, peer_attach}
 use Rattle.amqp_laws.specs.Sending.{available, sender_credit}
 use Rattle.amqp_laws.specs.Receiving.{receiver_credit}
 use Rattle.amqp_laws.specs.Transfers.{sending, receiving, ready_on}
+use Rattle.amqp_laws.specs.Brought.{waiting_on, offer_on}
 
 -- a link that was made: by how many before it, with this role of ours and this name; and the entries that concern it, newest first
 pub record LinkPast : Type 0 where
@@ -47,6 +48,8 @@ link_at l =
       receiving = receiving l.past;
       ready = ready_on l.past;
       told = [];
+      waiting = waiting_on l.role l.past;
+      offer = offer_on l.past;
     }
 
 -- a detach of the peer's was heard for it
@@ -82,6 +85,8 @@ own_concern (Drained link) = link_with (has_number link)
 own_concern (Take link) = link_with (has_number link)
 own_concern (Detach link error) = link_with (has_number link)
 own_concern (Suspend link) = link_with (has_number link)
+own_concern (Rejoin r) = link_or_new (is_offered_as r.role r.name) r.role r.name
+own_concern (Resume link tag settled) = link_with (has_number link)
 own_concern _ = no_link
 
 -- the link that the peer calls by this handle, unless we have left it

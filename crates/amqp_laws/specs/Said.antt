@@ -1,5 +1,5 @@
 -- What one entry says.
-use Rattle.std.specs.Prelude.{ℕ, max, Bool, true, false, Option, None, Some, List, [], ◌∷◌, ◌||◌, cond, filter_map, is_some, unwrap_or, option_map}
+use Rattle.std.specs.Prelude.{ℕ, max, Bool, true, false, Option, None, Some, List, [], ◌∷◌, ◌&&◌, ◌||◌, cond, filter_map, is_some, unwrap_or, option_map}
 use Rattle.amqp_rules.specs.declared.op.Op.{Op}
 use Rattle.amqp_rules.specs.declared.op.Op.TheVariants as own
 use Rattle.amqp_performatives.specs.declared.bodies.BeginBody.{BeginBody}
@@ -12,6 +12,7 @@ use Rattle.amqp_flow.specs.declared.flow.SessionFlow.{SessionFlow}
 use Rattle.amqp_rules.specs.declared.reply.Sent.{Sent}
 use Rattle.amqp_rules.specs.Flow.{session_part}
 use Rattle.amqp_rules.specs.Answer.{is_end}
+use Rattle.amqp_waiting.specs.declared.item.SuspendedItem.{SuspendedItem}
 use Rattle.amqp_laws.specs.declared.entry.Entry.{Entry}
 use Rattle.amqp_laws.specs.declared.entry.Step.{Step}
 use Rattle.amqp_laws.specs.declared.entry.Step.TheVariants.{Opened, Own, Heard}
@@ -143,6 +144,17 @@ abbrev pub is_start : Option Op → Bool
 is_start (Some (own.Start link tag format settled payload more)) = true
 is_start _ = false
 
+-- the tag of a delivery that is resumed
+abbrev pub resumed_in : Option Op → Option (List ℕ)
+resumed_in (Some (own.Resume link tag settled)) = Some tag
+resumed_in _ = None
+
+-- the items that an attach of ours brings in
+abbrev pub brought_in : Option Op → Option (List SuspendedItem)
+brought_in (Some (own.Attach name role snd rcv source target count max_message)) = Some []
+brought_in (Some (own.Rejoin r)) = Some r.items
+brought_in _ = None
+
 abbrev pub is_drained : Option Op → Bool
 is_drained (Some (own.Drained link)) = true
 is_drained _ = false
@@ -173,8 +185,19 @@ grant_in _ = None
 abbrev pub begins : Entry → Bool
 begins e = is_begin (own_in e.step)
 
+abbrev pub resumes : Entry → Option (List ℕ)
+resumes e = resumed_in (own_in e.step)
+
+abbrev pub brings : Entry → Option (List SuspendedItem)
+brings e = brought_in (own_in e.step)
+
+abbrev pub sends_some : List Sent → Bool
+sends_some [] = false
+sends_some (s ∷ sent) = true
+
+-- a delivery begins: by a start, or by a resume that sends something
 abbrev pub starts : Entry → Bool
-starts e = is_start (own_in e.step)
+starts e = is_start (own_in e.step) || is_some (resumes e) && sends_some e.reply.sent
 
 abbrev pub drains : Entry → Bool
 drains e = is_drained (own_in e.step)

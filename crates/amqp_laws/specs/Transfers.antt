@@ -1,5 +1,5 @@
 -- The transfers of a link, and its deliveries (part 2, 2.6.14), over the link's own past.
-use Rattle.std.specs.Prelude.{ℕ, ◌&&◌, Bool, Option, None, List, cond, length, option_map, is_some, is_none}
+use Rattle.std.specs.Prelude.{ℕ, ◌&&◌, Bool, Option, None, List, cond, length, option_map, is_some, is_none, false}
 use Rattle.amqp_performatives.specs.declared.bodies.AttachBody.{AttachBody}
 use Rattle.amqp_events.specs.Joined.{Transferred, Delivery, unfinished, ready}
 use Rattle.amqp_rules.specs.View.{SendingView, rcv_of}
@@ -14,8 +14,9 @@ use Rattle.amqp_laws.specs.Attaches.{our_attach, peer_attach}
 abbrev pub mode_by : Option AttachBody → ℕ
 mode_by attach = rcv_of (option_map end_of attach)
 
+-- of what we send it is not asked whether it is brought in: none of it is given to our application
 abbrev pub sent_now : Entry → List Entry → Option Transferred
-sent_now e before = option_map (λ t. transferred (mode_by (peer_attach before)) t.0 t.1) (transfer_sent e)
+sent_now e before = option_map (λ t. record (transferred (mode_by (peer_attach before)) t.0 t.1) { resumed = false }) (transfer_sent e)
 
 -- the transfers that were sent on the link, the newest first
 abbrev pub sent_on : List Entry → List Transferred

@@ -3,7 +3,7 @@ ghost use Rattle.std.specs.Prelude.{ℕ, List, ◌≡◌, ◌≤◌, ◌-◌, �
 ghost use Rattle.amqp_rules.specs.declared.config.Config.{Config};
 ghost use Rattle.amqp_rules.specs.Limits.{IsWithinLimits};
 ghost use Rattle.amqp_rules.specs.View.{LinkView, initial, free_handle};
-ghost use Rattle.amqp_rules.specs.Sound.{Every, IsSound, IsUnfinished, IsLowestFree};
+ghost use Rattle.amqp_rules.specs.Sound.{Every, IsSound, IsUnfinished, IsLowestFree, IsWaitingApart};
 ghost use Rattle.amqp_laws.specs.declared.entry.Entry.{Entry};
 ghost use Rattle.amqp_laws.specs.Past.{past, total_since};
 ghost use Rattle.amqp_laws.specs.Said.{sends_windows, transfers_heard};
@@ -20,6 +20,7 @@ pub fn laws()
     ensures goes_on { (c : Config) (journal : List Entry) → IsWithinLimits c → IsLawful c (past journal) → GoesOn c journal }
     ensures sound { (c : Config) (journal : List Entry) → IsWithinLimits c → IsLawful c (past journal) → IsSound (at c (past journal)) }
     ensures unfinished { (c : Config) (journal : List Entry) → IsWithinLimits c → IsLawful c (past journal) → Every IsUnfinished (at c (past journal)).links }
+    ensures waiting { (c : Config) (journal : List Entry) → IsWithinLimits c → IsLawful c (past journal) → IsWaitingApart (at c (past journal)) }
     ensures handle { (links : List LinkView) → IsLowestFree links (free_handle links) }
     ensures window { (c : Config) (journal : List Entry) → IsLawful c (past journal)
         → (at c (past journal)).windows.incoming ≡ c.window - total_since sends_windows transfers_heard (live (past journal)) }

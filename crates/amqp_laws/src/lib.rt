@@ -8,6 +8,7 @@
 //! | `goes_on` | one entry more is one step: what the formulas give of the longer journal is what the step makes of the session before it |
 //! | `sound` | the links of a session are told apart: by number, by our handles, by the peer's, by role and name |
 //! | `unfinished` | deliveries are unfinished on attached links alone: ours where we send, the peer's where we receive |
+//! | `waiting` | no delivery that waits on a link to be resumed has the tag of one that is unsettled on it |
 //! | `handle` | the handle of an attach is the lowest number that is no handle of ours |
 //! | `window` | the incoming window is the configured one less the transfers heard since our last begin or flow |
 //! | `promise` | how many transfers we promised to take in all never falls |

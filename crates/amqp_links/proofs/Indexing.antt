@@ -16,6 +16,7 @@ use Rattle.amqp_links.specs.Fate.{changed, with_more, with_told, with_ours}
 use Rattle.amqp_links.specs.Handles.{AreHandled, IsGained, uses, used}
 use Rattle.amqp_links.specs.Index.{AreIndexed, IsIndexedAlike, indexed}
 use Rattle.amqp_links.specs.Links.{LinksView, AreNumbered, AreWithin}
+use Rattle.amqp_links.specs.Resuming.{ResumingView}
 use Rattle.amqp_links.specs.Names.{AreNamed, numbers_named, numbers_under}
 use Rattle.amqp_links.proofs.Handled.{uses-alike, used-alike, used-few, here-changed, past-changed, gained-changed, gained-added, gained-gone, uses-added, used-added, uses-kept, used-kept}
 use Rattle.amqp_links.proofs.Named.{yes, no, named-alike, named-more, named-less, others-stay}
@@ -94,15 +95,15 @@ back-named old more new ls name n a i u v q =
     ∙ ap (λ ns. cond (pointwise nat_eq name q) (filter (λ m. not (m == n)) (cond (pointwise nat_eq name q) (ns ++ n ∷ []) ns)) (cond (pointwise nat_eq name q) (ns ++ n ∷ []) ns)) (i q)
     ∙ back (pointwise nat_eq name q) n (numbers_named q ls) (not-among q ls 0 n a)
 
-pub ours-named : (names : Names) (n : ℕ) (end : EndView) (m : Marks) (ls : List LinkView) → AreNamed names ls → AreNamed names (change_first (has_number n) (with_ours end m) ls)
-ours-named names n end m ls i q = i q ∙ sym (same ls)
+pub ours-named : (names : Names) (n : ℕ) (end : EndView) (m : Marks) (r : ResumingView) (ls : List LinkView) → AreNamed names ls → AreNamed names (change_first (has_number n) (with_ours end m r) ls)
+ours-named names n end m r ls i q = i q ∙ sym (same ls)
   where
-    same : (ls : List LinkView) → numbers_named q (change_first (has_number n) (with_ours end m) ls) ≡ numbers_named q ls
+    same : (ls : List LinkView) → numbers_named q (change_first (has_number n) (with_ours end m r) ls) ≡ numbers_named q ls
     same [] = refl
     same (l ∷ ls) =
         ⊎_elim
-        (λ t. ap (numbers_named q) (here-changed n (with_ours end m) l ls t))
-        (λ t. ap (numbers_named q) (past-changed n (with_ours end m) l ls t) ∙ ap (λ ns. cond (pointwise nat_eq q l.name) (l.number ∷ ns) ns) (same ls))
+        (λ t. ap (numbers_named q) (here-changed n (with_ours end m r) l ls t))
+        (λ t. ap (numbers_named q) (past-changed n (with_ours end m r) l ls t) ∙ ap (λ ns. cond (pointwise nat_eq q l.name) (l.number ∷ ns) ns) (same ls))
         (cases_Bool (l.number == n))
 
 -- # Numbers
@@ -167,17 +168,17 @@ none-there (Some end) e = absurd (cc)
 -- # Steps
 
 -- our attach of a link that is there
-pub attached-indexed : (names : Names) (was now : Handles) (ls : LinksView) (n : ℕ) (l : LinkView) (end : EndView) (m : Marks) → AreIndexed names was ls → AreWithin 0 ls.made ls.list
+pub attached-indexed : (names : Names) (was now : Handles) (ls : LinksView) (n : ℕ) (l : LinkView) (end : EndView) (m : Marks) (r : ResumingView) → AreIndexed names was ls → AreWithin 0 ls.made ls.list
     → find (has_number n) ls.list ≡ Some l → l.ours ≡ None → end.handle ≡ free_handle ls.list
     → ((less more : List LinkView) → AreHandled was less → IsGained (free_handle less) less more → AreHandled now more)
     → ((links : List LinkView) (k : ℕ) → AreHandled was links → used links < k → was.next ≤ k → now.next ≤ k)
-    → AreIndexed names now (changed n (with_ours end m) ls)
-attached-indexed names was now ls n l end m i a f o h u v =
-    let g = gained-changed n l end (with_ours end m) ls.list f o refl in
+    → AreIndexed names now (changed n (with_ours end m r) ls)
+attached-indexed names was now ls n l end m r i a f o h u v =
+    let g = gained-changed n l end (with_ours end m r) ls.list f o refl in
     record {
-      named = ours-named names n end m ls.list i.named;
-      handled = u ls.list (change_first (has_number n) (with_ours end m) ls.list) i.handled (rw (← h) g);
-      low = v ls.list ls.made i.handled (used-lower (has_number n) (with_ours end m) ls.list ls.made a g.all) i.low;
+      named = ours-named names n end m r ls.list i.named;
+      handled = u ls.list (change_first (has_number n) (with_ours end m r) ls.list) i.handled (rw (← h) g);
+      low = v ls.list ls.made i.handled (used-lower (has_number n) (with_ours end m r) ls.list ls.made a g.all) i.low;
     }
 
 -- a link more, offered

@@ -20,15 +20,25 @@ unlearnt name t = left.Outcome name (learned_of t)
 abbrev pub left_on : LinkView → List Left
 left_on l = map (untaken l.number l.name) l.ready ++ map (unlearnt l.name) l.told
 
-abbrev pub left_on_found : Option LinkView → List Left
-left_on_found None = []
-left_on_found (Some l) = left_on l
+-- what each link gives, one after the other
+abbrev pub on_found : {X : Type 0} → (LinkView → List X) → Option LinkView → List X
+on_found f None = []
+on_found f (Some l) = f l
 
-abbrev pub left_on_all : List LinkView → List Left
-left_on_all [] = []
-left_on_all (l ∷ ls) = left_on l ++ left_on_all ls
+abbrev pub on_all : {X : Type 0} → (LinkView → List X) → List LinkView → List X
+on_all f [] = []
+on_all f (l ∷ ls) = f l ++ on_all f ls
 
 -- of those that stand under these keys
+abbrev pub under : {X : Type 0} → (LinkView → List X) → Slab LinkView → List ℕ → List X
+under f s [] = []
+under f s (key ∷ keys) = on_found f (slab.get s key) ++ under f s keys
+
+abbrev pub left_on_found : Option LinkView → List Left
+left_on_found o = on_found left_on o
+
+abbrev pub left_on_all : List LinkView → List Left
+left_on_all ls = on_all left_on ls
+
 abbrev pub left_under : Slab LinkView → List ℕ → List Left
-left_under s [] = []
-left_under s (key ∷ keys) = left_on_found (slab.get s key) ++ left_under s keys
+left_under s keys = under left_on s keys

@@ -2,6 +2,7 @@ pub mod Credits
 pub mod Marks
 pub mod Arrivals
 pub mod Links
+pub mod Resuming
 pub mod Names
 pub mod Handles
 pub mod Index
@@ -9,3 +10,4 @@ pub mod Fate
 pub mod Waits
 pub mod Left
 pub mod Suspend
+pub mod Rejoining

@@ -1,7 +1,8 @@
 //! A transfer that is heard, and the deliveries that it begins, goes on with or completes.
-ghost use Rattle.std.specs.Prelude.{◌≡◌, ◌||◌, Some, None, MatchOption, IfOk, OnOk, OnErr, false};
+ghost use Rattle.std.specs.Prelude.{◌≡◌, ◌||◌, ◌↔◌, Some, None, MatchOption, IfOk, OnOk, OnErr, IsTrue, false, true};
+ghost use Rattle.amqp_events.specs.Joined.{unless_resumed};
 ghost use Rattle.amqp_links.specs.Fate.{with_heard};
-ghost use Rattle.amqp_links.specs.Arrivals.{completed_as, goes_on_with, opened_after, opened_by, with_piece, IsProgress, IsProgressOf};
+ghost use Rattle.amqp_links.specs.Arrivals.{completed_as, goes_on_with, opened_after, opened_by, with_joined, with_piece, IsProgress, IsProgressOf, IsWhole};
 
 use crate::link::Link;
 use crate::marks::Marks;
@@ -21,6 +22,8 @@ pub struct Piece {
     pub settled: bool,
     pub more: bool,
     pub aborted: bool,
+    /// As a first transfer it brings in a delivery that was put aside (part 2, 2.6.13).
+    pub resumed: bool,
     pub payload: Bytes,
 }
 
@@ -29,7 +32,16 @@ impl Model for Piece {
 
     ghost Value = { Transferred };
 
-    ghost view = { λ p. record { id = p.id; tag = p.tag; format = p.format; second = p.second; settled = p.settled; more = p.more; aborted = p.aborted; payload = p.payload } };
+    ghost view = { λ p. record { id = p.id; tag = p.tag; format = p.format; second = p.second; settled = p.settled; more = p.more; aborted = p.aborted; resumed = p.resumed; payload = p.payload } };
+}
+
+impl Piece {
+    /// It is all of a delivery that is not brought in, where it is a first one.
+    fn is_whole(&self) -> bool
+        ensures { IsTrue result ↔ IsWhole self.now }
+    {
+        !self.more && !self.aborted && !self.resumed
+    }
 }
 
 /// A delivery of the peer's that is unfinished.
@@ -40,6 +52,7 @@ pub struct Unfinished {
     format: u32,
     second: bool,
     settled: bool,
+    resumed: bool,
     parts: Partial,
     size: u128,
 }
@@ -50,7 +63,7 @@ impl Model for Unfinished {
 
     ghost Value = { Delivery };
 
-    ghost view = { λ u. record { id = u.id; tag = u.tag; format = u.format; second = u.second; settled = u.settled; payload = concat u.parts; status = Open } };
+    ghost view = { λ u. record { id = u.id; tag = u.tag; format = u.format; second = u.second; settled = u.settled; resumed = u.resumed; payload = concat u.parts; status = Open } };
 
     ghost use Rattle.std.specs.Prelude.{◌≡◌};
     ghost use Rattle.amqp_links.specs.Arrivals.{size_told};
@@ -64,6 +77,8 @@ pub struct Progress {
     pub id: u32,
     /// A transfer of it said so.
     pub settled: bool,
+    /// It was brought in.
+    pub resumed: bool,
     /// How long its payloads are, in octets.
     pub size: u128,
 }
@@ -81,11 +96,12 @@ pub struct Waiting {
 
 impl Model for Waiting {
     ghost use Rattle.std.specs.List.{concat};
+    ghost use Rattle.std.specs.Prelude.{false};
     ghost use Rattle.amqp_events.specs.Joined.{Delivery, Complete};
 
     ghost Value = { Delivery };
 
-    ghost view = { λ u. record { id = u.id; tag = u.tag; format = u.format; second = u.second; settled = u.settled; payload = concat u.parts; status = Complete } };
+    ghost view = { λ u. record { id = u.id; tag = u.tag; format = u.format; second = u.second; settled = u.settled; resumed = false; payload = concat u.parts; status = Complete } };
 }
 
 impl Unfinished {
@@ -94,15 +110,17 @@ impl Unfinished {
         requires { piece.aborted ≡ false }
         ensures { IfOk result (λ u. u ≡ opened_by piece) }
     {
+        let payload = unless_resumed(piece.resumed, piece.payload);
+        let size = payload.len() as u128;
         let mut parts = Partial::start(alloc);
-        let size = piece.payload.len() as u128;
-        parts.append(piece.payload)?;
+        parts.append(payload)?;
         Ok(Unfinished {
             id: piece.id,
             tag: piece.tag,
             format: piece.format,
             second: piece.second,
             settled: piece.settled,
+            resumed: piece.resumed,
             parts,
             size,
         })
@@ -115,8 +133,9 @@ impl Unfinished {
         ensures err { OnErr result (self.new ≡ self.old) }
     {
         let settled = piece.settled;
-        let size = self.size.saturating_add(piece.payload.len() as u128);
-        self.parts.append(piece.payload)?;
+        let payload = unless_resumed(self.resumed, piece.payload);
+        let size = self.size.saturating_add(payload.len() as u128);
+        self.parts.append(payload)?;
         self.settled = either(self.settled, settled);
         self.size = size;
         Ok(())
@@ -136,12 +155,21 @@ impl Unfinished {
         Progress {
             id: self.id,
             settled: self.settled,
+            resumed: self.resumed,
             size: self.size,
         }
     }
 
-    /// It is complete.
+    /// It was brought in.
+    fn is_resumed(&self) -> bool
+        ensures { result ≡ self.now.resumed }
+    {
+        self.resumed
+    }
+
+    /// It is complete, and was not brought in.
     fn complete(mut self) -> Waiting
+        requires { self.resumed ≡ false }
         ensures { result ≡ completed_as self }
     {
         Waiting {
@@ -156,6 +184,21 @@ impl Unfinished {
 }
 
 impl Waiting {
+    /// A delivery of one transfer, which was not brought in.
+    fn whole(alloc: Global, piece: Piece) -> Waiting
+        requires { piece.resumed ≡ false }
+        ensures { result ≡ completed_as (opened_by piece) }
+    {
+        Waiting {
+            id: piece.id,
+            tag: piece.tag,
+            format: piece.format,
+            second: piece.second,
+            settled: piece.settled,
+            parts: Parts::one(alloc, piece.payload),
+        }
+    }
+
     /// Its delivery-id.
     pub fn id(&self) -> u32
         ensures { result ≡ self.now.id }
@@ -205,6 +248,18 @@ fn either(a: bool, b: bool) -> bool
     a || b
 }
 
+/// What a delivery that was brought in carries counts for nothing.
+fn unless_resumed(resumed: bool, payload: Bytes) -> Bytes
+    ensures { result ≡ unless_resumed resumed payload }
+{
+    if resumed {
+        drop(payload);
+        Bytes::new()
+    } else {
+        payload
+    }
+}
+
 /// The transfer begins a delivery, or goes on with the unfinished one: as it stands if more is to come.
 fn go_on(alloc: Global, receiving: &mut Option<Unfinished>, piece: Piece) -> Result<(), AllocError>
     requires { piece.aborted ≡ false }
@@ -231,9 +286,9 @@ impl Link {
         }
     }
 
-    /// A transfer is heard on it.
-    pub(crate) fn hear(&mut self, piece: Piece) -> Result<(), AllocError>
-        ensures ok { OnOk result (self.new ≡ with_piece piece self.old) }
+    /// A transfer begins a delivery on it, or goes on with the unfinished one.
+    fn join(&mut self, piece: Piece) -> Result<(), AllocError>
+        ensures ok { OnOk result (self.new ≡ with_joined piece self.old) }
         ensures err { OnErr result (self.new ≡ self.old) }
     {
         if piece.aborted {
@@ -247,11 +302,65 @@ impl Link {
         if more {
             return Ok(());
         }
-        match self.receiving.take() {
-            Some(unfinished) => self.ready.push_back_reserved(unfinished.complete()),
-            None => {}
+        let Some(unfinished) = self.receiving.take() else {
+            return Ok(());
+        };
+        if unfinished.is_resumed() {
+            drop(unfinished);
+            return Ok(());
         }
+        self.ready.push_back_reserved(unfinished.complete());
         Ok(())
+    }
+
+    /// A first transfer brings a delivery in, which waits no longer.
+    #[inline(never)]
+    fn bring_in(&mut self, piece: Piece) -> Result<(), AllocError>
+        requires resumed { piece.resumed ≡ true }
+        requires first { self.old.receiving ≡ None }
+        ensures ok { OnOk result (self.new ≡ with_piece piece self.old) }
+        ensures err { OnErr result (self.new ≡ self.old) }
+    {
+        let tag = piece.tag;
+        self.join(piece)?;
+        self.resuming.remove(&tag);
+        Ok(())
+    }
+
+    /// A delivery of one transfer is heard on it, as most are.
+    fn receive_whole(&mut self, piece: Piece) -> Result<(), AllocError>
+        requires whole { IsWhole piece }
+        requires first { self.old.receiving ≡ None }
+        ensures ok { OnOk result (self.new ≡ with_piece piece self.old) }
+        ensures err { OnErr result (self.new ≡ self.old) }
+    {
+        self.ready.reserve(1)?;
+        self.ready
+            .push_back_reserved(Waiting::whole(self.alloc, piece));
+        Ok(())
+    }
+
+    /// A transfer of another delivery is heard on it.
+    #[inline(never)]
+    fn receive_part(&mut self, piece: Piece) -> Result<(), AllocError>
+        ensures ok { OnOk result (self.new ≡ with_piece piece self.old) }
+        ensures err { OnErr result (self.new ≡ self.old) }
+    {
+        if piece.resumed && self.receiving.is_none() {
+            return self.bring_in(piece);
+        }
+        self.join(piece)
+    }
+
+    /// A transfer is heard on it.
+    pub(crate) fn hear(&mut self, piece: Piece) -> Result<(), AllocError>
+        ensures ok { OnOk result (self.new ≡ with_piece piece self.old) }
+        ensures err { OnErr result (self.new ≡ self.old) }
+    {
+        if self.receiving.is_none() && piece.is_whole() {
+            return self.receive_whole(piece);
+        }
+        self.receive_part(piece)
     }
 
     /// The same, and it has these marks.

@@ -2,7 +2,8 @@
 use crate::arrival::Piece;
 use crate::end::End;
 use crate::marks::Marks;
-use amqp_types::Text;
+use crate::resuming::Resuming;
+use amqp_types::{Tag, Text};
 
 /// What becomes of the links. A link is told by its number, and by the key where it was found.
 #[derive(Drop)]
@@ -15,31 +16,35 @@ pub enum Fate {
         number: u32,
         marks: Marks,
     },
-    /// Our attach of the link was sent.
+    /// Our attach of the link was sent; it has this to resume.
     Ours {
         key: usize,
         number: u32,
         end: End,
         marks: Marks,
+        resuming: Resuming,
     },
-    /// The peer's attach of the link was heard.
+    /// The peer's attach of the link was heard; it has this to resume.
     Theirs {
         key: usize,
         number: u32,
         end: End,
         marks: Marks,
+        resuming: Resuming,
     },
-    /// We ask for a link.
+    /// We ask for a link, which has this to resume.
     Asked {
         name: Text,
         end: End,
         marks: Marks,
+        resuming: Resuming,
     },
-    /// The peer offers a link.
+    /// The peer offers a link, which has this to resume.
     Offered {
         name: Text,
         end: End,
         marks: Marks,
+        resuming: Resuming,
     },
     /// Our detach of the link was sent.
     Left {
@@ -62,6 +67,13 @@ pub enum Fate {
         number: u32,
         marks: Marks,
         piece: Piece,
+    },
+    /// The delivery with this tag is resumed: it waits no longer on the link, which has these marks.
+    Resumed {
+        key: usize,
+        number: u32,
+        marks: Marks,
+        tag: Tag,
     },
     /// The link is gone.
     Gone {

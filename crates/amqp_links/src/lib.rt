@@ -12,8 +12,9 @@
 //! | `names`, `handles` | the indexes by name and of our handles |
 //! | `telling` | what is told of deliveries waits on their links |
 //! | `found` | a link that was found, with its key |
+//! | `resuming` | what a link has to resume: what waits on it, or what the peer's attach told |
 //! | `left` | what links leave that go |
-//! | `suspend` | what goes with a link that is put aside |
+//! | `suspend`, `rejoining` | what goes with a link that is put aside; all links of a role as they would be |
 //! | `fate` | what becomes of the links, as data |
 #![tactic(auto)]
 
@@ -32,6 +33,8 @@ pub mod marks;
 mod meeting;
 mod names;
 mod readers;
+mod rejoining;
+pub mod resuming;
 mod store;
 mod suspend;
 mod telling;

@@ -1,9 +1,12 @@
 //! A link, as it is kept.
-ghost use Rattle.std.specs.Prelude.{◌≡◌, is_some, option_map, IfOk, OnOk, OnErr};
+ghost use Rattle.std.specs.Prelude.{◌≡◌, None, Some, false, true, find, is_some, option_map, slice_get, IfOk, MatchOption};
 ghost use Rattle.amqp_links.specs.Arrivals.{with_piece};
 ghost use Rattle.amqp_links.specs.Credits.{role_of};
-ghost use Rattle.amqp_links.specs.Fate.{with_ours, with_theirs, with_heard};
+ghost use Rattle.amqp_links.specs.Fate.{with_ours, with_resumed, with_theirs, with_heard};
 ghost use Rattle.amqp_links.specs.Marks.{IsMarksOf, with_marks};
+ghost use Rattle.amqp_links.specs.Resuming.{resuming_by_us, resuming_by_peer};
+ghost use Rattle.amqp_waiting.specs.Kept.{standing_of};
+ghost use Rattle.amqp_waiting.specs.Waiting.{has_twice, waits, waits_as};
 ghost use Rattle.amqp_rules.specs.Detach.{left_by_us};
 ghost use Rattle.amqp_rules.specs.Learn.{learnt_from};
 ghost use Rattle.amqp_rules.specs.Status.{link_status, phase_of};
@@ -14,9 +17,11 @@ use crate::arrival::{Piece, Unfinished, Waiting};
 use crate::credit::{Credit, same_role};
 use crate::end::End;
 use crate::marks::{Marks, Sending};
+use crate::resuming::Resuming;
 use amqp_deliveries::Telling;
-use amqp_performatives::Role;
-use amqp_types::Text;
+use amqp_performatives::{AttachBody, Role};
+use amqp_types::{Tag, Text};
+use amqp_waiting::{Standing, SuspendedItem, Verdict};
 use std::alloc::{AllocError, Global};
 use std::collections::VecDeque;
 use std::marker::Model;
@@ -36,6 +41,7 @@ pub struct Link {
     pub(crate) receiving: Option<Unfinished>,
     pub(crate) ready: VecDeque<Waiting>,
     pub(crate) told: VecDeque<Telling>,
+    pub(crate) resuming: Resuming,
 }
 
 impl Model for Link {
@@ -49,7 +55,7 @@ impl Model for Link {
 
     ghost use Rattle.amqp_links.specs.Credits.{role_of, credit_in};
 
-    ghost view = { λ l. record { number = l.number; name = l.name; role = role_of l.credit; ours = l.ours; theirs = l.theirs; left = l.left; credit = credit_in l.credit; available = l.available; sending = l.sending; receiving = l.receiving; ready = l.ready.items; told = l.told.items } };
+    ghost view = { λ l. record { number = l.number; name = l.name; role = role_of l.credit; ours = l.ours; theirs = l.theirs; left = l.left; credit = credit_in l.credit; available = l.available; sending = l.sending; receiving = l.receiving; ready = l.ready.items; told = l.told.items; waiting = l.resuming.waiting; offer = l.resuming.offer } };
 }
 
 impl Link {
@@ -63,10 +69,22 @@ impl Link {
         self.sending = marks.sending;
     }
 
-    /// Our attach of it was sent.
-    pub(crate) fn set_ours(&mut self, end: End, marks: &Marks)
-        ensures { self.new ≡ with_ours end marks.now self.old }
+    /// It has these marks from now on, and the delivery with this tag waits on it no longer.
+    pub(crate) fn set_resumed(&mut self, marks: &Marks, tag: &Tag)
+        ensures { self.new ≡ with_resumed marks.now tag.now self.old }
     {
+        self.left = marks.left;
+        self.credit = marks.credit;
+        self.available = marks.available;
+        self.sending = marks.sending;
+        self.resuming.remove(tag);
+    }
+
+    /// Our attach of it was sent, since when it has this to resume.
+    pub(crate) fn set_ours(&mut self, end: End, marks: &Marks, resuming: Resuming)
+        ensures { self.new ≡ with_ours end marks.now resuming self.old }
+    {
+        self.resuming = resuming;
         self.ours = Some(end);
         self.left = marks.left;
         self.credit = marks.credit;
@@ -74,10 +92,11 @@ impl Link {
         self.sending = marks.sending;
     }
 
-    /// The peer's attach of it was heard.
-    pub(crate) fn set_theirs(&mut self, end: End, marks: &Marks)
-        ensures { self.new ≡ with_theirs end marks.now self.old }
+    /// The peer's attach of it was heard, since when it has this to resume.
+    pub(crate) fn set_theirs(&mut self, end: End, marks: &Marks, resuming: Resuming)
+        ensures { self.new ≡ with_theirs end marks.now resuming self.old }
     {
+        self.resuming = resuming;
         self.theirs = Some(end);
         self.left = marks.left;
         self.credit = marks.credit;
@@ -109,8 +128,15 @@ impl Link {
     }
 
     /// A link that we ask for.
-    pub(crate) fn asked(alloc: Global, number: u32, name: Text, end: End, marks: &Marks) -> Link
-        ensures { result ≡ with_ours end marks.now (new_link number (role_of marks.now.credit) name) }
+    pub(crate) fn asked(
+        alloc: Global,
+        number: u32,
+        name: Text,
+        end: End,
+        marks: &Marks,
+        resuming: Resuming,
+    ) -> Link
+        ensures { result ≡ with_ours end marks.now resuming (new_link number (role_of marks.now.credit) name) }
     {
         Link {
             alloc,
@@ -125,12 +151,20 @@ impl Link {
             receiving: None,
             ready: VecDeque::new(alloc),
             told: VecDeque::new(alloc),
+            resuming,
         }
     }
 
     /// A link that the peer offers.
-    pub(crate) fn offered(alloc: Global, number: u32, name: Text, end: End, marks: &Marks) -> Link
-        ensures { result ≡ with_theirs end marks.now (new_link number (role_of marks.now.credit) name) }
+    pub(crate) fn offered(
+        alloc: Global,
+        number: u32,
+        name: Text,
+        end: End,
+        marks: &Marks,
+        resuming: Resuming,
+    ) -> Link
+        ensures { result ≡ with_theirs end marks.now resuming (new_link number (role_of marks.now.credit) name) }
     {
         Link {
             alloc,
@@ -145,7 +179,52 @@ impl Link {
             receiving: None,
             ready: VecDeque::new(alloc),
             told: VecDeque::new(alloc),
+            resuming,
         }
+    }
+
+    /// What it has to resume once our attach is sent, which brings these items in.
+    pub fn resuming_by_us(&self, items: &[SuspendedItem]) -> Result<Resuming, AllocError>
+        requires { has_twice items.now ≡ false }
+        ensures { IfOk result (λ r. r ≡ resuming_by_us items.now self.now) }
+    {
+        match self.theirs {
+            Some(_) => self
+                .resuming
+                .met_by_us(self.alloc, self.credit.role(), items),
+            None => Resuming::asked(self.alloc, items),
+        }
+    }
+
+    /// What it has to resume once the peer's attach is heard, which answers ours.
+    pub fn resuming_by_peer(&self, attach: &AttachBody) -> Result<Resuming, AllocError>
+        requires { is_some self.now.ours ≡ true }
+        ensures { IfOk result (λ r. r ≡ resuming_by_peer attach.now self.now) }
+    {
+        self.resuming
+            .met_by_peer(self.alloc, self.credit.role(), attach)
+    }
+
+    /// Whether a delivery with this tag waits on it to be resumed.
+    pub fn waits(&self, tag: &Tag) -> bool
+        ensures { result ≡ waits tag.now self.now.waiting }
+    {
+        self.resuming.waits(tag)
+    }
+
+    /// What is known of the delivery with this tag that waits on it to be resumed.
+    pub fn standing(&self, tag: &Tag) -> Option<&Standing>
+        ensures { MatchOption result (find (waits_as tag.now) self.now.waiting ≡ None) (λ s. find (waits_as tag.now) self.now.waiting ≡ Some (standing_of tag.now s.now)) }
+    {
+        self.resuming.find(tag)
+    }
+
+    /// The tag and the verdict of one of those that wait to be resumed, by its place.
+    pub fn waiting_at(&self, place: usize) -> Option<(&Tag, Verdict)>
+        ensures tag { option_map (λ p. p.0.now) result ≡ option_map (λ w. w.tag) (slice_get self.now.waiting place) }
+        ensures verdict { option_map (λ p. p.1) result ≡ option_map (λ w. w.verdict) (slice_get self.now.waiting place) }
+    {
+        self.resuming.at(place)
     }
 
     /// Both attaches were, and no detach of ours.
@@ -183,7 +262,8 @@ impl Link {
         self.number
     }
 
-    pub(crate) fn name(&self) -> &Text
+    /// Its name (part 2, 2.6.1).
+    pub fn name(&self) -> &Text
         ensures { result.now ≡ self.now.name }
     {
         &self.name

@@ -9,39 +9,53 @@ use crate::end::End;
 use crate::fate::Fate;
 use crate::links::Links;
 use crate::marks::Marks;
-use amqp_types::Text;
+use crate::resuming::Resuming;
+use amqp_types::{Tag, Text};
 use std::alloc::AllocError;
 
 impl Links {
     /// Our attach of the link with this number was sent.
-    fn attach(&mut self, number: u32, end: End, marks: &Marks) -> Result<(), AllocError>
-        requires fit { IsFit (Fate.Ours 0 number end marks.now) self.old }
+    fn attach(
+        &mut self,
+        number: u32,
+        end: End,
+        marks: &Marks,
+        resuming: Resuming,
+    ) -> Result<(), AllocError>
+        requires fit { IsFit (Fate.Ours 0 number end marks.now resuming) self.old }
         requires made { self.old.made < 2 ^ 31 }
-        ensures next { OnOk result (self.new ≡ links_after (Fate.Ours 0 number end marks.now) self.old) }
+        ensures next { OnOk result (self.new ≡ links_after (Fate.Ours 0 number end marks.now resuming) self.old) }
         ensures err { OnErr result (self.new ≡ self.old) }
     {
         self.store.rising();
         let Some(found) = self.store.by_number(number) else {
+            drop(resuming);
             return Ok(());
         };
         let key = found.key;
         self.handles.reserve()?;
         self.handles.take();
-        self.store.attach(key, number, end, marks);
+        self.store.attach(key, number, end, marks, resuming);
         Ok(())
     }
 
     /// A link more, which the peer offers.
-    fn offer(&mut self, name: Text, end: End, marks: &Marks) -> Result<(), AllocError>
-        requires fit { IsFit (Fate.Offered name end marks.now) self.old }
+    fn offer(
+        &mut self,
+        name: Text,
+        end: End,
+        marks: &Marks,
+        resuming: Resuming,
+    ) -> Result<(), AllocError>
+        requires fit { IsFit (Fate.Offered name end marks.now resuming) self.old }
         requires made { self.old.made < 2 ^ 31 }
-        ensures next { OnOk result (self.new ≡ links_after (Fate.Offered name end marks.now) self.old) }
+        ensures next { OnOk result (self.new ≡ links_after (Fate.Offered name end marks.now resuming) self.old) }
         ensures err { OnErr result (self.new ≡ self.old) }
     {
         self.store.rising();
         let number = self.store.made();
         self.names.put(&name, number)?;
-        match self.store.offer(name, end, marks) {
+        match self.store.offer(name, end, marks, resuming) {
             Ok(()) => Ok(()),
             Err(name) => {
                 self.names.remove(&name, number);
@@ -51,17 +65,23 @@ impl Links {
     }
 
     /// A link more, which we ask for.
-    fn ask(&mut self, name: Text, end: End, marks: &Marks) -> Result<(), AllocError>
-        requires fit { IsFit (Fate.Asked name end marks.now) self.old }
+    fn ask(
+        &mut self,
+        name: Text,
+        end: End,
+        marks: &Marks,
+        resuming: Resuming,
+    ) -> Result<(), AllocError>
+        requires fit { IsFit (Fate.Asked name end marks.now resuming) self.old }
         requires made { self.old.made < 2 ^ 31 }
-        ensures next { OnOk result (self.new ≡ links_after (Fate.Asked name end marks.now) self.old) }
+        ensures next { OnOk result (self.new ≡ links_after (Fate.Asked name end marks.now resuming) self.old) }
         ensures err { OnErr result (self.new ≡ self.old) }
     {
         self.store.rising();
         let number = self.store.made();
         self.handles.reserve()?;
         self.names.put(&name, number)?;
-        match self.store.ask(name, end, marks) {
+        match self.store.ask(name, end, marks, resuming) {
             Ok(()) => {
                 self.handles.take();
                 Ok(())
@@ -118,6 +138,13 @@ impl Links {
         self.store.learn(key, number);
     }
 
+    /// The delivery with this tag is resumed on the link with this number, which has these marks: the step `Resumed`, by itself.
+    pub fn resume(&mut self, key: usize, number: u32, marks: &Marks, tag: &Tag)
+        ensures { self.new ≡ links_after (Fate.Resumed key number marks.now tag.now) self.old }
+    {
+        self.store.resume(key, number, marks, tag);
+    }
+
     /// A transfer is heard on the link with this number, which has these marks: the step `Heard`, by itself.
     pub fn hear(
         &mut self,
@@ -150,15 +177,27 @@ impl Links {
                 number,
                 end,
                 marks,
-            } => self.attach(number, end, &marks),
+                resuming,
+            } => self.attach(number, end, &marks, resuming),
             Fate::Theirs {
                 key,
                 number,
                 end,
                 marks,
-            } => self.store.answer(key, number, end, &marks),
-            Fate::Asked { name, end, marks } => self.ask(name, end, &marks),
-            Fate::Offered { name, end, marks } => self.offer(name, end, &marks),
+                resuming,
+            } => self.store.answer(key, number, end, &marks, resuming),
+            Fate::Asked {
+                name,
+                end,
+                marks,
+                resuming,
+            } => self.ask(name, end, &marks, resuming),
+            Fate::Offered {
+                name,
+                end,
+                marks,
+                resuming,
+            } => self.offer(name, end, &marks, resuming),
             Fate::Left { key, number } => {
                 self.store.leave(key, number);
                 Ok(())
@@ -177,6 +216,15 @@ impl Links {
                 marks,
                 piece,
             } => self.hear(key, number, &marks, piece),
+            Fate::Resumed {
+                key,
+                number,
+                marks,
+                tag,
+            } => {
+                self.resume(key, number, &marks, &tag);
+                Ok(())
+            }
             Fate::Gone { key, number } => {
                 self.remove(key, number);
                 Ok(())

@@ -136,6 +136,20 @@ impl Link {
         }
     }
 
+    /// What our attach told that stays with it (part 2, 2.7.3). None until it was sent.
+    pub fn ours(&self) -> Option<End>
+        ensures { result ≡ self.now.ours }
+    {
+        self.ours
+    }
+
+    /// What the peer's attach told that stays with it (part 2, 2.7.3). None until it was heard.
+    pub fn theirs(&self) -> Option<End>
+        ensures { result ≡ self.now.theirs }
+    {
+        self.theirs
+    }
+
     /// The link as it stands.
     pub fn status(&self) -> LinkStatus
         ensures { result ≡ link_status self.now }

@@ -2,7 +2,7 @@
 ghost use Rattle.std.specs.Prelude.{◌≡◌, ◌<◌, ◌^◌, [], OnOk, OnErr, IfErr, None, MatchOption, find, option_map};
 ghost use Rattle.std.specs.Ordering.{nat_cmp};
 ghost use Rattle.std.specs.BTreeMap.{get};
-ghost use Rattle.amqp_links.specs.Fate.{IsFit, changed, links_after, with_heard, with_ours};
+ghost use Rattle.amqp_links.specs.Fate.{IsFit, changed, links_after, with_heard, with_ours, with_resumed};
 ghost use Rattle.amqp_links.specs.Links.{AreWithin, IsFirst, IsKnown, look, stands_at};
 ghost use Rattle.amqp_links.specs.Marks.{found_link, with_marks};
 ghost use Rattle.amqp_rules.specs.Detach.{left_by_us};
@@ -16,7 +16,8 @@ use crate::fate::Fate;
 use crate::found::Found;
 use crate::link::Link;
 use crate::marks::Marks;
-use amqp_types::Text;
+use crate::resuming::Resuming;
+use amqp_types::{Tag, Text};
 use slab::Slab;
 use std::alloc::{AllocError, Global};
 use std::collections::BTreeMap;
@@ -138,14 +139,33 @@ impl Store {
     }
 
     /// Our attach of the link with this number was sent. The key is where it was found.
-    pub(crate) fn attach(&mut self, key: usize, number: u32, end: End, marks: &Marks)
-        ensures { self.new ≡ changed number (with_ours end marks.now) self.old }
+    pub(crate) fn attach(
+        &mut self,
+        key: usize,
+        number: u32,
+        end: End,
+        marks: &Marks,
+        resuming: Resuming,
+    )
+        ensures { self.new ≡ changed number (with_ours end marks.now resuming) self.old }
+    {
+        let Some(key) = key_of(&self.slab, &self.numbers, key, number) else {
+            drop(resuming);
+            return;
+        };
+        let link = &mut self.slab[key];
+        link.set_ours(end, marks, resuming);
+    }
+
+    /// The delivery with this tag is resumed on the link with this number, which has these marks. The key is where it was found.
+    pub(crate) fn resume(&mut self, key: usize, number: u32, marks: &Marks, tag: &Tag)
+        ensures { self.new ≡ changed number (with_resumed marks.now tag.now) self.old }
     {
         let Some(key) = key_of(&self.slab, &self.numbers, key, number) else {
             return;
         };
         let link = &mut self.slab[key];
-        link.set_ours(end, marks);
+        link.set_resumed(marks, tag);
     }
 
     /// The peer's attach of the link with this number was heard.
@@ -155,70 +175,96 @@ impl Store {
         number: u32,
         end: End,
         marks: &Marks,
+        resuming: Resuming,
     ) -> Result<(), AllocError>
-        requires { IsFit (Fate.Theirs key number end marks.now) self.old }
-        ensures next { OnOk result (self.new ≡ links_after (Fate.Theirs key number end marks.now) self.old) }
+        requires { IsFit (Fate.Theirs key number end marks.now resuming) self.old }
+        ensures next { OnOk result (self.new ≡ links_after (Fate.Theirs key number end marks.now resuming) self.old) }
         ensures err { OnErr result (self.new ≡ self.old) }
     {
         let Some(key) = key_of(&self.slab, &self.numbers, key, number) else {
+            drop(resuming);
             return Ok(());
         };
         let handle = end.handle();
         match self.peers.insert(handle, key) {
             Ok(_) => {}
-            Err(_) => return Err(AllocError),
+            Err(_) => {
+                drop(resuming);
+                return Err(AllocError);
+            }
         }
         let link = &mut self.slab[key];
-        link.set_theirs(end, marks);
+        link.set_theirs(end, marks, resuming);
         Ok(())
     }
 
     /// A link more, which the peer offers. Where memory is refused, its name comes back.
-    pub(crate) fn offer(&mut self, name: Text, end: End, marks: &Marks) -> Result<(), Text>
-        requires fit { IsFit (Fate.Offered name end marks.now) self.old }
+    pub(crate) fn offer(
+        &mut self,
+        name: Text,
+        end: End,
+        marks: &Marks,
+        resuming: Resuming,
+    ) -> Result<(), Text>
+        requires fit { IsFit (Fate.Offered name end marks.now resuming) self.old }
         requires made { self.old.made < 2 ^ 31 }
-        ensures next { OnOk result (self.new ≡ links_after (Fate.Offered name end marks.now) self.old) }
+        ensures next { OnOk result (self.new ≡ links_after (Fate.Offered name end marks.now resuming) self.old) }
         ensures err { OnErr result (self.new ≡ self.old) }
         ensures name { IfErr result (λ n. n ≡ name) }
     {
         if self.slab.reserve(1).is_err() {
+            drop(resuming);
             return Err(name);
         }
         let key = self.slab.vacant_key();
         let handle = end.handle();
         match self.peers.insert(handle, key) {
             Ok(_) => {}
-            Err(_) => return Err(name),
+            Err(_) => {
+                drop(resuming);
+                return Err(name);
+            }
         }
         match self.numbers.insert(self.made, key) {
             Ok(_) => {}
             Err(_) => {
                 self.peers.remove(&handle);
+                drop(resuming);
                 return Err(name);
             }
         }
-        let link = Link::offered(self.alloc, self.made, name, end, marks);
+        let link = Link::offered(self.alloc, self.made, name, end, marks, resuming);
         self.slab.insert_reserved(link);
         self.made += 1;
         Ok(())
     }
 
     /// A link more, which we ask for. Where memory is refused, its name comes back.
-    pub(crate) fn ask(&mut self, name: Text, end: End, marks: &Marks) -> Result<(), Text>
+    pub(crate) fn ask(
+        &mut self,
+        name: Text,
+        end: End,
+        marks: &Marks,
+        resuming: Resuming,
+    ) -> Result<(), Text>
         requires made { self.old.made < 2 ^ 31 }
-        ensures next { OnOk result (self.new ≡ links_after (Fate.Asked name end marks.now) self.old) }
+        ensures next { OnOk result (self.new ≡ links_after (Fate.Asked name end marks.now resuming) self.old) }
         ensures err { OnErr result (self.new ≡ self.old) }
         ensures name { IfErr result (λ n. n ≡ name) }
     {
         if self.slab.reserve(1).is_err() {
+            drop(resuming);
             return Err(name);
         }
         let key = self.slab.vacant_key();
         match self.numbers.insert(self.made, key) {
             Ok(_) => {}
-            Err(_) => return Err(name),
+            Err(_) => {
+                drop(resuming);
+                return Err(name);
+            }
         }
-        let link = Link::asked(self.alloc, self.made, name, end, marks);
+        let link = Link::asked(self.alloc, self.made, name, end, marks, resuming);
         self.slab.insert_reserved(link);
         self.made += 1;
         Ok(())

@@ -1,4 +1,4 @@
-//! What goes with a link that is put aside (part 2, 2.6.4): what is unsettled and finished on it and, where we receive, was taken.
+//! What goes with a link that is put aside (part 2, 2.6.4): what waits on it to be resumed, and what is unsettled and finished on it and, where we receive, was taken.
 ghost use Rattle.std.specs.Prelude.{◌≡◌, ◌++◌, ◌∷◌, [], map, filter, slice_get, option_to_list, IfOk, OnOk};
 ghost use Rattle.amqp_deliveries.specs.Held.{items_of};
 ghost use Rattle.amqp_links.specs.Suspend.{AreReady};
@@ -103,14 +103,14 @@ impl Link {
         }
     }
 
-    /// The link, with what of these unsettled deliveries goes with it, in order. O(n + r log r + k log r) for n of them, of which k are on the
-    /// link, where r wait to be taken.
+    /// The link, with what waits on it to be resumed, and behind that what of these unsettled deliveries goes with it, each in order. O(w + n + r log
+    /// r + k log r) for w that wait, and n unsettled ones, of which k are on the link, where r wait to be taken.
     pub fn put_aside(&self, held: &Held) -> Result<Suspended, AllocError>
         ensures { IfOk result (λ s. s ≡ aside_of self.now (items_of held.now)) }
     {
         let name = self.name().clone()?;
         let ready = self.ready_ids()?;
-        let mut items = Vec::new(self.alloc);
+        let mut items = self.resuming.suspended(self.alloc)?;
         for place in 0..held.len() {
             self.put_at(held, place, &ready, &mut items)?;
         }

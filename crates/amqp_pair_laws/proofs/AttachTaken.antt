@@ -13,7 +13,7 @@ use Rattle.amqp_rules.specs.declared.reply.Given.TheVariants as given
 use Rattle.amqp_rules.specs.View.{EndView, LinkView, View, free_handle, has_handle, has_name, has_peer_handle, holds, is_mapped, is_offered_as, is_over, is_sender, is_theirs, opposite, takes_frames}
 use Rattle.amqp_rules.specs.Attach.{Wanted, attach_answer, attach_refusals, attach_sent, number_met}
 use Rattle.amqp_rules.specs.PeerAttach.{lacks_count}
-use Rattle.amqp_rules.specs.Answer.{heard_answer, is_end, own_answer}
+use Rattle.amqp_rules.specs.Answer.{heard_answer, is_end}
 use Rattle.amqp_rules.specs.Sound.{IsSound}
 use Rattle.amqp_rules.proofs.Accepted.{not-false, sends-ok}
 use Rattle.amqp_rules.proofs.Free.{free-handle_is-lowest}
@@ -23,10 +23,10 @@ use Rattle.amqp_laws.specs.declared.entry.Step.{Step}
 use Rattle.amqp_laws.specs.declared.entry.Step.TheVariants.{Opened, Own, Heard}
 use Rattle.amqp_laws.specs.Said.{body_heard, own_in}
 use Rattle.amqp_laws.specs.At.{at}
-use Rattle.amqp_laws.specs.Lawful.{Answers}
 use Rattle.amqp_laws.proofs.Sound.{at-is-sound}
 use Rattle.amqp_laws.proofs.Twice.{and-both}
 use Rattle.amqp_laws.proofs.AttachLaw.{not-over}
+use Rattle.amqp_pair_laws.proofs.Plain.{Answers, OwnAnswers}
 use Rattle.amqp_pair_laws.specs.World.{IsFair, frame_among, hears, sends}
 use Rattle.amqp_pair_laws.proofs.FrameKinds.{AreTaken, IsAttach}
 use Rattle.amqp_pair_laws.proofs.Lag as lag
@@ -45,9 +45,9 @@ record WasAttach (v : View) (reply : Reply) : Type 0 where
   wanted : Wanted
   answer : attach_answer v wanted ≡ Ok reply
 
-was-own : (v : View) (op : Op) (reply : Reply) → own_answer v op ≡ Ok reply → is_own_attach (Some op) ≡ true → WasAttach v reply
+was-own : (v : View) (op : Op) (reply : Reply) → OwnAnswers v op reply → is_own_attach (Some op) ≡ true → WasAttach v reply
 was-own v (Attach name role snd rcv source target count max_message) reply h is =
-    record { wanted = record { name = name; role = role; snd = snd; rcv = rcv; source = source; target = target; count = count; max_message = max_message }; answer = h }
+    record { wanted = record { name = name; role = role; snd = snd; rcv = rcv; source = source; target = target; count = count; max_message = max_message; items = [] }; answer = h }
 was-own v _ reply h is = absurd (cc (is))
 
 was-attach : (v : View) (step : Step) (reply : Reply) → Answers v step reply → is_own_attach (own_in step) ≡ true → WasAttach v reply

@@ -16,7 +16,8 @@ use Rattle.amqp_laws.specs.declared.entry.Entry.{Entry}
 use Rattle.amqp_laws.specs.declared.entry.Step.{Step}
 use Rattle.amqp_laws.specs.declared.entry.Step.TheVariants.{Opened, Own, Heard}
 use Rattle.amqp_laws.specs.At.{at, received_by, sent_by}
-use Rattle.amqp_laws.specs.Lawful.{Answers, next}
+use Rattle.amqp_laws.specs.Lawful.{next}
+use Rattle.amqp_pair_laws.proofs.Plain.{Answers, due}
 use Rattle.amqp_pair_laws.proofs.Named.{found-passes}
 use Rattle.amqp_pair_laws.proofs.SlotActs.{AllFair, Lives, OneMore, one-more}
 use Rattle.amqp_pair_laws.proofs.Windows.{lives-goes}
@@ -86,7 +87,7 @@ on-attached c [] fair lives u there = absurd there
 on-attached c (e ∷ past) fair lives u there =
     let o = one-more (Sender, []) c e past fair in
     let lp = (lives-goes e past lives).lived in
-    let h = held-step (at c past) e.step e.reply fair.1.answers lp in
+    let h = held-step (at c past) e.step e.reply (due fair.1) lp in
     subst (λ (v : View). OnAttached v u.link) (sym o.goes_on) (by (on-attached c past fair.0 lp) (h.received u (subst (λ (v : View). In u v.received) o.goes_on there)) lp)
   where
     v : View
@@ -97,11 +98,11 @@ on-attached c (e ∷ past) fair lives u there =
         let o = one-more (Sender, []) c e past fair in
         let before = known s.item s.there in
         subst (λ (k : ℕ). OnAttached (next v e.step) k) (sym s.same.link)
-        (on-after v e.step e.reply s.item.link fair.1.answers lp o.sound before (λ n e' at-n. ends-left (received_by v e.step) s.item n e' at-n s.stays) (λ e'. ends-over (received_by v e.step) s.item e' s.stays))
+        (on-after v e.step e.reply s.item.link (due fair.1) lp o.sound before (λ n e' at-n. ends-left (received_by v e.step) s.item n e' at-n s.stays) (λ e'. ends-over (received_by v e.step) s.item e' s.stays))
     by known (inr is) lp =
         let o = one-more (Sender, []) c e past fair in
-        let before = began-on v e.step e.reply u fair.1.answers lp o.sound is in
-        on-after v e.step e.reply u.link fair.1.answers lp o.sound before (λ n e' at-n. begins-left (received_by v e.step) u n e' is) (λ e'. begins-over (received_by v e.step) u e' is)
+        let before = began-on v e.step e.reply u (due fair.1) lp o.sound is in
+        on-after v e.step e.reply u.link (due fair.1) lp o.sound before (λ n e' at-n. begins-left (received_by v e.step) u n e' is) (λ e'. begins-over (received_by v e.step) u e' is)
 
 -- so the link of the name, where one is held on it
 pub attached-link : (c : Config) (past : List Entry) → AllFair c past → Lives past → IsSound (at c past) → (P : LinkView → Bool) (y : LinkView) (u : Item) → find P (at c past).links ≡ Some y → In u (at c past).received → u.link ≡ y.number → is_attached y ≡ true
@@ -134,7 +135,7 @@ link-before c e past fair lives role name y' found attached unleft = by (find (h
     to = ap (λ (v : View). find (has_name role name) v.links) (sym o.goes_on) ∙ found
 
     by : (b : Option LinkView) → find (has_name role name) v.links ≡ b → Before c past role name y'
-    by None none = absurd (none-before v (next v e.step) (sent_by v e.step) (received_by v e.step) role name y' (link-step v e.step e.reply fair.1.answers lp) none to attached)
+    by None none = absurd (none-before v (next v e.step) (sent_by v e.step) (received_by v e.step) role name y' (link-step v e.step e.reply (due fair.1) lp) none to attached)
     by (Some y) was =
-        let g = stays-on v (next v e.step) (sent_by v e.step) (received_by v e.step) role name y y' (link-step v e.step e.reply fair.1.answers lp) o.sound was to unleft in
+        let g = stays-on v (next v e.step) (sent_by v e.step) (received_by v e.step) role name y y' (link-step v e.step e.reply (due fair.1) lp) o.sound was to unleft in
         record { link' = y; found = was; number = g.number }

@@ -15,6 +15,7 @@ use Rattle.amqp_laws.specs.Session.{session_at}
 use Rattle.amqp_laws.specs.At.{at}
 use Rattle.amqp_laws.specs.Lawful.{next}
 use Rattle.amqp_laws.proofs.Sound.{law}
+use Rattle.amqp_pair_laws.proofs.Plain.{is-due}
 use Rattle.amqp_pair_laws.specs.World.{IsFair, hears, sends}
 use Rattle.amqp_pair_laws.proofs.Lag as lag
 use Rattle.amqp_pair_laws.proofs.Opens.{good}
@@ -32,7 +33,7 @@ begin-next ca cb b f x w body unsent open' =
     let t = x.tight in
     let ga = good ca cb x.moves x.before b t.world in
     let gb = good cb ca x.moves b x.before (lag.swapped sends hears IsFair ca cb x.moves x.before b t.world) in
-    let l = law ca x.before x.entry ga.replayed ga.few x.answers in
+    let l = law ca x.before x.entry ga.replayed ga.few (is-due (at ca x.before) x.entry.step x.entry.reply x.answers) in
     let fresh : some_entry hears_begin (live b) ≡ false = p.begun ∙ unsent in
     let unsent' : some_entry ends (live b) ≡ false =
     by-bool (some_entry ends (live b)) (λ (h : some_entry ends (live b) ≡ true). let k = ended-heard cb b gb.replayed h in absurd (cc (k, fresh))) (λ (h : some_entry ends (live b) ≡ false). h) in

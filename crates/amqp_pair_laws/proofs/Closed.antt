@@ -1,5 +1,5 @@
 -- What an end still holds of what it received is in no range that it disposed and settled.
-use Rattle.std.proofs.Common.{suc, ◌≡◌, ◌<◌, inl, inr, ◌⊎◌, ℕ, ◌^◌, ◌==◌, ◌||◌, Bool, true, false, not, cond, Option, Some, None, Ok, List, [], ◌∷◌, arith, refl, sym, ap, ◌∙◌, subst, find, unwrap_or}
+use Rattle.std.proofs.Common.{suc, ◌≡◌, ◌<◌, inl, inr, ◌⊎◌, ℕ, ◌^◌, ◌==◌, ◌||◌, Bool, true, false, not, cond, Option, Some, None, Ok, List, [], ◌∷◌, arith, refl, sym, ap, ◌∙◌, subst, find, unwrap_or, is_some}
 use Rattle.amqp_flow.specs.Serial.{is_inside, wire}
 use Rattle.amqp_performatives.specs.declared.bodies.Role.{Role}
 use Rattle.amqp_performatives.specs.declared.bodies.Role.TheVariants.{Sender, Receiver}
@@ -17,7 +17,9 @@ use Rattle.amqp_rules.specs.declared.op.Op.{Op}
 use Rattle.amqp_rules.specs.declared.op.Op.TheVariants as own
 use Rattle.amqp_rules.specs.declared.reply.Reply.{Reply}
 use Rattle.amqp_rules.specs.View.{LinkView, View, has_peer_handle, next_delivery, rcv_mode}
-use Rattle.amqp_rules.specs.Deliveries.{belongs_to, heard_of, item_of, left_by_peer, received_by_body, said_of, disposition_of, transfer_on, transferred}
+use Rattle.amqp_waiting.specs.Waiting.{WaitingItem}
+use Rattle.amqp_performatives.specs.declared.state.DeliveryState.{DeliveryState}
+use Rattle.amqp_rules.specs.Deliveries.{begins_unsettled, brought_by, state_brought, belongs_to, heard_of, item_of, left_by_peer, received_by_body, said_of, disposition_of, transfer_on, transferred}
 use Rattle.amqp_rules.specs.PeerTransfer.{is_nameless}
 use Rattle.amqp_rules.specs.Answer.{body_answer}
 use Rattle.amqp_rules.proofs.Listed.{by-bool}
@@ -28,6 +30,8 @@ use Rattle.amqp_laws.specs.Said.{body_heard, own_in, starts}
 use Rattle.amqp_laws.specs.Live.{live}
 use Rattle.amqp_laws.specs.At.{at, received_by}
 use Rattle.amqp_laws.specs.Lawful.{next}
+use Rattle.amqp_laws.proofs.Twice.{and-both}
+use Rattle.amqp_pair_laws.proofs.Plain.{due, no-start}
 use Rattle.amqp_pair_laws.specs.Premise.{ids_heard}
 use Rattle.amqp_pair_laws.specs.Moves.{count, said_as}
 use Rattle.amqp_pair_laws.specs.World.{IsFair, Moves, Tight, World, frame_among, frame_in, hears, sends}
@@ -73,24 +77,38 @@ pub record BeganHere (v : View) (body : Option Performative) (j : Item) : Type 0
   pub found : find (has_peer_handle transfer.handle) v.links ≡ Some link'
   pub stays : link'.left ≡ false
   pub first : link'.receiving ≡ None
-  pub item : j ≡ item_of link'.number (transferred (rcv_mode link') transfer []) transfer.state
+  pub ours : Option DeliveryState
+  -- it has a state of ours only where it is brought in
+  pub bare : unwrap_or transfer.resume false ≡ false → ours ≡ None
+  pub item : j ≡ record (item_of link'.number (transferred (rcv_mode link') transfer []) transfer.state) { local = ours }
   pub unsettled : not (unwrap_or transfer.settled false || unwrap_or transfer.aborted false) ≡ true
 
 pub began-here : (v : View) (body : Option Performative) (j : Item) → begins (received_by_body v body) ≡ Some j → BeganHere v body j
 began-here v (Some (heard.Transfer t)) j is = by (find (has_peer_handle t.handle) v.links) refl is
   where
-    begin : (l : LinkView) → find (has_peer_handle t.handle) v.links ≡ Some l → l.left ≡ false → l.receiving ≡ None → (u : Bool) → not (unwrap_or t.settled false || unwrap_or t.aborted false) ≡ u
-        → cond u (Some (item_of l.number (transferred (rcv_mode l) t []) t.state)) None ≡ Some j → BeganHere v (Some (heard.Transfer t)) j
-    begin l found stays first true u is =
-        let one : item_of l.number (transferred (rcv_mode l) t []) t.state ≡ j = cc is in
-        record { transfer = t; link' = l; body-is = refl; found = found; stays = stays; first = first; item = sym one; unsettled = u }
-    begin l found stays first false u is = absurd (cc (is))
+    begin : (l : LinkView) → find (has_peer_handle t.handle) v.links ≡ Some l → l.left ≡ false → l.receiving ≡ None → (brought : Option WaitingItem) → (unwrap_or t.resume false ≡ false → state_brought brought ≡ None) → (u : Bool) → begins_unsettled (transferred (rcv_mode l) t []) brought ≡ u
+        → cond u (Some (record (item_of l.number (transferred (rcv_mode l) t []) t.state) { local = state_brought brought })) None ≡ Some j → BeganHere v (Some (heard.Transfer t)) j
+    begin l found stays first brought bare true u is =
+        let one : record (item_of l.number (transferred (rcv_mode l) t []) t.state) { local = state_brought brought } ≡ j = cc is in
+        record {
+          transfer = t;
+          link' = l;
+          body-is = refl;
+          found = found;
+          stays = stays;
+          first = first;
+          ours = state_brought brought;
+          bare = bare;
+          item = sym one;
+          unsettled = (and-both (not (unwrap_or t.settled false || unwrap_or t.aborted false)) (not (unwrap_or t.resume false) || is_some brought) u).0;
+        }
+    begin l found stays first brought bare false u is = absurd (cc (is))
 
     on : (l : LinkView) → find (has_peer_handle t.handle) v.links ≡ Some l → (left : Bool) → l.left ≡ left → (d : Option Delivery) → l.receiving ≡ d
-        → begins (cond left (PassesOver t.delivery_id) (belongs_to l.number (transferred (rcv_mode l) t []) t.state d)) ≡ Some j → BeganHere v (Some (heard.Transfer t)) j
+        → begins (cond left (PassesOver t.delivery_id) (belongs_to l.number l.waiting (transferred (rcv_mode l) t []) t.state d)) ≡ Some j → BeganHere v (Some (heard.Transfer t)) j
     on l found true e d r is = absurd (cc (is))
     on l found false e (Some d) r is = absurd (cc (is))
-    on l found false e None r is = begin l found e r (not (unwrap_or t.settled false || unwrap_or t.aborted false)) refl is
+    on l found false e None r is = begin l found e r (brought_by (transferred (rcv_mode l) t []) l.waiting) (λ new. rw new refl) (begins_unsettled (transferred (rcv_mode l) t []) (brought_by (transferred (rcv_mode l) t []) l.waiting)) refl is
 
     by : (o : Option LinkView) → find (has_peer_handle t.handle) v.links ≡ o → begins (transfer_on t o) ≡ Some j → BeganHere v (Some (heard.Transfer t)) j
     by None found is = absurd (cc (is))
@@ -123,19 +141,19 @@ pub starts-there : (ca cb : Config) (n : ℕ) (e : Entry) (a : List Entry) (e' :
     → (j : Item) → (x : BeganHere (at cb b) f.body j) → Starts ca e a f j
 starts-there ca cb n e a e' b f m m' lb sent heard' j x =
     let t = x.transfer in
-    let answer : body_answer (at cb b) f.body f.payload ≡ Ok e'.reply = heard-answers (at cb b) e'.step e'.reply f m'.fair.answers lb heard' in
+    let answer : body_answer (at cb b) f.body f.payload ≡ Ok e'.reply = heard-answers (at cb b) e'.step e'.reply f (due m'.fair) lb heard' in
     let answer' : body_answer (at cb b) (Some (heard.Transfer t)) f.payload ≡ Ok e'.reply = subst (λ (o : Option Performative). body_answer (at cb b) o f.payload ≡ Ok e'.reply) x.body-is answer in
     let accepts = transfer-accepts (at cb b) t f.payload e'.reply answer' in
     let one : accepts.on ≡ x.link' = same-some (find (has_peer_handle t.handle) (at cb b).links) accepts.on x.link' accepts.found x.found in
     let named : is_nameless t ≡ false = accepts.named (ap (λ (l : LinkView). l.left) one ∙ x.stays) (ap (λ (l : LinkView). l.receiving) one ∙ x.first) in
     by-bool (starts e)
     (λ (s : starts e ≡ true).
-    let y = began (at ca a) e.step e.reply f m.fair.answers s sent in
+    let y = began (at ca a) e.step e.reply f (due m.fair) s sent in
     let same : y.transfer ≡ t = (let k : ◌≡◌ {A = Option Performative} (Some (heard.Transfer y.transfer)) (Some (heard.Transfer t)) = sym y.body ∙ x.body-is in cc k) in
     let id : t.delivery_id ≡ Some (next_delivery (at ca a)) = ap (λ (t : TransferBody). t.delivery_id) (sym same) ∙ y.named in
     record { starts' = s; began' = y; id = ap (λ (i : Item). i.id) x.item ∙ ap (λ (o : Option ℕ). unwrap_or o 0) id })
     (λ (s : starts e ≡ false).
-    let none = no-id f.body t (later-none (at ca a) (next (at ca a) e.step) (body_heard e.step) (own_in e.step) e.reply f (step-sending (at ca a) e.step e.reply m.fair.answers) s sent) x.body-is in
+    let none = no-id f.body t (later-none (at ca a) (next (at ca a) e.step) (body_heard e.step) (own_in e.step) e.reply f (step-sending (at ca a) e.step e.reply (due m.fair)) (no-start e s) sent) x.body-is in
     let yes = nameless-none t none in
     absurd (cc (yes, named)))
 
@@ -154,7 +172,7 @@ closed-ahead ca cb n e a b w m deaf k lives u there =
     let fb = (fair-both ca cb (suc n) a (e ∷ b) w).1 in
     let lb = (lives-goes e b lives).lived in
     let o = one-more (Sender, []) cb e b fb in
-    let h = held-step (at cb b) e.step e.reply m.fair.answers lb in
+    let h = held-step (at cb b) e.step e.reply (due m.fair) lb in
     by (h.received u (subst (λ (v : View). In u v.received) o.goes_on there)) lb
   where
     by : Stayed (received_by (at cb b) e.step) (at cb b).received u ⊎ (begins (received_by (at cb b) e.step) ≡ Some u) → Lives b → AllOutside (e ∷ b) u.id
@@ -175,7 +193,7 @@ closed-pass ca cb n e a e' b f w t m m' sent heard' k lives u there =
     let fair = fair-both ca cb (suc n) (e ∷ a) b w in
     let lb = (lives-goes e' b lives).lived in
     let o = one-more (Sender, []) cb e' b (fair.1, m'.fair) in
-    let h = held-step (at cb b) e'.step e'.reply m'.fair.answers lb in
+    let h = held-step (at cb b) e'.step e'.reply (due m'.fair) lb in
     by (h.received u (subst (λ (v : View). In u v.received) o.goes_on there)) lb
   where
     heard-outside : (step : Step) (id : ℕ) → frame_in step ≡ Some f → IsOutside step id
@@ -232,6 +250,6 @@ outside-range c n (e ∷ b) g d fair said body r s id outside =
     by-bool (count sends b == n)
     (λ (t : (count sends b == n) ≡ true).
     let sent : sends e ≡ Some g = (let k = rw t at said in k) in
-    let of = disposed-by (at c b) (next (at c b) e.step) (body_heard e.step) (own_in e.step) e.reply g d (step-sending (at c b) e.step e.reply fair.1.answers) sent body in
+    let of = disposed-by (at c b) (next (at c b) e.step) (body_heard e.step) (own_in e.step) e.reply g d (step-sending (at c b) e.step e.reply (due fair.1)) sent body in
     outside-of e.step d id of r s outside.0)
     (λ (f : (count sends b == n) ≡ false). let k : said_as sends n b ≡ Some g = (let k = rw f at said in k) in outside-range c n b g d fair.0 k body r s id outside.1)

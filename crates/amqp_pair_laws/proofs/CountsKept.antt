@@ -1,5 +1,5 @@
 -- The claim over the counts of links is kept by each way in which a tight world goes on.
-use Rattle.std.proofs.Common.{suc, ◌≡◌, ◌≤◌, ◌<◌, ℕ, ◌+◌, ◌^◌, ◌&&◌, Bool, true, false, cond, Option, Some, None, List, ◌∷◌, arith, refl, sym, ap, ◌∙◌, subst, is_some}
+use Rattle.std.proofs.Common.{suc, ◌≡◌, ◌≤◌, ◌<◌, ℕ, ◌+◌, ◌^◌, ◌&&◌, Bool, true, false, cond, Option, Some, None, List, ◌∷◌, arith, refl, sym, ap, ◌∙◌, subst, is_some, []}
 use Rattle.amqp_flow.specs.Serial.{distance}
 use Rattle.amqp_flow.specs.Credit.{CreditView}
 use Rattle.amqp_performatives.specs.declared.bodies.Role.{Role}
@@ -60,10 +60,10 @@ opposite-sender Sender h = refl
 opposite-sender Receiver h = absurd (cc (h))
 
 -- the other end asks
-asked-agrees : (role : Role) (b : AttachBody) (l : LinkView) (n : ℕ) (m : LinkView) (k : ℕ) → m.role ≡ opposite role → Agreed role l n m k → Agreed role l n (attached_by_us b m) (k + distance m.credit.passed (attached_by_us b m).credit.passed)
+asked-agrees : (role : Role) (b : AttachBody) (l : LinkView) (n : ℕ) (m : LinkView) (k : ℕ) → m.role ≡ opposite role → Agreed role l n m k → Agreed role l n (attached_by_us b [] m) (k + distance m.credit.passed (attached_by_us b [] m).credit.passed)
 asked-agrees role b l n m k is a =
     let s = us-same b m in
-    rests-agreed role l n m (attached_by_us b m) k (λ h. ap (λ (c : CreditView). c.first_count) (us-kept b m (is ∙ opposite-sender role h))) s.passed s.credit s.receiving' a
+    rests-agreed role l n m (attached_by_us b [] m) k (λ h. ap (λ (c : CreditView). c.first_count) (us-kept b m (is ∙ opposite-sender role h))) s.passed s.credit s.receiving' a
 
 -- # The first end alone
 
@@ -166,18 +166,18 @@ kept-ahead ca cb n e a b known w t deaf k lives role name l m' fl fm ours stays 
         by-left true o h = absurd (cc (h))
         by-left false o h = refl
 
-    asked : (o : Option LinkView) (b' : AttachBody) (h : ℕ) → link (opposite role, name) cb b ≡ o → link (opposite role, name) cb (e ∷ b) ≡ Some (attached_by_us b' (or_this o (new_link h (opposite role) name)))
+    asked : (o : Option LinkView) (b' : AttachBody) (h : ℕ) → link (opposite role, name) cb b ≡ o → link (opposite role, name) cb (e ∷ b) ≡ Some (attached_by_us b' [] (or_this o (new_link h (opposite role) name)))
         → Agreed role l N m' (tally (opposite role, name) cb (e ∷ b))
     asked None b' h found to =
-        let one = same-some (link (opposite role, name) cb (e ∷ b)) (attached_by_us b' (new_link h (opposite role) name)) m' to fm in
+        let one = same-some (link (opposite role, name) cb (e ∷ b)) (attached_by_us b' [] (new_link h (opposite role) name)) m' to fm in
         let none' : is_some m'.theirs ≡ false = ap (λ (l : LinkView). is_some l.theirs) (sym one) in
         let some = there in
         absurd (cc (none', some))
     asked (Some m) b' h found to =
-        let one = same-some (link (opposite role, name) cb (e ∷ b)) (attached_by_us b' m) m' to fm in
+        let one = same-some (link (opposite role, name) cb (e ∷ b)) (attached_by_us b' [] m) m' to fm in
         let left' : m.left ≡ false = ap (λ (l : LinkView). l.left) one ∙ stays' in
         let now = asked-agrees role b' l N m (tally (opposite role, name) cb b) (role-of (opposite role, name) cb b m found) (old m found left') in
-        subst (λ (m' : LinkView). Agreed role l N m' (tally (opposite role, name) cb (e ∷ b))) one (to-other role name cb e b l N m (attached_by_us b' m) found to now)
+        subst (λ (m' : LinkView). Agreed role l N m' (tally (opposite role, name) cb (e ∷ b))) one (to-other role name cb e b l N m (attached_by_us b' [] m) found to now)
 
     by : Turn (opposite role) name (at cb b) (at cb (e ∷ b)) (body_heard e.step) (sends e) → Agreed role l N m' (tally (opposite role, name) cb (e ∷ b))
     by (away gone why) = absurd (cc (gone, fm))

@@ -215,10 +215,10 @@ pub record Fresh (l : LinkView) (n : ℕ) : Type 0 where
 pub same-some : {A : Type 0} (o : Option A) (x y : A) → o ≡ Some x → o ≡ Some y → x ≡ y
 same-some {A = A} o x y a b = let e : ◌≡◌ {A = Option A} (Some x) (Some y) = sym a ∙ b in cc e
 
-us-first : (b : AttachBody) (l : LinkView) → l.role ≡ Sender → (attached_by_us b l).credit.first_count ≡ wire (count_of b)
+us-first : (b : AttachBody) (l : LinkView) → l.role ≡ Sender → (attached_by_us b [] l).credit.first_count ≡ wire (count_of b)
 us-first b l is = rw is refl
 
-pub us-kept : (b : AttachBody) (l : LinkView) → l.role ≡ Receiver → (attached_by_us b l).credit ≡ l.credit
+pub us-kept : (b : AttachBody) (l : LinkView) → l.role ≡ Receiver → (attached_by_us b [] l).credit ≡ l.credit
 us-kept b l is = rw is refl
 
 peer-first : (b : AttachBody) (l : LinkView) → l.role ≡ Receiver → (attached_by_peer b l).credit.first_count ≡ wire (count_of b)
@@ -251,9 +251,9 @@ nothing-more : (n p q : ℕ) → n ≡ 0 → q ≡ p → n + distance p q ≡ 0
 nothing-more n p q z e = omega (arith, z, e)
 
 pub asked-fresh : (i : Role × List ℕ) (c : Config) (e : Entry) (past : List Entry) (b : AttachBody) (k : ℕ) (m : LinkView) → AllFair c (e ∷ past) → (o : Option LinkView) → link i c past ≡ o → (shape o).ours ≡ None
-    → link i c (e ∷ past) ≡ Some (attached_by_us b (or_this o (new_link k i.0 i.1))) → link i c (e ∷ past) ≡ Some m → Asked i.0 b m (tally i c (e ∷ past))
+    → link i c (e ∷ past) ≡ Some (attached_by_us b [] (or_this o (new_link k i.0 i.1))) → link i c (e ∷ past) ≡ Some m → Asked i.0 b m (tally i c (e ∷ past))
 asked-fresh i c e past b k m h None found free to is =
-    let one = same-some (link i c (e ∷ past)) (attached_by_us b (new_link k i.0 i.1)) m to is in
+    let one = same-some (link i c (e ∷ past)) (attached_by_us b [] (new_link k i.0 i.1)) m to is in
     let s = us-same b (new_link k i.0 i.1) in
     subst (λ (m : LinkView). Asked i.0 b m (tally i c (e ∷ past))) one
     (record {
@@ -262,7 +262,7 @@ asked-fresh i c e past b k m h None found free to is =
       credit = λ r. s.credit;
     })
 asked-fresh i c e past b k m h (Some l) found free to is =
-    let one = same-some (link i c (e ∷ past)) (attached_by_us b l) m to is in
+    let one = same-some (link i c (e ∷ past)) (attached_by_us b [] l) m to is in
     let s = us-same b l in
     let t = tallied i c past h.0 l found in
     let f = t.fresh (rw free refl) in
@@ -270,7 +270,7 @@ asked-fresh i c e past b k m h (Some l) found free to is =
     subst (λ (m : LinkView). Asked i.0 b m (tally i c (e ∷ past))) one
     (record {
       fresh = record {
-        none = tally-from i c e past l (attached_by_us b l) found to ∙ nothing-more (tally i c past) l.credit.passed (attached_by_us b l).credit.passed f.0 s.passed;
+        none = tally-from i c e past l (attached_by_us b [] l) found to ∙ nothing-more (tally i c past) l.credit.passed (attached_by_us b [] l).credit.passed f.0 s.passed;
         sending' = s.sending' ∙ f.1.0;
         receiving' = s.receiving' ∙ f.1.1;
       };

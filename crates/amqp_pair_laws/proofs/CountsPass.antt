@@ -250,7 +250,7 @@ known-pass ca cb n e a e' b f known world t mv' sent heard' k lives role name l'
         sym (ap (λ (v : View). find (has_name (opposite role) name) v.links) (x.goes_on ∙ heard-next (at cb b) e'.step f lb heard')) ∙ fm
 
     attached : (b' : AttachBody) (h : ℕ) → body_heard e'.step ≡ Some (heard.Attach b') → (slot_of role name (at ca a).links).ours ≡ None
-        → link (role, name) ca (e ∷ a) ≡ Some (attached_by_us b' (or_this (link (role, name) ca a) (new_link h role name)))
+        → link (role, name) ca (e ∷ a) ≡ Some (attached_by_us b' [] (or_this (link (role, name) ca a) (new_link h role name)))
         → Turn (opposite role) name (at cb b) (at cb (e' ∷ b)) (body_heard e'.step) (sends e') → Agreed role l' (tally (role, name) ca (e ∷ a)) m' (tally (opposite role, name) cb (e' ∷ b))
     attached b' h body free at' (away gone why) = absurd (cc (gone, fm))
     attached b' h body free at' (asks b'' f'' h'' none s body'' free'' to'') = absurd (cc (none, body))

@@ -10,7 +10,7 @@ use Rattle.amqp_performatives.specs.declared.performative.Performative.TheVarian
 use Rattle.amqp_frames.specs.declared.frame.Frame.{Frame}
 use Rattle.amqp_events.specs.Event.{Leaves}
 use Rattle.amqp_rules.specs.declared.op.Op.{Op}
-use Rattle.amqp_rules.specs.declared.op.Op.TheVariants.{Begin, Attach, Start, Carry, Abort, Dispose, Learn, Grant, Offer, Drained, Refresh, Take, Detach, Suspend, End, Beat}
+use Rattle.amqp_rules.specs.declared.op.Op.TheVariants.{Begin, Attach, Start, Carry, Abort, Dispose, Learn, Grant, Offer, Drained, Refresh, Take, Detach, Suspend, Rejoin, Resume, End, Beat}
 use Rattle.amqp_rules.specs.declared.reply.Reply.{Reply}
 use Rattle.amqp_rules.specs.declared.reply.Given.TheVariants as given
 use Rattle.amqp_rules.specs.declared.violation.Violation.{Violation}
@@ -24,15 +24,16 @@ use Rattle.amqp_rules.specs.Attach.{Wanted, attach_answer, attach_refusals, atta
 use Rattle.amqp_rules.specs.PeerAttach.{attach_heard_answer, attach_heard_reply, attach_violations, next_attach_heard}
 use Rattle.amqp_rules.specs.Detach.{detach_answer, detach_body, detach_refusals, left_by_us, next_detach}
 use Rattle.amqp_rules.specs.PeerDetach.{detach_heard_answer, detach_reply, next_detach_heard, parting}
-use Rattle.amqp_rules.specs.Answer.{body_answer, is_dropped, next_body, next_own, own_answer}
+use Rattle.amqp_rules.specs.Answer.{body_answer, is_dropped, next_body, next_own}
 use Rattle.amqp_rules.specs.Sound.{IsSound, has_end, keys}
 use Rattle.amqp_rules.proofs.Accepted.{answered_Ok, no_refusal, not-false, on-link-ok, sends-ok, sends-ending-ok, there_Ok, unless_Ok}
 use Rattle.amqp_rules.proofs.Listed.{by-bool, none-passes}
 use Rattle.amqp_laws.specs.Said.{is_detach}
 use Rattle.amqp_laws.specs.declared.entry.Step.{Step}
 use Rattle.amqp_laws.specs.declared.entry.Step.TheVariants.{Opened, Own, Heard}
-use Rattle.amqp_laws.specs.Lawful.{Answers, next}
+use Rattle.amqp_laws.specs.Lawful.{next}
 use Rattle.amqp_laws.proofs.Twice.{and-both}
+use Rattle.amqp_pair_laws.proofs.Plain.{Answers, OwnAnswers, bare}
 use Rattle.amqp_pair_laws.specs.World.{frame_among}
 use Rattle.amqp_pair_laws.proofs.Slots.{Act, idle, asks, meets, leaves, goes, after, no_slot}
 use Rattle.amqp_pair_laws.proofs.SlotOf.{IsIdle, IsIdleBody, body-idle, own-idle, shape, slot_of}
@@ -133,7 +134,7 @@ apart-by role name v after' hears op reply (others p payload t w beside one) na 
 abbrev OwnDoes : Role → List ℕ → View → Op → Reply → Type 0
 OwnDoes role name v op reply = Doing role name v (next_own v op) (own_act role name v op (frame_among reply.sent)) (frame_among reply.sent)
 
-idle-does : (role : Role) (name : List ℕ) (v : View) (op : Op) (reply : Reply) → own_answer v op ≡ Ok reply → IsIdle op → is_own_attach (Some op) ≡ false → is_own_detach (Some op) || false ≡ false
+idle-does : (role : Role) (name : List ℕ) (v : View) (op : Op) (reply : Reply) → OwnAnswers v op reply → IsIdle op → is_own_attach (Some op) ≡ false → is_own_detach (Some op) || false ≡ false
     → own_act role name v op (frame_among reply.sent) ≡ idle → OwnDoes role name v op reply
 idle-does role name v op reply h i na nd is =
     idles is (λ o. own-idle role name v op i) (apart-by role name v (next_own v op) None (Some op) reply (own-sending v op reply h) na nd (frame_among reply.sent) refl)
@@ -169,7 +170,7 @@ free-theirs v role name free None h = refl
 free-theirs v role name free (Some l) h =
     and-some-none (has_name role name l) l.theirs (found-passes (has_name role name) v.links l h) (every-found (λ l. is_theirs role name l ≡ false) (has_name role name) v.links l (none-passes (is_theirs role name) v.links free) h)
 
-shape-asked : (b : AttachBody) (k : ℕ) (role : Role) (name : List ℕ) (o : Option LinkView) → shape (Some (attached_by_us b (or_this o (new_link k role name)))) ≡ after (asks (end_of b)) (shape o)
+shape-asked : (b : AttachBody) (k : ℕ) (role : Role) (name : List ℕ) (o : Option LinkView) → shape (Some (attached_by_us b [] (or_this o (new_link k role name)))) ≡ after (asks (end_of b)) (shape o)
 shape-asked b k role name None = refl
 shape-asked b k role name (Some l) = refl
 
@@ -177,38 +178,38 @@ shape-met : (b : AttachBody) (k : ℕ) (role : Role) (name : List ℕ) (o : Opti
 shape-met b k role name None = refl
 shape-met b k role name (Some l) = refl
 
-pub us-keeps : (b : AttachBody) → KeepsName (attached_by_us b)
+pub us-keeps : (b : AttachBody) → KeepsName (attached_by_us b [])
 us-keeps b = record { role = λ l. refl; name = λ l. refl }
 
 pub peer-keeps : (b : AttachBody) → KeepsName (attached_by_peer b)
 peer-keeps b = record { role = λ l. refl; name = λ l. refl }
 
 pub attach-joins-at : (v : View) (a : Wanted) → IsSound v → is_some (find (is_ours a.role a.name) v.links) ≡ false
-    → find (has_name a.role a.name) (next_attach v a).links ≡ Some (attached_by_us (attach_sent v a) (or_this (find (has_name a.role a.name) v.links) (new_link v.made a.role a.name)))
+    → find (has_name a.role a.name) (next_attach v (bare a)).links ≡ Some (attached_by_us (attach_sent v (bare a)) [] (or_this (find (has_name a.role a.name) v.links) (new_link v.made a.role a.name)))
 attach-joins-at v a s free =
-    let b = attach_sent v a in
+    let b = attach_sent v (bare a) in
     let m : Meets (is_offered_as a.role a.name) a.role a.name v.links =
     record {
       only = λ l h. (and-both (has_name a.role a.name l) (is_offered l) h).0;
       all = λ l h. offered-by (has_name a.role a.name l) l.ours l.theirs (found-passes (has_name a.role a.name) v.links l h)
           (every-found (λ l. is_ours a.role a.name l ≡ false) (has_name a.role a.name) v.links l (none-passes (is_ours a.role a.name) v.links free) h) (end-there v s (has_name a.role a.name) l h);
     } in
-    joined-there v (is_offered_as a.role a.name) a.role a.name (attached_by_us b) (us-keeps b) m (find (has_name a.role a.name) v.links) refl
+    joined-there v (is_offered_as a.role a.name) a.role a.name (attached_by_us b []) (us-keeps b) m (find (has_name a.role a.name) v.links) refl
 
 attach-joins : (v : View) (a : Wanted) → IsSound v → is_some (find (is_ours a.role a.name) v.links) ≡ false
-    → slot_of a.role a.name (next_attach v a).links ≡ after (asks (end_of (attach_sent v a))) (slot_of a.role a.name v.links)
-attach-joins v a s free = ap shape (attach-joins-at v a s free) ∙ shape-asked (attach_sent v a) v.made a.role a.name (find (has_name a.role a.name) v.links)
+    → slot_of a.role a.name (next_attach v (bare a)).links ≡ after (asks (end_of (attach_sent v (bare a)))) (slot_of a.role a.name v.links)
+attach-joins v a s free = ap shape (attach-joins-at v a s free) ∙ shape-asked (attach_sent v (bare a)) v.made a.role a.name (find (has_name a.role a.name) v.links)
 
-attach-does : (role : Role) (name : List ℕ) (v : View) (a : Wanted) (reply : Reply) → attach_answer v a ≡ Ok reply → IsSound v
-    → Doing role name v (next_attach v a) (asks_of role name (frame_among reply.sent)) (frame_among reply.sent)
+attach-does : (role : Role) (name : List ℕ) (v : View) (a : Wanted) (reply : Reply) → attach_answer v (bare a) ≡ Ok reply → IsSound v
+    → Doing role name v (next_attach v (bare a)) (asks_of role name (frame_among reply.sent)) (frame_among reply.sent)
 attach-does role name v a reply h s =
-    let b = attach_sent v a in
-    let k = sends-ok v.max_frame (attach_refusals v a) (Some (heard.Attach b)) [] (given.Link (number_met v.made (find (is_offered_as a.role a.name) v.links))) reply h in
+    let b = attach_sent v (bare a) in
+    let k = sends-ok v.max_frame (attach_refusals v (bare a)) (Some (heard.Attach b)) [] (given.Link (number_met v.made (find (is_offered_as a.role a.name) v.links))) reply h in
     let f = frame_of (Some (heard.Attach b)) [] in
     let sent : frame_among reply.sent ≡ Some f = ap (λ (r : Reply). frame_among r.sent) (sym k.replies) in
     let free : is_some (find (is_ours a.role a.name) v.links) ≡ false = k.none_holds.1.0 in
     let takes : takes_frames v.session ≡ true = (and-both v.session.begin_sent (takes_frames v.session) (not-false (is_mapped v.session) k.none_holds.0)).1 in
-    subst (λ (o : Option Frame). Doing role name v (next_attach v a) (asks_of role name o) o) (sym sent)
+    subst (λ (o : Option Frame). Doing role name v (next_attach v (bare a)) (asks_of role name o) o) (sym sent)
     (by-bool (same_role role a.role && pointwise nat_eq name a.name)
     (λ (t : same_role role a.role && pointwise nat_eq name a.name ≡ true).
     let both = and-both (same_role role a.role) (pointwise nat_eq name a.name) t in
@@ -217,7 +218,7 @@ attach-does role name v a reply h s =
     asking b f takes (rw t refl) refl refl t (rw (r, n) (free-ours v a.role a.name free (find (has_name a.role a.name) v.links) refl)) (rw (r, n) (attach-joins v a s free)))
     (λ (d : same_role role a.role && pointwise nat_eq name a.name ≡ false).
     idles (rw d refl)
-    (λ o. ap shape (joined-other v (is_offered_as a.role a.name) a.role a.name role name (attached_by_us b) (us-keeps b) (λ l h. (and-both (has_name a.role a.name l) (is_offered l) h).0) d))
+    (λ o. ap shape (joined-other v (is_offered_as a.role a.name) a.role a.name role name (attached_by_us b []) (us-keeps b) (λ l h. (and-both (has_name a.role a.name l) (is_offered l) h).0) d))
     d))
 
 -- # The peer's attach
@@ -335,11 +336,13 @@ or-true : (a : Bool) → a || true ≡ true
 or-true true = refl
 or-true false = refl
 
-own-does : (role : Role) (name : List ℕ) (v : View) (op : Op) (reply : Reply) → own_answer v op ≡ Ok reply → IsSound v → OwnDoes role name v op reply
+own-does : (role : Role) (name : List ℕ) (v : View) (op : Op) (reply : Reply) → OwnAnswers v op reply → IsSound v → OwnDoes role name v op reply
 own-does role name v (Attach name' role' snd rcv source target count max_message) reply h s =
-    attach-does role name v (record { name = name'; role = role'; snd = snd; rcv = rcv; source = source; target = target; count = count; max_message = max_message }) reply h s
+    attach-does role name v (record { name = name'; role = role'; snd = snd; rcv = rcv; source = source; target = target; count = count; max_message = max_message; items = [] }) reply h s
 own-does role name v (Detach link error) reply h s = leave-does role name v link (Some true) error (λ l. given.Nothing) reply h s
 own-does role name v (Suspend link) reply h s = leave-does role name v link None None (λ l. given.Suspended (put_aside v l)) reply h s
+own-does role name v (Rejoin r) reply h s = absurd h
+own-does role name v (Resume link tag settled) reply h s = absurd h
 own-does role name v (End error) reply h s =
     idles refl (λ o. absurd (cc (o))) (apart-by role name v (next_own v (End error)) None (Some (End error)) reply (own-sending v (End error) reply h) refl refl (frame_among reply.sent) refl)
 own-does role name v Begin reply h s = idle-does role name v Begin reply h tt refl refl refl

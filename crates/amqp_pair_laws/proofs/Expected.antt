@@ -19,10 +19,15 @@ use Rattle.amqp_rules.specs.declared.reply.Reply.{Reply}
 use Rattle.amqp_rules.specs.declared.reply.Given.TheVariants as given
 use Rattle.amqp_rules.specs.View.{LinkView, View, change_first, handle_of, has_number, is_asked_as, is_attached, is_offered_as, is_over, new_link, next_delivery, opposite, rcv_mode, same_role}
 use Rattle.amqp_rules.specs.Sending.{frame_of, sends as sends'}
-use Rattle.amqp_rules.specs.Deliveries.{belongs_to, transfer_on, transferred}
+use Rattle.amqp_rules.specs.Deliveries.{belongs_to, transfer_on, transferred, sent_by_own}
 use Rattle.amqp_rules.specs.Attach.{attach_sent, attached_by_peer, attached_by_us}
+use Rattle.amqp_waiting.specs.Waiting.{WaitingItem}
+use Rattle.amqp_flow.specs.Windows.{windows_sent}
+use Rattle.amqp_events.specs.Told.{next_sent_held}
+use Rattle.amqp_rules.specs.Rejoin.{rejoined}
+use Rattle.amqp_rules.specs.Resume.{begin_resumed, resume_begins, resumed_from}
 use Rattle.amqp_rules.specs.Start.{start_body, start_refusals, tag_is_held}
-use Rattle.amqp_rules.specs.Answer.{body_answer, is_dropped, next_body, next_own, own_answer}
+use Rattle.amqp_rules.specs.Answer.{body_answer, is_dropped, next_body, next_own}
 use Rattle.amqp_rules.specs.PeerTransfer.{is_nameless}
 use Rattle.amqp_rules.specs.Sound.{IsSound}
 use Rattle.amqp_rules.proofs.Accepted.{not-false, on-link-ok, sends-ok}
@@ -34,7 +39,8 @@ use Rattle.amqp_laws.specs.Past.{some_entry}
 use Rattle.amqp_laws.specs.Said.{body_heard, ends, hears_no_end, is_start, own_in, starts, transfer_in}
 use Rattle.amqp_laws.specs.Live.{live}
 use Rattle.amqp_laws.specs.At.{at, started}
-use Rattle.amqp_laws.specs.Lawful.{Answers, next}
+use Rattle.amqp_laws.specs.Lawful.{next}
+use Rattle.amqp_pair_laws.proofs.Plain.{Answers, OwnAnswers, due, starts-alone, no-start}
 use Rattle.amqp_pair_laws.specs.World.{IsFair, Moves, Tight, World, frame_among, frame_in, hears, sends}
 use Rattle.amqp_pair_laws.proofs.Lag as lag
 use Rattle.amqp_pair_laws.proofs.Slots.{kept}
@@ -72,10 +78,10 @@ pub record Began (v : View) (step : Step) (f : Frame) : Type 0 where
   pub payload : List ℕ
   pub more : Bool
   pub is-start : step ≡ Own (own.Start number tag format settled payload more)
-  pub free : tag_is_held v link.number tag ≡ false
+  pub free : tag_is_held v link tag ≡ false
   pub transfer-is : transfer ≡ start_transfer (handle_of link.ours) (next_delivery v) tag format settled more
 
-began-own : (v : View) (op : Op) (reply : Reply) (f : Frame) → own_answer v op ≡ Ok reply → is_start (Some op) ≡ true → frame_among reply.sent ≡ Some f → Began v (Own op) f
+began-own : (v : View) (op : Op) (reply : Reply) (f : Frame) → OwnAnswers v op reply → is_start (Some op) ≡ true → frame_among reply.sent ≡ Some f → Began v (Own op) f
 began-own v (own.Start number tag format settled payload more) reply f h is sent =
     let id = next_delivery v in
     let o = on-link-ok v number (λ l. sends' v.max_frame (start_refusals v l tag settled payload) (start_body (handle_of l.ours) id tag format settled more) payload (given.Delivery id)) reply h in
@@ -106,13 +112,13 @@ began-own v (own.Start number tag format settled payload more) reply f h is sent
     }
 began-own v _ reply f h is sent = absurd (cc (is))
 
-pub began : (v : View) (step : Step) (reply : Reply) (f : Frame) → Answers v step reply → is_start (own_in step) ≡ true → frame_among reply.sent ≡ Some f → Began v step f
+pub began : (v : View) (step : Step) (reply : Reply) (f : Frame) → Answers v step reply → starts (record { step = step; reply = reply }) ≡ true → frame_among reply.sent ≡ Some f → Began v step f
 began v (Opened told) reply f h is sent = absurd (cc (is))
-began v (Own op) reply f h is sent = began-own v op reply f h is sent
+began v (Own op) reply f h is sent = began-own v op reply f h (sym (starts-alone v (Own op) reply h) ∙ is) sent
 began v (Heard g) reply f h is sent = absurd (cc (is))
 
 -- a start sends a frame
-pub start-loud : (v : View) (op : Op) (reply : Reply) → own_answer v op ≡ Ok reply → is_start (Some op) ≡ true → frame_among reply.sent ≡ None → ⊥
+pub start-loud : (v : View) (op : Op) (reply : Reply) → OwnAnswers v op reply → is_start (Some op) ≡ true → frame_among reply.sent ≡ None → ⊥
 start-loud v (own.Start number tag format settled payload more) reply h is none =
     let id = next_delivery v in
     let o = on-link-ok v number (λ l. sends' v.max_frame (start_refusals v l tag settled payload) (start_body (handle_of l.ours) id tag format settled more) payload (given.Delivery id)) reply h in
@@ -121,9 +127,9 @@ start-loud v (own.Start number tag format settled payload more) reply h is none 
     absurd (cc (sent', none))
 start-loud v _ reply h is none = absurd (cc (is))
 
-pub quiet-starts : (v : View) (step : Step) (reply : Reply) → Answers v step reply → frame_among reply.sent ≡ None → is_start (own_in step) ≡ false
+pub quiet-starts : (v : View) (step : Step) (reply : Reply) → Answers v step reply → frame_among reply.sent ≡ None → starts (record { step = step; reply = reply }) ≡ false
 quiet-starts v (Opened told) reply h none = refl
-quiet-starts v (Own op) reply h none = by-bool (is_start (Some op)) (λ (t : is_start (Some op) ≡ true). absurd (start-loud v op reply h t none)) (λ (f : is_start (Some op) ≡ false). f)
+quiet-starts v (Own op) reply h none = starts-alone v (Own op) reply h ∙ by-bool (is_start (Some op)) (λ (t : is_start (Some op) ≡ true). absurd (start-loud v op reply h t none)) (λ (f : is_start (Some op) ≡ false). f)
 quiet-starts v (Heard g) reply h none = refl
 
 -- no other step sends an id
@@ -152,35 +158,35 @@ started-still e past other = by (some_entry ends (live past) && hears_no_end e.s
 -- # The end that hears
 
 -- the id is used up, also where the link was left
-begun-expected : (left : Bool) (k mode : ℕ) (t : TransferBody) (d : Option Delivery) (after : Option ℕ) (id y : ℕ) → t.delivery_id ≡ Some id → (left ≡ false → d ≡ None) → ((x : ℕ) → after ≡ Some x → x ≡ id)
-    → one_past (id_used (cond left (PassesOver t.delivery_id) (belongs_to k (transferred mode t []) t.state d)) after) after ≡ Some y → y ≡ wire (id + 1)
-begun-expected true k mode t d None id y named first known is = let h = rw named at is in absurd (cc (h))
-begun-expected true k mode t d (Some x) id y named first known is =
+begun-expected : (left : Bool) (k mode : ℕ) (ws : List WaitingItem) (t : TransferBody) (d : Option Delivery) (after : Option ℕ) (id y : ℕ) → t.delivery_id ≡ Some id → (left ≡ false → d ≡ None) → ((x : ℕ) → after ≡ Some x → x ≡ id)
+    → one_past (id_used (cond left (PassesOver t.delivery_id) (belongs_to k ws (transferred mode t []) t.state d)) after) after ≡ Some y → y ≡ wire (id + 1)
+begun-expected true k mode ws t d None id y named first known is = let h = rw named at is in absurd (cc (h))
+begun-expected true k mode ws t d (Some x) id y named first known is =
     let one : id ≡ x = sym (known x refl) in
     let same : (id == x) ≡ true = eq-eqb id x one in
     let h = rw (named, same) at is in
     let e : ◌≡◌ {A = Option ℕ} (Some (wire (id + 1))) (Some y) = h in
     let z : wire (id + 1) ≡ y = cc e in
     sym z
-begun-expected false k mode t (Some d) after id y named first known is = let n = first refl in absurd (cc (n))
-begun-expected false k mode t None after id y named first known is =
+begun-expected false k mode ws t (Some d) after id y named first known is = let n = first refl in absurd (cc (n))
+begun-expected false k mode ws t None after id y named first known is =
     let h = rw named at is in
     let e : ◌≡◌ {A = Option ℕ} (Some (wire (id + 1))) (Some y) = h in
     let z : wire (id + 1) ≡ y = cc e in
     sym z
 
-later-expected : (left : Bool) (k mode : ℕ) (t : TransferBody) (d : Option Delivery) (after : Option ℕ) → t.delivery_id ≡ None → (left ≡ false → d ≡ None → ⊥)
-    → one_past (id_used (cond left (PassesOver t.delivery_id) (belongs_to k (transferred mode t []) t.state d)) after) after ≡ after
-later-expected true k mode t d None none some = rw none refl
-later-expected true k mode t d (Some x) none some = rw none refl
-later-expected false k mode t None after none some = absurd (some refl refl)
-later-expected false k mode t (Some d) after none some = refl
+later-expected : (left : Bool) (k mode : ℕ) (ws : List WaitingItem) (t : TransferBody) (d : Option Delivery) (after : Option ℕ) → t.delivery_id ≡ None → (left ≡ false → d ≡ None → ⊥)
+    → one_past (id_used (cond left (PassesOver t.delivery_id) (belongs_to k ws (transferred mode t []) t.state d)) after) after ≡ after
+later-expected true k mode ws t d None none some = rw none refl
+later-expected true k mode ws t d (Some x) none some = rw none refl
+later-expected false k mode ws t None after none some = absurd (some refl refl)
+later-expected false k mode ws t (Some d) after none some = refl
 
 no-id-still : (v : View) (body : Option Performative) (payload : List ℕ) (reply : Reply) → body_answer v body payload ≡ Ok reply → NoId body → (next_body v body payload).expected ≡ v.expected
 no-id-still v (Some (heard.Transfer t)) payload reply h none =
     let a = transfer-accepts v t payload reply h in
     let found = a.found in
-    rw found (later-expected a.on.left a.on.number (rcv_mode a.on) t a.on.receiving v.expected none (λ stays begins. (let n = a.named stays begins in let y : is_nameless t ≡ true = rw none refl in absurd (cc (n, y)))))
+    rw found (later-expected a.on.left a.on.number (rcv_mode a.on) a.on.waiting t a.on.receiving v.expected none (λ stays begins. (let n = a.named stays begins in let y : is_nameless t ≡ true = rw none refl in absurd (cc (n, y)))))
 no-id-still v (Some (heard.Begin b)) payload reply h none = refl
 no-id-still v (Some (heard.Attach b)) payload reply h none = by (is_some (find (is_asked_as (opposite b.role) b.name) v.links))
   where
@@ -197,9 +203,9 @@ own-still : (v : View) (op : Op) → (next_own v op).expected ≡ v.expected
 own-still v (own.Attach name role snd rcv source target count max_message) = by (is_some (find (is_offered_as role name) v.links))
   where
     b : AttachBody
-    b = attach_sent v (record { name = name; role = role; snd = snd; rcv = rcv; source = source; target = target; count = count; max_message = max_message })
+    b = attach_sent v (record { name = name; role = role; snd = snd; rcv = rcv; source = source; target = target; count = count; max_message = max_message; items = [] })
 
-    by : (met : Bool) → (cond met (record v { steps = v.steps + 1; links = change_first (is_offered_as role name) (attached_by_us b) v.links }) (record v { steps = v.steps + 1; made = v.made + 1; links = v.links ++ attached_by_us b (new_link v.made role name) ∷ [] })).expected ≡ v.expected
+    by : (met : Bool) → (cond met (record v { steps = v.steps + 1; links = change_first (is_offered_as role name) (attached_by_us b []) v.links }) (record v { steps = v.steps + 1; made = v.made + 1; links = v.links ++ attached_by_us b [] (new_link v.made role name) ∷ [] })).expected ≡ v.expected
     by true = refl
     by false = refl
 own-still v own.Begin = refl
@@ -215,6 +221,19 @@ own-still v (own.Refresh echo) = refl
 own-still v (own.Take link) = refl
 own-still v (own.Detach link error) = refl
 own-still v (own.Suspend link) = refl
+own-still v (own.Rejoin r) = by (is_some (find (is_offered_as r.role r.name) v.links))
+  where
+    b : AttachBody
+    b = attach_sent v (rejoined r)
+
+    by : (met : Bool) → (cond met (record v { steps = v.steps + 1; links = change_first (is_offered_as r.role r.name) (attached_by_us b r.items) v.links }) (record v { steps = v.steps + 1; made = v.made + 1; links = v.links ++ attached_by_us b r.items (new_link v.made r.role r.name) ∷ [] })).expected ≡ v.expected
+    by true = refl
+    by false = refl
+own-still v (own.Resume link tag settled) = by (resume_begins tag (find (has_number link) v.links))
+  where
+    by : (anew : Bool) → (cond anew (record v { steps = v.steps + 1; windows = windows_sent v.windows; deliveries = v.deliveries + 1; links = change_first (has_number link) (begin_resumed tag) v.links; sent = next_sent_held (sent_by_own v (own.Resume link tag settled)) v.sent }) (record v { steps = v.steps + 1; links = change_first (has_number link) (resumed_from tag) v.links })).expected ≡ v.expected
+    by true = refl
+    by false = refl
 own-still v (own.End error) = refl
 own-still v own.Beat = refl
 
@@ -240,7 +259,7 @@ ExpectedAgree ca cb a b = Lives b → (id : ℕ) → (at cb b).expected ≡ Some
 
 expected-quiet : (ca cb : Config) (e : Entry) (a b : List Entry) → Moves ca e a b → sends e ≡ None → ExpectedAgree ca cb a b → ExpectedAgree ca cb (e ∷ a) b
 expected-quiet ca cb e a b m quiet k lives id is =
-    let other = quiet-starts (at ca a) e.step e.reply m.fair.answers quiet in
+    let other = quiet-starts (at ca a) e.step e.reply (due m.fair) quiet in
     k lives id is ∙ ap (λ n. wire (ca.first_id + n)) (sym (started-still e a other))
 
 expected-ahead : (ca cb : Config) (n : ℕ) (e : Entry) (a b : List Entry) → World ca cb (suc n) a (e ∷ b) → hears e ≡ None → ExpectedAgree ca cb a b → ExpectedAgree ca cb a (e ∷ b)
@@ -272,7 +291,7 @@ start-passes ca cb n a b step f t lives sa sb x k y is =
     let is' : (next_body (at cb b) (Some (heard.Transfer x.transfer)) f.payload).expected ≡ Some y = subst (λ (o : Option Performative). (next_body (at cb b) o f.payload).expected ≡ Some y) body is in
     let is'' : one_past (id_used (transfer_on x.transfer (Some m)) (at cb b).expected) (at cb b).expected ≡ Some y =
     subst (λ (o : Option LinkView). one_past (id_used (transfer_on x.transfer o) (at cb b).expected) (at cb b).expected ≡ Some y) found is' in
-    begun-expected m.left m.number (rcv_mode m) x.transfer m.receiving (at cb b).expected (next_delivery (at ca a)) y x.named first (λ z e. k lives z e) is''
+    begun-expected m.left m.number (rcv_mode m) m.waiting x.transfer m.receiving (at cb b).expected (next_delivery (at ca a)) y x.named first (λ z e. k lives z e) is''
 
 expected-pass : (ca cb : Config) (n : ℕ) (e : Entry) (a : List Entry) (e' : Entry) (b : List Entry) (f : Frame) → World ca cb (suc n) (e ∷ a) b → Tight ca cb n a b → Moves ca e a b → Moves cb e' b (e ∷ a)
     → sends e ≡ Some f → hears e' ≡ Some f → ExpectedAgree ca cb a b → ExpectedAgree ca cb (e ∷ a) (e' ∷ b)
@@ -285,12 +304,12 @@ expected-pass ca cb n e a e' b f w t m m' sent heard' k lives y is =
     let is' = sym now ∙ is in
     by-bool (starts e)
     (λ (yes : starts e ≡ true).
-    let x = began (at ca a) e.step e.reply f m.fair.answers yes sent in
-    let more' : started (live (e ∷ a)) ≡ started (live a) + 1 = ap started (sender-lives ca a e.step e.reply f m.fair.answers sent) ∙ rw yes refl in
+    let x = began (at ca a) e.step e.reply f (due m.fair) yes sent in
+    let more' : started (live (e ∷ a)) ≡ started (live a) + 1 = ap started (sender-lives ca a e.step e.reply f (due m.fair) sent) ∙ rw yes refl in
     start-passes ca cb n a b e.step f t lb oa.sound ob.sound x k y is' ∙ one-on ca.first_id (started (live a)) ∙ ap (λ n. wire (ca.first_id + n)) (sym more'))
     (λ (other : starts e ≡ false).
-    let none = later-none (at ca a) (next (at ca a) e.step) (body_heard e.step) (own_in e.step) e.reply f (step-sending (at ca a) e.step e.reply m.fair.answers) other sent in
-    let same = no-id-still (at cb b) f.body f.payload e'.reply (heard-answers (at cb b) e'.step e'.reply f m'.fair.answers lb heard') none in
+    let none = later-none (at ca a) (next (at ca a) e.step) (body_heard e.step) (own_in e.step) e.reply f (step-sending (at ca a) e.step e.reply (due m.fair)) (no-start e other) sent in
+    let same = no-id-still (at cb b) f.body f.payload e'.reply (heard-answers (at cb b) e'.step e'.reply f (due m'.fair) lb heard') none in
     k lb y (sym same ∙ is') ∙ ap (λ n. wire (ca.first_id + n)) (sym (started-still e a other)))
   where
     one-on : (first n : ℕ) → wire (wire (first + n) + 1) ≡ wire (first + (n + 1))

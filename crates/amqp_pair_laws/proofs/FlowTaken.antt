@@ -15,6 +15,7 @@ use Rattle.amqp_laws.specs.Windows.{sent_transfers}
 use Rattle.amqp_laws.specs.At.{at}
 use Rattle.amqp_laws.specs.Lawful.{next}
 use Rattle.amqp_laws.proofs.Sound.{at-is-sound, law}
+use Rattle.amqp_pair_laws.proofs.Plain.{is-due}
 use Rattle.amqp_pair_laws.specs.World.{IsFair, hears, sends}
 use Rattle.amqp_pair_laws.proofs.Lag as lag
 use Rattle.amqp_pair_laws.proofs.Sends.{TellsNumbers}
@@ -34,7 +35,7 @@ session-near ca cb b f x w open' begun numbers =
     let t = x.tight in
     let ga = good ca cb x.moves x.before b t.world in
     let gb = good cb ca x.moves b x.before (lag.swapped sends hears IsFair ca cb x.moves x.before b t.world) in
-    let l = law ca x.before x.entry ga.replayed ga.few x.answers in
+    let l = law ca x.before x.entry ga.replayed ga.few (is-due (at ca x.before) x.entry.step x.entry.reply x.answers) in
     let s = lag.star sends hears IsFair ca cb (suc x.moves) (x.entry ∷ x.before) b x.whole in
     let there = windows-known cb ca s.moves s.early (x.entry ∷ x.before) s.behind (ap (λ (v : View). is_over v.session) l ∙ open') in
     let heard-begin : some_entry hears_begin (live (x.entry ∷ x.before)) ≡ true = ap (λ (v : View). v.session.begin_heard) l ∙ begun in

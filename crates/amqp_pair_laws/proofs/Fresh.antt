@@ -16,7 +16,6 @@ use Rattle.amqp_rules.specs.declared.reply.Given.TheVariants as given
 use Rattle.amqp_rules.specs.View.{View, handle_of, next_delivery}
 use Rattle.amqp_rules.specs.Sending.{sends as sends'}
 use Rattle.amqp_rules.specs.Start.{start_body, start_refusals}
-use Rattle.amqp_rules.specs.Answer.{own_answer}
 use Rattle.amqp_rules.proofs.Accepted.{on-link-ok, sends-ok}
 use Rattle.amqp_rules.proofs.Listed.{by-bool}
 use Rattle.amqp_laws.specs.declared.entry.Entry.{Entry}
@@ -26,8 +25,9 @@ use Rattle.amqp_laws.specs.Past.{some_entry}
 use Rattle.amqp_laws.specs.Said.{body_heard, ends, hears_no_end, is_start, own_in, starts, transfer_among, transfer_sent}
 use Rattle.amqp_laws.specs.Live.{live}
 use Rattle.amqp_laws.specs.At.{at, started}
-use Rattle.amqp_laws.specs.Lawful.{Answers, next}
+use Rattle.amqp_laws.specs.Lawful.{next}
 use Rattle.amqp_laws.proofs.Sound.{at-is-sound}
+use Rattle.amqp_pair_laws.proofs.Plain.{Answers, OwnAnswers, due, starts-alone, no-start}
 use Rattle.amqp_pair_laws.specs.Premise.{KeepsToHeard, ids_heard, ids_sent}
 use Rattle.amqp_pair_laws.proofs.Sends.{Sending, begins, flows, others, silent, step-sending, transfers}
 use Rattle.amqp_pair_laws.proofs.SlotActs.{AllFair}
@@ -38,7 +38,7 @@ use Rattle.amqp_pair_laws.proofs.Ids.{none-sent}
 abbrev id_in : Option (TransferBody × List ℕ) → Option ℕ
 id_in o = option_and_then (λ t. t.0.delivery_id) o
 
-start-sent : (v : View) (op : Op) (reply : Reply) → own_answer v op ≡ Ok reply → is_start (Some op) ≡ true → id_in (transfer_among reply.sent) ≡ Some (next_delivery v)
+start-sent : (v : View) (op : Op) (reply : Reply) → OwnAnswers v op reply → is_start (Some op) ≡ true → id_in (transfer_among reply.sent) ≡ Some (next_delivery v)
 start-sent v (own.Start number tag format settled payload more) reply h is =
     let id = next_delivery v in
     let o = on-link-ok v number (λ l. sends' v.max_frame (start_refusals v l tag settled payload) (start_body (handle_of l.ours) id tag format settled more) payload (given.Delivery id)) reply h in
@@ -46,9 +46,9 @@ start-sent v (own.Start number tag format settled payload more) reply h is =
     ap (λ (r : Reply). id_in (transfer_among r.sent)) (sym k.replies)
 start-sent v _ reply h is = absurd (cc (is))
 
-starts-sent : (v : View) (step : Step) (reply : Reply) → Answers v step reply → is_start (own_in step) ≡ true → id_in (transfer_among reply.sent) ≡ Some (next_delivery v)
+starts-sent : (v : View) (step : Step) (reply : Reply) → Answers v step reply → starts (record { step = step; reply = reply }) ≡ true → id_in (transfer_among reply.sent) ≡ Some (next_delivery v)
 starts-sent v (Opened told) reply h is = absurd (cc (is))
-starts-sent v (Own op) reply h is = start-sent v op reply h is
+starts-sent v (Own op) reply h is = start-sent v op reply h (sym (starts-alone v (Own op) reply h) ∙ is)
 starts-sent v (Heard f) reply h is = absurd (cc (is))
 
 others-sent : (v after : View) (heard' : Option Performative) (op : Option Op) (reply : Reply) → Sending v after heard' op reply → is_start op ≡ false → id_in (transfer_among reply.sent) ≡ None
@@ -80,7 +80,7 @@ serials-sent c (e ∷ past) fair id h = by (serials-sent c past fair.0 id) (some
 
     on : (is_among (ids_sent p) id ≡ true → IsSerial c (started p) id) → (s : Bool) → starts e ≡ s → is_among (cons_option (id_in (transfer_sent e)) (ids_sent p)) id ≡ true → IsSerial c (started (e ∷ p)) id
     on before true s k =
-        let named = starts-sent (at c past) e.step e.reply fair.1.answers s in
+        let named = starts-sent (at c past) e.step e.reply (due fair.1) s in
         let k' : (next_delivery (at c past) == id) || is_among (ids_sent p) id ≡ true = rw named at k in
         subst (λ (n : ℕ). IsSerial c n id) (more s)
         (by-bool (next_delivery (at c past) == id)
@@ -90,7 +90,7 @@ serials-sent c (e ∷ past) fair id h = by (serials-sent c past fair.0 id) (some
         more : starts e ≡ true → started p + 1 ≡ started (e ∷ p)
         more s = rw s refl
     on before false s k =
-        let none = others-sent (at c past) (next (at c past) e.step) (body_heard e.step) (own_in e.step) e.reply (step-sending (at c past) e.step e.reply fair.1.answers) s in
+        let none = others-sent (at c past) (next (at c past) e.step) (body_heard e.step) (own_in e.step) e.reply (step-sending (at c past) e.step e.reply (due fair.1)) (no-start e s) in
         let k' : is_among (ids_sent p) id ≡ true = rw none at k in
         subst (λ (n : ℕ). IsSerial c n id) (same s) (before k')
       where

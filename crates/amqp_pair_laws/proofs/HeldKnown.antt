@@ -35,8 +35,9 @@ use Rattle.amqp_laws.specs.declared.entry.Step.{Step}
 use Rattle.amqp_laws.specs.declared.entry.Step.TheVariants.{Own, Heard}
 use Rattle.amqp_laws.specs.Transfers.{size_of}
 use Rattle.amqp_laws.specs.At.{at, received_by, sent_by}
-use Rattle.amqp_laws.specs.Lawful.{Answers, next}
+use Rattle.amqp_laws.specs.Lawful.{next}
 use Rattle.amqp_laws.proofs.Sound.{at-is-sound}
+use Rattle.amqp_pair_laws.proofs.Plain.{Answers, OwnAnswers, due}
 use Rattle.amqp_pair_laws.specs.Moves.{count, said_as}
 use Rattle.amqp_pair_laws.specs.World.{IsFair, Moves, Tight, World, frame_among, frame_in, hears, sends}
 use Rattle.amqp_pair_laws.proofs.Lag as lag
@@ -102,9 +103,9 @@ partner-goes : (ca : Config) (e : Entry) (a : List Entry) → AllFair ca (e ∷ 
     → Partner (at ca (e ∷ a)) name u
 partner-goes ca e a fair la name u p x none =
     let o = one-more (Sender, name) ca e a fair in
-    let h = held-step v e.step e.reply fair.1.answers la in
+    let h = held-step v e.step e.reply (due fair.1) la in
     let to : find (has_name Sender name) (next v e.step).links ≡ Some x.link' = ap (λ (v : View). find (has_name Sender name) v.links) (sym o.goes_on) ∙ x.found in
-    let g = stays-on v (next v e.step) (sent_by v e.step) (received_by v e.step) Sender name p.link' x.link' (link-step v e.step e.reply fair.1.answers la) o.sound p.found to x.unleft in
+    let g = stays-on v (next v e.step) (sent_by v e.step) (received_by v e.step) Sender name p.link' x.link' (link-step v e.step e.reply (due fair.1) la) o.sound p.found to x.unleft in
     let kept' : ends (sent_by v e.step) p.held.item ≡ false =
     by-bool (ends (sent_by v e.step) p.held.item)
     (λ (t : ends (sent_by v e.step) p.held.item ≡ true). absurd (by (ending v e.step p.held.item t) (λ k e' n. g.stays k e' n) (λ e'. g.lives e')))
@@ -149,7 +150,7 @@ dispose-sent v first last state reply h =
     let k = sends-ending-ok v.max_frame (dispose_refusals v Sender d) (dispose_body Sender d) (ended_by (sent_by_own v op) (received_by_own v op) v) given.Nothing reply h in
     ap (λ (r : Reply). frame_among r.sent) (sym k.replies)
 
-pub own-answers : (v : View) (step : Step) (reply : Reply) (op : Op) → Answers v step reply → step ≡ Own op → own_answer v op ≡ Ok reply
+pub own-answers : (v : View) (step : Step) (reply : Reply) (op : Op) → Answers v step reply → step ≡ Own op → OwnAnswers v op reply
 own-answers v step reply op h is = subst (λ (s : Step). Answers v s reply) is h
 
 -- what a heard disposition stops is not held there any more
@@ -180,11 +181,11 @@ held-quiet ca cb n e a b w t m silent k lives name y u found there on =
   where
     by : (p : Partner (at ca a) name u) → Stop (at ca a) e.step p.held.item → ⊥
     by p (aborts number l d is at-l sending id) =
-        let z = abort-sent (at ca a) number e.reply (own-answers (at ca a) e.step e.reply (own.Abort number) m.fair.answers is) in
+        let z = abort-sent (at ca a) number e.reply (own-answers (at ca a) e.step e.reply (own.Abort number) (due m.fair) is) in
         let sent = z.1.1.1.1 in
         absurd (cc (sent, silent))
     by p (says first last state is inside) =
-        let sent = dispose-sent (at ca a) first last state e.reply (own-answers (at ca a) e.step e.reply (own.Dispose Sender first last true state) m.fair.answers is) in
+        let sent = dispose-sent (at ca a) first last state e.reply (own-answers (at ca a) e.step e.reply (own.Dispose Sender first last true state) (due m.fair) is) in
         absurd (cc (sent, silent))
     by p (hears' f d is body role settled inside) = told-apart ca cb n e a b f d u p.held.item w t m lives there p.id is body role settled inside
 
@@ -195,7 +196,7 @@ held-ahead ca cb n e a b w m deaf k lives name y u found there on =
     let o = one-more (Sender, []) cb e b fb in
     let attached = attached-link cb (e ∷ b) fb lives (one-sound cb (e ∷ b) fb) (has_name Receiver name) y u found there on in
     let z = link-before cb e b fb lives Receiver name y found attached (attached-ends y attached).1.1 in
-    let h = held-step (at cb b) e.step e.reply m.fair.answers lb in
+    let h = held-step (at cb b) e.step e.reply (due m.fair) lb in
     by z.link' z.found z.number lb (h.received u (subst (λ (v : View). In u v.received) o.goes_on there))
   where
     by : (y0 : LinkView) → link (Receiver, name) cb b ≡ Some y0 → y.number ≡ y0.number → Lives b → Stayed (received_by (at cb b) e.step) (at cb b).received u ⊎ (begins (received_by (at cb b) e.step) ≡ Some u) → Partner (at ca a) name u
@@ -230,13 +231,13 @@ module _ (ca cb : Config) (n : ℕ) (e : Entry) (a : List Entry) (e' : Entry) (b
       by on' p (hears' g d is body role settled inside) = told-apart ca cb n e a b g d s.item p.held.item world t m lb s.there p.id is body role settled inside
       by on' p (says first last state is inside) =
           let d : Disposition = record { first = first; last = last; settled = true; state = state } in
-          let one = same-some (sends e) (frame_of (dispose_body Sender d) []) f (dispose-sent va first last state e.reply (own-answers va e.step e.reply (own.Dispose Sender first last true state) m.fair.answers is)) sent in
+          let one = same-some (sends e) (frame_of (dispose_body Sender d) []) f (dispose-sent va first last state e.reply (own-answers va e.step e.reply (own.Dispose Sender first last true state) (due m.fair) is)) sent in
           let body : f.body ≡ dispose_body Sender d = ap (λ (f : Frame). f.body) (sym one) in
           let inside' : is_inside s.item.id first last ≡ true = ap (λ n. is_inside n first last) (sym p.id) ∙ inside in
           let stays : is_inside s.item.id first last ≡ false = ap (λ (o : Option Performative). ends (received_by_body vb o) s.item) (sym body) ∙ unended in
           absurd (cc (stays, inside'))
       by on' p (aborts number l d is at-l sending id) =
-          let z = abort-sent va number e.reply (own-answers va e.step e.reply (own.Abort number) m.fair.answers is) in
+          let z = abort-sent va number e.reply (own-answers va e.step e.reply (own.Abort number) (due m.fair) is) in
           let same-l : z.0 ≡ l = same-some (find (has_number number) va.links) z.0 l z.1.0 at-l in
           aborted p on' l d at-l sending id
           (ap is_attached (sym same-l) ∙ z.1.1.0)
@@ -277,8 +278,8 @@ module _ (ca cb : Config) (n : ℕ) (e : Entry) (a : List Entry) (e' : Entry) (b
               stopped t0 y i d gone unleft (Some c) r sizes same stays =
                   let ids : d ≡ size_of c = cc sizes in
                   let same' : i.id ≡ c.id = same ∙ ap (λ (d : SendingView). d.id) ids in
-                  let k : ends (cond y.left (PassesOver t0.delivery_id) (belongs_to y.number (transferred (rcv_mode y) t0 []) t0.state (Some c))) i ≡ false = ap (λ (o : Option Delivery). ends (cond y.left (PassesOver t0.delivery_id) (belongs_to y.number (transferred (rcv_mode y) t0 []) t0.state o)) i) (sym r) ∙ stays in
-                  let k' : ends (belongs_to y.number (transferred (rcv_mode y) t0 []) t0.state (Some c)) i ≡ false = ap (λ (l : Bool). ends (cond l (PassesOver t0.delivery_id) (belongs_to y.number (transferred (rcv_mode y) t0 []) t0.state (Some c))) i) (sym unleft) ∙ k in
+                  let k : ends (cond y.left (PassesOver t0.delivery_id) (belongs_to y.number y.waiting (transferred (rcv_mode y) t0 []) t0.state (Some c))) i ≡ false = ap (λ (o : Option Delivery). ends (cond y.left (PassesOver t0.delivery_id) (belongs_to y.number y.waiting (transferred (rcv_mode y) t0 []) t0.state o)) i) (sym r) ∙ stays in
+                  let k' : ends (belongs_to y.number y.waiting (transferred (rcv_mode y) t0 []) t0.state (Some c)) i ≡ false = ap (λ (l : Bool). ends (cond l (PassesOver t0.delivery_id) (belongs_to y.number y.waiting (transferred (rcv_mode y) t0 []) t0.state (Some c))) i) (sym unleft) ∙ k in
                   over' (unwrap_or t0.settled false) (unwrap_or t0.aborted false) (i.id == c.id) gone (eq-eqb i.id c.id same') k'
                 where
                   over' : (s g same : Bool) → g ≡ true → same ≡ true → (s || g) && same ≡ false → ⊥
@@ -299,7 +300,7 @@ module _ (ca cb : Config) (n : ℕ) (e : Entry) (a : List Entry) (e' : Entry) (b
           let sound = (one-more (Sender, []) ca e a fa).sound in
           let sb = (one-more (Sender, []) cb e' b fb).sound in
           let o = one-more (Sender, name) ca e a fa in
-          let h = held-step va e.step e.reply fa.1.answers la in
+          let h = held-step va e.step e.reply (due fa.1) la in
           let same-t : q.transfer ≡ z.transfer = (let k : ◌≡◌ {A = Option Performative} (Some (heard.Transfer q.transfer)) (Some (heard.Transfer z.transfer)) = sym q.body ∙ z.body-is in cc k) in
           let here = named-found l.role l.name (has_number q.number) va.links l sound.links.names q.found (name-self l.role l.name) in
           let slot = slots-known ca cb n a b t lb l.role l.name in
@@ -313,7 +314,7 @@ module _ (ca cb : Config) (n : ℕ) (e : Entry) (a : List Entry) (e' : Entry) (b
           let names : name ≡ l.name = n2.name_is ∙ ap (λ (l : LinkView). l.name) (one ∙ sym same-y) ∙ sym n1.name_is in
           let l-found : find (has_name Sender name) va.links ≡ Some l = ap (λ n. find (has_name Sender n) va.links) names ∙ ap (λ (r : Role). find (has_name r l.name) va.links) (sym q.role-is) ∙ here in
           let to : find (has_name Sender name) (next va e.step).links ≡ Some x.link' = ap (λ (v : View). find (has_name Sender name) v.links) (sym o.goes_on) ∙ x.found in
-          let g = stays-on va (next va e.step) (sent_by va e.step) (received_by va e.step) Sender name l x.link' (link-step va e.step e.reply fa.1.answers la) o.sound l-found to x.unleft in
+          let g = stays-on va (next va e.step) (sent_by va e.step) (received_by va e.step) Sender name l x.link' (link-step va e.step e.reply (due fa.1) la) o.sound l-found to x.unleft in
           let open' : q.settled ≡ false = unsettled q.settled (unwrap_or z.transfer.aborted false) (ap (λ (t : TransferBody). unwrap_or t.settled false) (sym q.transfer-is ∙ same-t)) z.unsettled in
           let i : Item = record { id = next_delivery va; link = q.number; tag = q.tag; second = rcv_mode l == 1; local = None; remote = None } in
           let now : begins (sent_by va e.step) ≡ Some i = ap (λ (s : Step). begins (sent_by va s)) q.is-start ∙ begun-now q.number q.tag q.settled l q.found open' in
@@ -347,7 +348,7 @@ held-pass ca cb n e a e' b f w t m m' sent heard'' k lives name y u found there 
     let tight : count sends (e ∷ a) ≡ count hears (e' ∷ b) = (let s = t.tight in rw (sent, heard'', s) refl) in
     let x = ours-there ca cb (suc (suc n)) (e ∷ a) (e' ∷ b) (record { world = inr (w, m'); tight = tight }) lives name y found attached in
     let z = link-before cb e' b fb lives Receiver name y found attached (attached-ends y attached).1.1 in
-    let h = held-step (at cb b) e'.step e'.reply m'.fair.answers lb in
+    let h = held-step (at cb b) e'.step e'.reply (due m'.fair) lb in
     by fair.0 fb lb la x z.link' z.found (on ∙ z.number) (h.received u (subst (λ (v : View). In u v.received) o.goes_on there))
   where
     by : AllFair ca (e ∷ a) → AllFair cb (e' ∷ b) → Lives b → Lives a → Ours (at ca (e ∷ a)) name → (y0 : LinkView) → link (Receiver, name) cb b ≡ Some y0 → u.link ≡ y0.number

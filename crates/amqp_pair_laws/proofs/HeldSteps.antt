@@ -22,7 +22,9 @@ use Rattle.amqp_rules.specs.Answer.{body_answer, is_dropped, next_body, next_own
 use Rattle.amqp_laws.specs.declared.entry.Step.{Step}
 use Rattle.amqp_laws.specs.declared.entry.Step.TheVariants.{Opened, Own, Heard}
 use Rattle.amqp_laws.specs.At.{received_by, sent_by}
-use Rattle.amqp_laws.specs.Lawful.{Answers, next}
+use Rattle.amqp_laws.specs.Lawful.{next}
+use Rattle.amqp_laws.proofs.EndedLaw.{resumed-none}
+use Rattle.amqp_pair_laws.proofs.Plain.{Answers, OwnAnswers}
 use Rattle.amqp_pair_laws.proofs.Windows.{or-none}
 use Rattle.amqp_pair_laws.proofs.Members.{In, Kept, Stayed, Stays, Was, held-before, held-begun, held-kept, kept-there, sent-after, sent-before, sent-begun, stayed-there, stays-there, was-there}
 
@@ -78,12 +80,12 @@ stays-by : (i : Item) (o : Option SendingView) → ends (continued_on false o) i
 stays-by i None = refl
 stays-by i (Some d) = refl
 
-own-held : (v : View) (op : Op) → HeldStep v (next_own v op) (sent_by_own v op) (received_by_own v op)
-own-held v own.Begin = still v _ _ _ refl refl refl (λ i. refl) (λ i. refl) (λ i. refl) refl (λ i. refl) (λ i. refl)
-own-held v (own.Attach name role snd rcv source target count max_message) =
-    joined-held v (is_offered_as role name) role name (attached_by_us (attach_sent v (record { name = name; role = role; snd = snd; rcv = rcv; source = source; target = target; count = count; max_message = max_message })))
-own-held v (own.Start link tag format settled payload more) = sent-alone v _ _ _ (λ s h stays. sent-after (sent_by_own v (own.Start link tag format settled payload more)) v.sent s h stays) (λ i is. sent-begun (sent_by_own v (own.Start link tag format settled payload more)) v.sent i is) (λ s h. sent-before (sent_by_own v (own.Start link tag format settled payload more)) v.sent s h) refl refl (λ i. refl) (λ i. refl)
-own-held v (own.Carry link payload more) = still v _ _ _ refl refl (none (find (has_number link) v.links)) (unsaid (find (has_number link) v.links)) (untold (find (has_number link) v.links)) (stays (find (has_number link) v.links)) refl (λ i. refl) (λ i. refl)
+own-held : (v : View) (op : Op) (reply : Reply) → OwnAnswers v op reply → HeldStep v (next_own v op) (sent_by_own v op) (received_by_own v op)
+own-held v own.Begin reply h = still v _ _ _ refl refl refl (λ i. refl) (λ i. refl) (λ i. refl) refl (λ i. refl) (λ i. refl)
+own-held v (own.Attach name role snd rcv source target count max_message) reply h =
+    joined-held v (is_offered_as role name) role name (attached_by_us (attach_sent v (record { name = name; role = role; snd = snd; rcv = rcv; source = source; target = target; count = count; max_message = max_message; items = [] })) [])
+own-held v (own.Start link tag format settled payload more) reply h = sent-alone v _ _ _ (λ s h stays. sent-after (sent_by_own v (own.Start link tag format settled payload more)) v.sent s h stays) (λ i is. sent-begun (sent_by_own v (own.Start link tag format settled payload more)) v.sent i is) (λ s h. sent-before (sent_by_own v (own.Start link tag format settled payload more)) v.sent s h) refl refl (λ i. refl) (λ i. refl)
+own-held v (own.Carry link payload more) reply h = still v _ _ _ refl refl (none (find (has_number link) v.links)) (unsaid (find (has_number link) v.links)) (untold (find (has_number link) v.links)) (stays (find (has_number link) v.links)) refl (λ i. refl) (λ i. refl)
   where
     on : (o : Option SendingView) → begins (continued_on false o) ≡ None
     on None = refl
@@ -100,18 +102,20 @@ own-held v (own.Carry link payload more) = still v _ _ _ refl refl (none (find (
 
     stays : (o : Option LinkView) (i : Item) → ends (continued_on false (sending_on o)) i ≡ false
     stays o i = stays-by i (sending_on o)
-own-held v (own.Abort link) = sent-alone v _ _ _ (λ s h stays. sent-after (sent_by_own v (own.Abort link)) v.sent s h stays) (λ i is. sent-begun (sent_by_own v (own.Abort link)) v.sent i is) (λ s h. sent-before (sent_by_own v (own.Abort link)) v.sent s h) refl refl (λ i. refl) (λ i. refl)
-own-held v (own.Dispose role first last settled state) = record { sent = λ s h stays. sent-after (sent_by_own v (own.Dispose role first last settled state)) v.sent s h stays; begun = λ i is. sent-begun (sent_by_own v (own.Dispose role first last settled state)) v.sent i is; ours = λ s h. sent-before (sent_by_own v (own.Dispose role first last settled state)) v.sent s h; received = λ j h. held-before (received_by_own v (own.Dispose role first last settled state)) v.received j h; kept = λ j h stays. held-kept (received_by_own v (own.Dispose role first last settled state)) v.received j h stays; entered = λ i is. held-begun (received_by_own v (own.Dispose role first last settled state)) v.received i is }
-own-held v (own.Learn link) = still v _ _ _ refl refl refl (λ i. refl) (λ i. refl) (λ i. refl) refl (λ i. refl) (λ i. refl)
-own-held v (own.Grant link credit drain echo) = still v _ _ _ refl refl refl (λ i. refl) (λ i. refl) (λ i. refl) refl (λ i. refl) (λ i. refl)
-own-held v (own.Offer link available) = still v _ _ _ refl refl refl (λ i. refl) (λ i. refl) (λ i. refl) refl (λ i. refl) (λ i. refl)
-own-held v (own.Drained link) = still v _ _ _ refl refl refl (λ i. refl) (λ i. refl) (λ i. refl) refl (λ i. refl) (λ i. refl)
-own-held v (own.Refresh echo) = still v _ _ _ refl refl refl (λ i. refl) (λ i. refl) (λ i. refl) refl (λ i. refl) (λ i. refl)
-own-held v (own.Take link) = still v _ _ _ refl refl refl (λ i. refl) (λ i. refl) (λ i. refl) refl (λ i. refl) (λ i. refl)
-own-held v (own.Detach link error) = record { sent = λ s h stays. sent-after (sent_by_own v (own.Detach link error)) v.sent s h stays; begun = λ i is. sent-begun (sent_by_own v (own.Detach link error)) v.sent i is; ours = λ s h. sent-before (sent_by_own v (own.Detach link error)) v.sent s h; received = λ j h. held-before (received_by_own v (own.Detach link error)) v.received j h; kept = λ j h stays. held-kept (received_by_own v (own.Detach link error)) v.received j h stays; entered = λ i is. held-begun (received_by_own v (own.Detach link error)) v.received i is }
-own-held v (own.Suspend link) = record { sent = λ s h stays. sent-after (sent_by_own v (own.Suspend link)) v.sent s h stays; begun = λ i is. sent-begun (sent_by_own v (own.Suspend link)) v.sent i is; ours = λ s h. sent-before (sent_by_own v (own.Suspend link)) v.sent s h; received = λ j h. held-before (received_by_own v (own.Suspend link)) v.received j h; kept = λ j h stays. held-kept (received_by_own v (own.Suspend link)) v.received j h stays; entered = λ i is. held-begun (received_by_own v (own.Suspend link)) v.received i is }
-own-held v (own.End error) = record { sent = λ s h stays. absurd (cc (stays)); begun = λ i is. absurd (cc (is)); ours = λ s h. absurd h; received = λ j h. absurd h; kept = λ j h stays. absurd (cc (stays)); entered = λ i is. absurd (cc (is)) }
-own-held v own.Beat = still v _ _ _ refl refl refl (λ i. refl) (λ i. refl) (λ i. refl) refl (λ i. refl) (λ i. refl)
+own-held v (own.Abort link) reply h = sent-alone v _ _ _ (λ s h stays. sent-after (sent_by_own v (own.Abort link)) v.sent s h stays) (λ i is. sent-begun (sent_by_own v (own.Abort link)) v.sent i is) (λ s h. sent-before (sent_by_own v (own.Abort link)) v.sent s h) refl refl (λ i. refl) (λ i. refl)
+own-held v (own.Dispose role first last settled state) reply h = record { sent = λ s h stays. sent-after (sent_by_own v (own.Dispose role first last settled state)) v.sent s h stays; begun = λ i is. sent-begun (sent_by_own v (own.Dispose role first last settled state)) v.sent i is; ours = λ s h. sent-before (sent_by_own v (own.Dispose role first last settled state)) v.sent s h; received = λ j h. held-before (received_by_own v (own.Dispose role first last settled state)) v.received j h; kept = λ j h stays. held-kept (received_by_own v (own.Dispose role first last settled state)) v.received j h stays; entered = λ i is. held-begun (received_by_own v (own.Dispose role first last settled state)) v.received i is }
+own-held v (own.Learn link) reply h = still v _ _ _ refl refl refl (λ i. refl) (λ i. refl) (λ i. refl) refl (λ i. refl) (λ i. refl)
+own-held v (own.Grant link credit drain echo) reply h = still v _ _ _ refl refl refl (λ i. refl) (λ i. refl) (λ i. refl) refl (λ i. refl) (λ i. refl)
+own-held v (own.Offer link available) reply h = still v _ _ _ refl refl refl (λ i. refl) (λ i. refl) (λ i. refl) refl (λ i. refl) (λ i. refl)
+own-held v (own.Drained link) reply h = still v _ _ _ refl refl refl (λ i. refl) (λ i. refl) (λ i. refl) refl (λ i. refl) (λ i. refl)
+own-held v (own.Refresh echo) reply h = still v _ _ _ refl refl refl (λ i. refl) (λ i. refl) (λ i. refl) refl (λ i. refl) (λ i. refl)
+own-held v (own.Take link) reply h = still v _ _ _ refl refl refl (λ i. refl) (λ i. refl) (λ i. refl) refl (λ i. refl) (λ i. refl)
+own-held v (own.Detach link error) reply h = record { sent = λ s h stays. sent-after (sent_by_own v (own.Detach link error)) v.sent s h stays; begun = λ i is. sent-begun (sent_by_own v (own.Detach link error)) v.sent i is; ours = λ s h. sent-before (sent_by_own v (own.Detach link error)) v.sent s h; received = λ j h. held-before (received_by_own v (own.Detach link error)) v.received j h; kept = λ j h stays. held-kept (received_by_own v (own.Detach link error)) v.received j h stays; entered = λ i is. held-begun (received_by_own v (own.Detach link error)) v.received i is }
+own-held v (own.Suspend link) reply h = record { sent = λ s h stays. sent-after (sent_by_own v (own.Suspend link)) v.sent s h stays; begun = λ i is. sent-begun (sent_by_own v (own.Suspend link)) v.sent i is; ours = λ s h. sent-before (sent_by_own v (own.Suspend link)) v.sent s h; received = λ j h. held-before (received_by_own v (own.Suspend link)) v.received j h; kept = λ j h stays. held-kept (received_by_own v (own.Suspend link)) v.received j h stays; entered = λ i is. held-begun (received_by_own v (own.Suspend link)) v.received i is }
+own-held v (own.Rejoin r) reply h = absurd h
+own-held v (own.Resume link tag settled) reply h = absurd h
+own-held v (own.End error) reply h = record { sent = λ s h stays. absurd (cc (stays)); begun = λ i is. absurd (cc (is)); ours = λ s h. absurd h; received = λ j h. absurd h; kept = λ j h stays. absurd (cc (stays)); entered = λ i is. absurd (cc (is)) }
+own-held v own.Beat reply h = still v _ _ _ refl refl refl (λ i. refl) (λ i. refl) (λ i. refl) refl (λ i. refl) (λ i. refl)
 
 body-held : (v : View) (body : Option Performative) (payload : List ℕ) (reply : Reply) → body_answer v body payload ≡ Ok reply → HeldStep v (next_body v body payload) (sent_by_body v body) (received_by_body v body)
 body-held v (Some (heard.Begin b)) payload reply h = still v _ _ _ refl refl refl (λ i. refl) (λ i. refl) (λ i. refl) refl (λ i. refl) (λ i. refl)
@@ -127,7 +131,7 @@ body-held v _ payload reply h = absurd (cc (h))
 -- of a session that is not over
 pub held-step : (v : View) (step : Step) (reply : Reply) → Answers v step reply → is_over v.session ≡ false → HeldStep v (next v step) (sent_by v step) (received_by v step)
 held-step v (Opened told) reply h o = still v _ _ _ refl refl refl (λ i. refl) (λ i. refl) (λ i. refl) refl (λ i. refl) (λ i. refl)
-held-step v (Own op) reply h o = own-held v op
+held-step v (Own op) reply h o = own-held v op reply h
 held-step v (Heard f) reply h o =
     let unsent : v.session.end_sent ≡ false = (or-none v.session.end_sent v.session.end_heard o).0 in
     let taken : is_dropped v f.body ≡ false = rw unsent refl in
@@ -160,8 +164,8 @@ pub record BeginsOurs (v : View) (step : Step) (i : Item) : Type 0 where
   pub on : i.link ≡ number
   pub remote : i.remote ≡ None
 
-pub begins-ours : (v : View) (step : Step) (i : Item) → begins (sent_by v step) ≡ Some i → BeginsOurs v step i
-begins-ours v (Own (own.Start link tag format settled payload more)) i h = by (find (has_number link) v.links) h
+pub begins-ours : (v : View) (step : Step) (reply : Reply) → Answers v step reply → (i : Item) → begins (sent_by v step) ≡ Some i → BeginsOurs v step i
+begins-ours v (Own (own.Start link tag format settled payload more)) reply plain i h = by (find (has_number link) v.links) h
   where
     new : LinkView → Item
     new l = record { id = next_delivery v; link = link; tag = tag; second = rcv_mode l == 1; local = None; remote = None }
@@ -175,22 +179,23 @@ begins-ours v (Own (own.Start link tag format settled payload more)) i h = by (f
     by : (o : Option LinkView) → begins (begun_on (next_delivery v) link tag settled o) ≡ Some i → BeginsOurs v (Own (own.Start link tag format settled payload more)) i
     by None h = absurd (cc (h))
     by (Some l) h = on l (not settled) h
-begins-ours v (Own (own.Carry link payload more)) i h = absurd (by (sending_on (find (has_number link) v.links)) h)
+begins-ours v (Own (own.Carry link payload more)) reply plain i h = absurd (by (sending_on (find (has_number link) v.links)) h)
   where
     by : (o : Option SendingView) → begins (continued_on false o) ≡ Some i → ⊥
     by None h = absurd (cc (h))
     by (Some d) h = absurd (cc (h))
-begins-ours v (Own (own.Abort link)) i h = absurd (by (sending_on (find (has_number link) v.links)) h)
+begins-ours v (Own (own.Abort link)) reply plain i h = absurd (by (sending_on (find (has_number link) v.links)) h)
   where
     by : (o : Option SendingView) → begins (continued_on true o) ≡ Some i → ⊥
     by None h = absurd (cc (h))
     by (Some d) h = absurd (cc (h))
-begins-ours v (Own (own.Dispose role first last settled state)) i h = absurd (by role h)
+begins-ours v (Own (own.Dispose role first last settled state)) reply plain i h = absurd (by role h)
   where
     by : (role : Role) → begins (said_of Sender role (record { first = first; last = last; settled = settled; state = state })) ≡ Some i → ⊥
     by Sender h = absurd (cc (h))
     by Receiver h = absurd (cc (h))
-begins-ours v (Heard f) i h = absurd (by f.body h)
+begins-ours v (Own (own.Resume link tag settled)) reply plain i h = absurd plain
+begins-ours v (Heard f) reply plain i h = absurd (by f.body h)
   where
     told : (d : DispositionBody) (role : Role) → begins (heard_of Sender d role) ≡ Some i → ⊥
     told d Sender h = absurd (cc (h))
@@ -204,7 +209,7 @@ begins-ours v (Heard f) i h = absurd (by f.body h)
     by (Some (heard.Disposition d)) h = told d d.role h
     by (Some (heard.Detach d)) h = gone (find (has_peer_handle d.handle) v.links) h
     by _ h = absurd (cc (h))
-begins-ours v _ i h = absurd (cc (h))
+begins-ours v _ reply plain i h = absurd (cc (h))
 
 own-ending : (v : View) (op : Op) (i : Item) → ends (sent_by_own v op) i ≡ true → Ending v (Own op) i
 own-ending v (own.Start link tag format settled payload more) i h = absurd (none (find (has_number link) v.links) h)
@@ -234,6 +239,7 @@ own-ending v (own.Dispose role first last settled state) i h = by role settled h
     by Receiver settled h = absurd (cc (h))
 own-ending v (own.Detach link error) i h = let same : i.link ≡ link = eqb-true i.link link h in leaves (ap (λ k. Leaves k) (sym same))
 own-ending v (own.Suspend link) i h = let same : i.link ≡ link = eqb-true i.link link h in leaves (ap (λ k. Leaves k) (sym same))
+own-ending v (own.Resume link tag settled) i h = absurd (cc (h, resumed-none (next_delivery v) link tag settled (find (has_number link) v.links) i))
 own-ending v (own.End error) i h = over refl
 own-ending v _ i h = absurd (cc (h))
 

@@ -15,6 +15,7 @@ use Rattle.amqp_laws.specs.Live.{live}
 use Rattle.amqp_laws.specs.Session.{session_at}
 use Rattle.amqp_laws.specs.At.{at}
 use Rattle.amqp_laws.specs.Lawful.{next}
+use Rattle.amqp_pair_laws.proofs.Plain.{due}
 use Rattle.amqp_pair_laws.specs.World.{IsFair, Tight, frame_among, hears, sends}
 use Rattle.amqp_pair_laws.proofs.Lag as lag
 use Rattle.amqp_pair_laws.proofs.Sends.{Sending, begins as begins', flows, others, silent, step-sending, transfers}
@@ -79,8 +80,8 @@ ids-kept =
           ap ids_heard g.is_live ∙ same ∙ k g.lived;
       pass = λ ca cb n e a e' b f known w t m m' sent heard' k lives.
           let g = lives-goes e' b lives in
-          ap ids_heard g.is_live ∙ ids-pass ca cb e a e' b f (step-sending (at ca a) e.step e.reply m.fair.answers) sent (heard-body e'.step f heard') (k g.lived)
-          ∙ ap ids_sent (sym (sender-lives ca a e.step e.reply f m.fair.answers sent));
+          ap ids_heard g.is_live ∙ ids-pass ca cb e a e' b f (step-sending (at ca a) e.step e.reply (due m.fair)) sent (heard-body e'.step f heard') (k g.lived)
+          ∙ ap ids_sent (sym (sender-lives ca a e.step e.reply f (due m.fair) sent));
     }
 
 -- where b has heard all that a sent, and its session is not over, it has heard the ids that a sent

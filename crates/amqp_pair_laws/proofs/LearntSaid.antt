@@ -21,6 +21,7 @@ use Rattle.amqp_laws.specs.Said.{body_heard, own_in}
 use Rattle.amqp_laws.specs.At.{at}
 use Rattle.amqp_laws.specs.Lawful.{next}
 use Rattle.amqp_laws.proofs.Twice.{and-both}
+use Rattle.amqp_pair_laws.proofs.Plain.{due}
 use Rattle.amqp_pair_laws.specs.Moves.{IsNext, count, said_as}
 use Rattle.amqp_pair_laws.specs.World.{IsFair, Moves, Tight, World, frame_in, hears, sends}
 use Rattle.amqp_events.specs.Named.{is_among}
@@ -122,7 +123,7 @@ told-now ca cb n a b step t w fb next' told =
     let before = lag.cut sends hears IsFair ca cb x.moves x.entry x.before b x.world (omega (arith, tight)) in
     let m = lag.moved sends hears IsFair ca cb (suc x.moves) x.entry x.before b x.world in
     let va = at ca x.before in
-    let of = disposed-by va (next va x.entry.step) (body_heard x.entry.step) (own_in x.entry.step) x.entry.reply f d (step-sending va x.entry.step x.entry.reply m.fair.answers) x.sent told.is-body in
+    let of = disposed-by va (next va x.entry.step) (body_heard x.entry.step) (own_in x.entry.step) x.entry.reply f d (step-sending va x.entry.step x.entry.reply (due m.fair)) x.sent told.is-body in
     let disposes = disposes-as x.entry.step d of told.role-is in
     let both = and-both (is_inside i.id d.first (disposition_of d).last) ((disposition_of d).settled || has_outcome d.state) told.now in
     let now : state_by x.entry.step i.id ≡ d.state = ap (λ s. state_by s i.id) disposes ∙ (let yes = both.0 in rw yes refl) in
@@ -153,7 +154,7 @@ told-now ca cb n a b step t w fb next' told =
     subst (λ (t : Telling). WasSaid ca a (learned_of t)) told.is one
 
 said-more : (ca cb : Config) (n : ℕ) (a : List Entry) (e : Entry) (b : List Entry) → World ca cb n a b → Moves cb e b a → IsSaid ca a (at cb b) b → IsSaid ca a (at cb (e ∷ b)) (e ∷ b)
-said-more ca cb n a e b w m k = by (learn-step (at cb b) e.step e.reply m.fair.answers o.sound)
+said-more ca cb n a e b w m k = by (learn-step (at cb b) e.step e.reply (due m.fair) o.sound)
   where
     fb : AllFair cb b
     fb = (fair-both ca cb n a b w).1

@@ -1,4 +1,5 @@
 -- Worlds cut back, and the induction over those where one end has heard all that the other sent.
+pub mod Plain
 pub mod Lag
 -- What an accepted step sends.
 pub mod Sends
@@ -15,6 +16,7 @@ pub mod SlotOf
 pub mod Named
 pub mod Doing
 pub mod SlotActs
+pub mod NoneWait
 pub mod Credit
 -- What each step does to the counts and the credit of a link, and that both its ends agree on them.
 pub mod Turns

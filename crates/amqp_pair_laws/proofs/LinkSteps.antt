@@ -37,7 +37,8 @@ use Rattle.amqp_rules.proofs.Listed.{by-bool}
 use Rattle.amqp_laws.specs.declared.entry.Step.{Step}
 use Rattle.amqp_laws.specs.declared.entry.Step.TheVariants.{Opened, Own, Heard}
 use Rattle.amqp_laws.specs.At.{received_by, sent_by}
-use Rattle.amqp_laws.specs.Lawful.{Answers, next}
+use Rattle.amqp_laws.specs.Lawful.{next}
+use Rattle.amqp_pair_laws.proofs.Plain.{Answers, OwnAnswers}
 use Rattle.amqp_pair_laws.proofs.Named.{changed-there, found-passes, removed-there}
 use Rattle.amqp_pair_laws.proofs.Windows.{or-none}
 use Rattle.amqp_pair_laws.proofs.CountsKnown.{same-some}
@@ -370,7 +371,7 @@ none-before v after es er role name x' step h is attached = by step
 
 -- # All steps
 
-ours-attached : (b : AttachBody) (l : LinkView) → is_attached l ≡ true → is_attached (attached_by_us b l) ≡ true
+ours-attached : (b : AttachBody) (l : LinkView) → is_attached l ≡ true → is_attached (attached_by_us b [] l) ≡ true
 ours-attached b l h = by (is_some l.ours) (is_some l.theirs) l.left h
   where
     by : (o t left : Bool) → (o && t) && not left ≡ true → (true && t) && not left ≡ true
@@ -409,25 +410,27 @@ mild-heard : (b : DispositionBody) (role : Role) → IsMild (heard_of Sender b r
 mild-heard b Sender = tt
 mild-heard b Receiver = tt
 
-own-step : (v : View) (op : Op) → LinkStep v (next_own v op) (sent_by_own v op) (received_by_own v op)
-own-step v own.Begin = still tt refl
-own-step v (own.Attach name role snd rcv source target count max_message) =
-    let b = attach_sent v (record { name = name; role = role; snd = snd; rcv = rcv; source = source; target = target; count = count; max_message = max_message }) in
-    joined-step v (is_offered_as role name) role name (attached_by_us b) _ _ tt (plain (attached_by_us b) (λ l. refl) (λ l. refl) (λ l. refl) (ours-attached b)) refl
-own-step v (own.Start link tag format settled payload more) = changes (has_number link) (begin_delivery (next_delivery v) (length payload) more) (mild-begun (next_delivery v) link tag settled (find (has_number link) v.links)) (plain (begin_delivery (next_delivery v) (length payload) more) (λ l. refl) (λ l. refl) (λ l. refl) (λ l a. a)) refl
-own-step v (own.Carry link payload more) = changes (has_number link) (carry_on (length payload) more) (mild-continued false (sending_on (find (has_number link) v.links))) (plain (carry_on (length payload) more) (λ l. refl) (λ l. refl) (λ l. refl) (λ l a. a)) refl
-own-step v (own.Abort link) = changes (has_number link) aborted (mild-continued true (sending_on (find (has_number link) v.links))) (plain aborted (λ l. refl) (λ l. refl) (λ l. refl) (λ l a. a)) refl
-own-step v (own.Dispose role first last settled state) = still (mild-said role (record { first = first; last = last; settled = settled; state = state })) refl
-own-step v (own.Learn link) = changes (has_number link) learnt_from tt (plain learnt_from (λ l. refl) (λ l. refl) (λ l. refl) (λ l a. a)) refl
-own-step v (own.Grant link credit drain echo) = changes (has_number link) (granted_on credit drain) tt (plain (granted_on credit drain) (λ l. refl) (λ l. refl) (λ l. refl) (λ l a. a)) refl
-own-step v (own.Offer link available) = changes (has_number link) (offered available) tt (plain (offered available) (λ l. refl) (λ l. refl) (λ l. refl) (λ l a. a)) refl
-own-step v (own.Drained link) = changes (has_number link) drained tt (plain drained (λ l. refl) (λ l. refl) (λ l. refl) (λ l a. a)) refl
-own-step v (own.Refresh echo) = still tt refl
-own-step v (own.Take link) = changes (has_number link) taken_from tt (plain taken_from (λ l. refl) (λ l. refl) (λ l. refl) (λ l a. a)) refl
-own-step v (own.Detach link error) = leaves link refl refl refl
-own-step v (own.Suspend link) = leaves link refl refl refl
-own-step v (own.End error) = clears refl refl refl
-own-step v own.Beat = still tt refl
+own-step : (v : View) (op : Op) (reply : Reply) → OwnAnswers v op reply → LinkStep v (next_own v op) (sent_by_own v op) (received_by_own v op)
+own-step v own.Begin reply h = still tt refl
+own-step v (own.Attach name role snd rcv source target count max_message) reply h =
+    let b = attach_sent v (record { name = name; role = role; snd = snd; rcv = rcv; source = source; target = target; count = count; max_message = max_message; items = [] }) in
+    joined-step v (is_offered_as role name) role name (attached_by_us b []) _ _ tt (plain (attached_by_us b []) (λ l. refl) (λ l. refl) (λ l. refl) (ours-attached b)) refl
+own-step v (own.Start link tag format settled payload more) reply h = changes (has_number link) (begin_delivery (next_delivery v) (length payload) more) (mild-begun (next_delivery v) link tag settled (find (has_number link) v.links)) (plain (begin_delivery (next_delivery v) (length payload) more) (λ l. refl) (λ l. refl) (λ l. refl) (λ l a. a)) refl
+own-step v (own.Carry link payload more) reply h = changes (has_number link) (carry_on (length payload) more) (mild-continued false (sending_on (find (has_number link) v.links))) (plain (carry_on (length payload) more) (λ l. refl) (λ l. refl) (λ l. refl) (λ l a. a)) refl
+own-step v (own.Abort link) reply h = changes (has_number link) aborted (mild-continued true (sending_on (find (has_number link) v.links))) (plain aborted (λ l. refl) (λ l. refl) (λ l. refl) (λ l a. a)) refl
+own-step v (own.Dispose role first last settled state) reply h = still (mild-said role (record { first = first; last = last; settled = settled; state = state })) refl
+own-step v (own.Learn link) reply h = changes (has_number link) learnt_from tt (plain learnt_from (λ l. refl) (λ l. refl) (λ l. refl) (λ l a. a)) refl
+own-step v (own.Grant link credit drain echo) reply h = changes (has_number link) (granted_on credit drain) tt (plain (granted_on credit drain) (λ l. refl) (λ l. refl) (λ l. refl) (λ l a. a)) refl
+own-step v (own.Offer link available) reply h = changes (has_number link) (offered available) tt (plain (offered available) (λ l. refl) (λ l. refl) (λ l. refl) (λ l a. a)) refl
+own-step v (own.Drained link) reply h = changes (has_number link) drained tt (plain drained (λ l. refl) (λ l. refl) (λ l. refl) (λ l a. a)) refl
+own-step v (own.Refresh echo) reply h = still tt refl
+own-step v (own.Take link) reply h = changes (has_number link) taken_from tt (plain taken_from (λ l. refl) (λ l. refl) (λ l. refl) (λ l a. a)) refl
+own-step v (own.Detach link error) reply h = leaves link refl refl refl
+own-step v (own.Suspend link) reply h = leaves link refl refl refl
+own-step v (own.Rejoin r) reply h = absurd h
+own-step v (own.Resume link tag settled) reply h = absurd h
+own-step v (own.End error) reply h = clears refl refl refl
+own-step v own.Beat reply h = still tt refl
 
 unless-left : (change : LinkView → LinkView) → Keeps change → Keeps (λ l. cond l.left l (change l))
 unless-left change k = plain _ (λ l. r l l.left) (λ l. n l l.left) (λ l. m l l.left) (λ l h. a l l.left h)
@@ -474,7 +477,7 @@ body-step v _ payload reply h = absurd (cc (h))
 -- of a session that is not over
 pub link-step : (v : View) (step : Step) (reply : Reply) → Answers v step reply → is_over v.session ≡ false → LinkStep v (next v step) (sent_by v step) (received_by v step)
 link-step v (Opened told) reply h o = still tt refl
-link-step v (Own op) reply h o = own-step v op
+link-step v (Own op) reply h o = own-step v op reply h
 link-step v (Heard f) reply h o =
     let unsent : v.session.end_sent ≡ false = (or-none v.session.end_sent v.session.end_heard o).0 in
     let taken : is_dropped v f.body ≡ false = rw unsent refl in

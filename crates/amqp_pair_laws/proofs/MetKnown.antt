@@ -24,7 +24,6 @@ use Rattle.amqp_rules.specs.Sending.{frame_of, sends as sends'}
 use Rattle.amqp_rules.specs.Telling.{flag}
 use Rattle.amqp_rules.specs.Carry.{carry_refusals, later_body}
 use Rattle.amqp_rules.specs.Deliveries.{begun_on, belongs_to, continued_on, disposition_of, heard_of, item_of, left_by_peer, received_by_body, said_of, sending_on, transfer_on, transferred}
-use Rattle.amqp_rules.specs.Answer.{own_answer}
 use Rattle.amqp_rules.specs.Sound.{IsSound}
 use Rattle.amqp_rules.proofs.Accepted.{on-link-ok, sends-ok}
 use Rattle.amqp_rules.proofs.Listed.{by-bool}
@@ -36,6 +35,7 @@ use Rattle.amqp_laws.specs.Transfers.{size_of}
 use Rattle.amqp_laws.specs.At.{at, received_by, sent_by}
 use Rattle.amqp_laws.specs.Lawful.{next}
 use Rattle.amqp_laws.proofs.Twice.{and-both}
+use Rattle.amqp_pair_laws.proofs.Plain.{OwnAnswers, due, no-start, start-starts}
 use Rattle.amqp_pair_laws.specs.Moves.{count}
 use Rattle.amqp_pair_laws.specs.World.{IsFair, Moves, Tight, World, frame_among, frame_in, hears, sends}
 use Rattle.amqp_pair_laws.specs.Learns.{tells_by, was_told}
@@ -81,13 +81,13 @@ data Ending (v : View) (step : Step) (i : Item) : Type 0 where
 body-ending : (v : View) (f : Frame) (body : Option Performative) (i : Item) → f.body ≡ body → ends (received_by_body v body) i ≡ true → Ending v (Heard f) i
 body-ending v f (Some (heard.Transfer t)) i is h = by (find (has_peer_handle t.handle) v.links) refl h
   where
-    at-link : (y : LinkView) → find (has_peer_handle t.handle) v.links ≡ Some y → y.left ≡ false → (o : Option Delivery) → y.receiving ≡ o → ends (belongs_to y.number (transferred (rcv_mode y) t []) t.state o) i ≡ true → Ending v (Heard f) i
+    at-link : (y : LinkView) → find (has_peer_handle t.handle) v.links ≡ Some y → y.left ≡ false → (o : Option Delivery) → y.receiving ≡ o → ends (belongs_to y.number y.waiting (transferred (rcv_mode y) t []) t.state o) i ≡ true → Ending v (Heard f) i
     at-link y found unleft None r h = absurd (cc (h))
     at-link y found unleft (Some c) r h =
         let both = and-both (unwrap_or t.settled false || unwrap_or t.aborted false) (i.id == c.id) h in
         stops (passes f t y c refl is found unleft r both.0 (eqb-true i.id c.id both.1))
 
-    on : (y : LinkView) → find (has_peer_handle t.handle) v.links ≡ Some y → (left : Bool) → y.left ≡ left → ends (cond left (PassesOver t.delivery_id) (belongs_to y.number (transferred (rcv_mode y) t []) t.state y.receiving)) i ≡ true → Ending v (Heard f) i
+    on : (y : LinkView) → find (has_peer_handle t.handle) v.links ≡ Some y → (left : Bool) → y.left ≡ left → ends (cond left (PassesOver t.delivery_id) (belongs_to y.number y.waiting (transferred (rcv_mode y) t []) t.state y.receiving)) i ≡ true → Ending v (Heard f) i
     on y found true l h = absurd (cc (h))
     on y found false l h = at-link y found l y.receiving refl h
 
@@ -162,7 +162,7 @@ ours-was ca e a name x' u fa lives fx there on w =
 holds-goes : (cb : Config) (e : Entry) (b : List Entry) (name : List ℕ) (y y' : LinkView) (i : Item) → AllFair cb (e ∷ b) → Lives b → link (Receiver, name) cb b ≡ Some y → link (Receiver, name) cb (e ∷ b) ≡ Some y' → y'.left ≡ false
     → (q : Holds (at cb b) y i) → (Stop (at cb b) e.step q.item → ⊥) → Holds (at cb (e ∷ b)) y' i
 holds-goes cb e b name y y' i fb lb fy to unleft q none =
-    let h = held-step v e.step e.reply fb.1.answers lb in
+    let h = held-step v e.step e.reply (due fb.1) lb in
     let k = h.kept q.item q.there (by-bool (ends (received_by v e.step) q.item) (λ (t : ends (received_by v e.step) q.item ≡ true). absurd (by (ending v e.step q.item t))) (λ (f : ends (received_by v e.step) q.item ≡ false). f)) in
     record {
       item = k.item;
@@ -179,7 +179,7 @@ holds-goes cb e b name y y' i fb lb fy to unleft q none =
     o = one-more (Receiver, name) cb e b fb
 
     g : GoesOn (sent_by v e.step) y y'
-    g = stays-on v (next v e.step) (sent_by v e.step) (received_by v e.step) Receiver name y y' (link-step v e.step e.reply fb.1.answers lb) o.sound fy (ap (λ (v : View). find (has_name Receiver name) v.links) (sym o.goes_on) ∙ to) unleft
+    g = stays-on v (next v e.step) (sent_by v e.step) (received_by v e.step) Receiver name y y' (link-step v e.step e.reply (due fb.1) lb) o.sound fy (ap (λ (v : View). find (has_name Receiver name) v.links) (sym o.goes_on) ∙ to) unleft
 
     by : Ending v e.step q.item → ⊥
     by (stops s) = none s
@@ -199,17 +199,18 @@ met-quiet ca cb n e a b w t m silent k lives name x' y u fx there on fy unleft u
     o = one-more (Sender, []) ca e a fa
 
     h : HeldStep (at ca a) (next (at ca a) e.step) (sent_by (at ca a) e.step) (received_by (at ca a) e.step)
-    h = held-step (at ca a) e.step e.reply fa.1.answers (lives-goes e a la').lived
+    h = held-step (at ca a) e.step e.reply (due fa.1) (lives-goes e a la').lived
 
     by : Was (sent_by (at ca a) e.step) (at ca a).sent u ⊎ (begins (sent_by (at ca a) e.step) ≡ Some u.item) → Holds (at cb b) y u.item
     by (inl w) =
         let p = ours-was ca e a name x' u fa la' fx there on w in
         holds-same (at cb b) y w.before.item u.item w.same.id w.same.tag (k lives name p.link' y w.before p.found w.there p.on fy unleft (untold-as w.before.item.id u.item.id b w.same.id untold))
     by (inr is) =
-        let z = begins-ours (at ca a) e.step u.item is in
-        let none = quiet-starts (at ca a) e.step e.reply m.fair.answers silent in
+        let z = begins-ours (at ca a) e.step e.reply (due m.fair) u.item is in
+        let none = quiet-starts (at ca a) e.step e.reply (due m.fair) silent in
         let yes = ap (λ s. is_start (own_in s)) z.is-start in
-        absurd (cc (none, yes))
+        let none' = no-start e none in
+        absurd (cc (none', yes))
 
 met-ahead : (ca cb : Config) (n : ℕ) (e : Entry) (a b : List Entry) → World ca cb (suc n) a (e ∷ b) → Tight ca cb n a b → Moves cb e b a → hears e ≡ None → MetAgree ca cb a b → MetAgree ca cb a (e ∷ b)
 met-ahead ca cb n e a b w t m deaf k lives name x y' u fx there on fy unleft' untold = holds-goes cb e b name z.link' y' u.item fb lb z.found fy unleft' q none
@@ -247,7 +248,7 @@ met-ahead ca cb n e a b w t m deaf k lives name x y' u fx there on fy unleft' un
 -- # A frame passes
 
 -- a later transfer that ends its delivery aborts it
-aborts-by : (v : View) (op : Op) (reply : Reply) (f : Frame) (t : TransferBody) → own_answer v op ≡ Ok reply → is_carrier (Some op) ≡ true → is_start (Some op) ≡ false → frame_among reply.sent ≡ Some f → f.body ≡ Some (heard.Transfer t)
+aborts-by : (v : View) (op : Op) (reply : Reply) (f : Frame) (t : TransferBody) → OwnAnswers v op reply → is_carrier (Some op) ≡ true → is_start (Some op) ≡ false → frame_among reply.sent ≡ Some f → f.body ≡ Some (heard.Transfer t)
     → unwrap_or t.settled false || unwrap_or t.aborted false ≡ true → (link : ℕ) × (op ≡ own.Abort link)
 aborts-by v (own.Start link tag format settled payload more) reply f t h carrier start sent is over' = absurd (cc (start))
 aborts-by v (own.Carry link payload more) reply f t h carrier start sent is over' =
@@ -286,9 +287,9 @@ none-there None h = refl
 none-there (Some c) h = absurd (cc (h))
 
 -- a delivery begins where none is unfinished, on a link that was not left
-begins-item : (t : TransferBody) (y : LinkView) → y.left ≡ false → y.receiving ≡ None → unwrap_or t.settled false ≡ false → unwrap_or t.aborted false ≡ false
+begins-item : (t : TransferBody) (y : LinkView) → y.left ≡ false → y.receiving ≡ None → unwrap_or t.settled false ≡ false → unwrap_or t.aborted false ≡ false → unwrap_or t.resume false ≡ false
     → begins (transfer_on t (Some y)) ≡ Some (item_of y.number (transferred (rcv_mode y) t []) t.state)
-begins-item t y unleft none settled aborted = rw (unleft, none, settled, aborted) refl
+begins-item t y unleft none settled aborted new = rw (unleft, none, settled, aborted, new) refl
 
 -- the delivery that a start begins unsettled
 begun-item : (id number : ℕ) (tag : List ℕ) (settled : Bool) (l : LinkView) (i : Item) → begins (begun_on id number tag settled (Some l)) ≡ Some i
@@ -327,7 +328,7 @@ module _ (ca cb : Config) (n : ℕ) (e : Entry) (a : List Entry) (e' : Entry) (b
   stays-there i y q stays (hears' g d is body role settled inside) =
       let one : g ≡ f = same-some (frame_in e'.step) g f (ap frame_in is) heard'' in
       let body' : f.body ≡ Some (heard.Disposition d) = ap (λ (f : Frame). f.body) (sym one) ∙ body in
-      let of = disposed-by va (next va e.step) (body_heard e.step) (own_in e.step) e.reply f d (step-sending va e.step e.reply m.fair.answers) sent body' in
+      let of = disposed-by va (next va e.step) (body_heard e.step) (own_in e.step) e.reply f d (step-sending va e.step e.reply (due m.fair)) sent body' in
       let yes = says-ends va e.step d i of role settled (ap (λ n. is_inside n d.first (disposition_of d).last) (sym q.id) ∙ inside) in
       absurd (cc (yes, stays))
   stays-there i y q stays (passes g t1 y2 c is body found unleft receiving over' id) =
@@ -345,14 +346,14 @@ module _ (ca cb : Config) (n : ℕ) (e : Entry) (a : List Entry) (e' : Entry) (b
 
       begun : is_start (own_in e.step) ≡ true → ⊥
       begun start =
-          let bg = began va e.step e.reply f m.fair.answers start sent in
+          let bg = began va e.step e.reply f (due m.fair) (start-starts e start) sent in
           let some = sizes bg.link bg.number bg.transfer bg.body bg.found bg.attached bg.role-is bg.handle in
           let none = bg.fresh in
           absurd (cc (some, none))
 
       ended : (number : ℕ) → e.step ≡ Own (own.Abort number) → ⊥
       ended number is' =
-          let z = abort-sent va number e.reply (own-answers va e.step e.reply (own.Abort number) m.fair.answers is') in
+          let z = abort-sent va number e.reply (own-answers va e.step e.reply (own.Abort number) (due m.fair) is') in
           let l = z.0 in
           let t0 = later_transfer (handle_of l.ours) None (Some true) in
           let one = same-some (frame_among e.reply.sent) (frame_of (Some (heard.Transfer t0)) []) f z.1.1.1.1 sent in
@@ -363,18 +364,18 @@ module _ (ca cb : Config) (n : ℕ) (e : Entry) (a : List Entry) (e' : Entry) (b
 
       later : is_start (own_in e.step) ≡ false → ⊥
       later other =
-          let carrier = sends-transfer va (next va e.step) (body_heard e.step) (own_in e.step) e.reply f t1 (step-sending va e.step e.reply m.fair.answers) sent body' in
+          let carrier = sends-transfer va (next va e.step) (body_heard e.step) (own_in e.step) e.reply f t1 (step-sending va e.step e.reply (due m.fair)) sent body' in
           let op = own-of e.step carrier in
           let carrier' : is_carrier (Some op.0) ≡ true = ap (λ s. is_carrier (own_in s)) (sym op.1) ∙ carrier in
           let no' : is_start (Some op.0) ≡ false = ap (λ s. is_start (own_in s)) (sym op.1) ∙ other in
-          let x = aborts-by va op.0 e.reply f t1 (own-answers va e.step e.reply op.0 m.fair.answers op.1) carrier' no' sent body' over' in
+          let x = aborts-by va op.0 e.reply f t1 (own-answers va e.step e.reply op.0 (due m.fair) op.1) carrier' no' sent body' over' in
           ended x.0 (op.1 ∙ ap (λ o. Own o) x.1)
 
   -- one that begins
   begins-there : (x' y' : LinkView) (u : SentItem) → Lives (e ∷ a) → link (Sender, name) ca (e ∷ a) ≡ Some x' → In u (at ca (e ∷ a)).sent → u.item.link ≡ x'.number → link (Receiver, name) cb (e' ∷ b) ≡ Some y' → y'.left ≡ false
       → is_start (own_in e.step) ≡ true → begins (sent_by va e.step) ≡ Some u.item → Holds (at cb (e' ∷ b)) y' u.item
   begins-there x' y' u la' fx there on fy unleft' start is =
-      let bg = began va e.step e.reply f m.fair.answers start sent in
+      let bg = began va e.step e.reply f (due m.fair) (start-starts e start) sent in
       let l = bg.link in
       let t0 = bg.transfer in
       let id = next_delivery va in
@@ -395,9 +396,10 @@ module _ (ca cb : Config) (n : ℕ) (e : Entry) (a : List Entry) (e' : Entry) (b
       let none = none-there y.receiving (sym (sizes-by l bg.number t0 y bg.found bg.attached bg.role-is bg.handle found unleft) ∙ bg.fresh) in
       let settled : unwrap_or t0.settled false ≡ false = ap (λ (t : TransferBody). unwrap_or t.settled false) bg.transfer-is ∙ ap (λ b. unwrap_or (flag b) false) i0.0 in
       let aborted : unwrap_or t0.aborted false ≡ false = ap (λ (t : TransferBody). unwrap_or t.aborted false) bg.transfer-is in
+      let new : unwrap_or t0.resume false ≡ false = ap (λ (t : TransferBody). unwrap_or t.resume false) bg.transfer-is in
       let v0 = item_of y.number (transferred (rcv_mode y) t0 []) t0.state in
-      let begun : begins (received_by vb e'.step) ≡ Some v0 = ap begins (heard-body' vb e'.step f heard'' ∙ ap (received_by_body vb) bg.body ∙ ap (transfer_on t0) found) ∙ begins-item t0 y unleft none settled aborted in
-      let h = held-step vb e'.step e'.reply fb.1.answers lb in
+      let begun : begins (received_by vb e'.step) ≡ Some v0 = ap begins (heard-body' vb e'.step f heard'' ∙ ap (received_by_body vb) bg.body ∙ ap (transfer_on t0) found) ∙ begins-item t0 y unleft none settled aborted new in
+      let h = held-step vb e'.step e'.reply (due fb.1) lb in
       let o = one-more (Receiver, name) cb e' b fb in
       record {
         item = v0;
@@ -427,7 +429,7 @@ met-pass ca cb n e a e' b f world t m m' sent heard'' k lives name x' y' u fx th
     o = one-more (Sender, []) ca e a fa
 
     h : HeldStep (at ca a) (next (at ca a) e.step) (sent_by (at ca a) e.step) (received_by (at ca a) e.step)
-    h = held-step (at ca a) e.step e.reply fa.1.answers (lives-goes e a la').lived
+    h = held-step (at ca a) e.step e.reply (due fa.1) (lives-goes e a la').lived
 
     by : Was (sent_by (at ca a) e.step) (at ca a).sent u ⊎ (begins (sent_by (at ca a) e.step) ≡ Some u.item) → Holds (at cb (e' ∷ b)) y' u.item
     by (inl w) =
@@ -440,7 +442,7 @@ met-pass ca cb n e a e' b f world t m m' sent heard'' k lives name x' y' u fx th
         holds-same (at cb (e' ∷ b)) y' i u.item w.same.id w.same.tag
         (holds-goes cb e' b name z.link' y' i fb lb z.found fy unleft' q (stays-there ca cb n e a e' b f t m sent heard'' lb fa fb name i z.link' q w.stays))
     by (inr is) =
-        let z = begins-ours (at ca a) e.step u.item is in
+        let z = begins-ours (at ca a) e.step e.reply (due m.fair) u.item is in
         begins-there ca cb n e a e' b f t m sent heard'' lb fa fb name x' y' u la' fx there on fy unleft' (ap (λ s. is_start (own_in s)) z.is-start) is
 
 met-kept : lag.IsKept sends hears IsFair MetAgree

@@ -10,9 +10,9 @@ use Rattle.amqp_laws.specs.Past.{some_entry}
 use Rattle.amqp_laws.specs.Said.{hears_end}
 use Rattle.amqp_laws.specs.Live.{live}
 use Rattle.amqp_laws.specs.At.{at}
-use Rattle.amqp_laws.specs.Lawful.{Answers}
 use Rattle.amqp_laws.proofs.Twice.{and-both}
 use Rattle.amqp_laws.proofs.AttachLaw.{mapped-not-over}
+use Rattle.amqp_pair_laws.proofs.Plain.{Answers, due}
 use Rattle.amqp_pair_laws.specs.Moves.{count, said_as}
 use Rattle.amqp_pair_laws.specs.World.{IsFair, Tight, World, frame_among, hears, sends}
 use Rattle.amqp_pair_laws.proofs.Lag as lag
@@ -56,7 +56,7 @@ next-of ca cb n a b f w waits =
     let tight : count sends x.before ≡ count hears b = x.tight in
     let before = lag.cut sends hears IsFair ca cb x.moves x.entry x.before b x.world (omega (arith, tight)) in
     let m = lag.moved sends hears IsFair ca cb (suc x.moves) x.entry x.before b x.world in
-    record { moves = x.moves; entry = x.entry; before = x.before; whole = x.world; tight = record { world = before; tight = tight }; answers = m.fair.answers; sent = x.sent }
+    record { moves = x.moves; entry = x.entry; before = x.before; whole = x.world; tight = record { world = before; tight = tight }; answers = (due m.fair); sent = x.sent }
 
 pub ready-by : (ca cb : Config) (b : List Entry) (f : Frame) (x : Next ca cb b f) → is_mapped (at ca x.before).session ≡ true → IsReady (at cb b).session
 ready-by ca cb b f x mapped =

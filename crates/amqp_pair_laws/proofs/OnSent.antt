@@ -25,7 +25,8 @@ use Rattle.amqp_laws.specs.declared.entry.Step.{Step}
 use Rattle.amqp_laws.specs.declared.entry.Step.TheVariants.{Own, Heard}
 use Rattle.amqp_laws.specs.Live.{live}
 use Rattle.amqp_laws.specs.At.{at, received_by, sent_by, started}
-use Rattle.amqp_laws.specs.Lawful.{Answers, next}
+use Rattle.amqp_laws.specs.Lawful.{next}
+use Rattle.amqp_pair_laws.proofs.Plain.{Answers, due}
 use Rattle.amqp_pair_laws.specs.Moves.{IsTail}
 use Rattle.amqp_pair_laws.proofs.Lag as lag
 use Rattle.amqp_pair_laws.proofs.Named.{found-passes, name-self, named-found, role-same}
@@ -51,11 +52,11 @@ transfer-stays : (t : TransferBody) (o : Option LinkView) → is_leave (transfer
 transfer-stays t None = refl
 transfer-stays t (Some l) = by l.left
   where
-    on : (o : Option Delivery) → is_leave (belongs_to l.number (transferred (rcv_mode l) t []) t.state o) ≡ false
+    on : (o : Option Delivery) → is_leave (belongs_to l.number l.waiting (transferred (rcv_mode l) t []) t.state o) ≡ false
     on None = refl
     on (Some d) = refl
 
-    by : (left : Bool) → is_leave (cond left (PassesOver t.delivery_id) (belongs_to l.number (transferred (rcv_mode l) t []) t.state l.receiving)) ≡ false
+    by : (left : Bool) → is_leave (cond left (PassesOver t.delivery_id) (belongs_to l.number l.waiting (transferred (rcv_mode l) t []) t.state l.receiving)) ≡ false
     by true = refl
     by false = on l.receiving
 
@@ -143,11 +144,11 @@ on-name c (e ∷ past) fair lives s there = by (λ s there. on-name c past fair.
     o = one-more (Sender, []) c e past fair
 
     h : HeldStep v (next v e.step) (sent_by v e.step) (received_by v e.step)
-    h = held-step v e.step e.reply fair.1.answers lp
+    h = held-step v e.step e.reply (due fair.1) lp
 
     goes : (name : List ℕ) (k : ℕ) → OnName v name k → s.item.link ≡ k → ((n : ℕ) → sent_by v e.step ≡ Leaves n → k ≡ n → ⊥) → (sent_by v e.step ≡ Over → ⊥) → (name : List ℕ) × OnName (at c (e ∷ past)) name s.item.link
     goes name k a same stays lives' =
-        let b = name-after v e.step e.reply name k fair.1.answers lp o.sound a stays lives' in
+        let b = name-after v e.step e.reply name k (due fair.1) lp o.sound a stays lives' in
         (name, subst (λ (v : View). OnName v name s.item.link) (sym o.goes_on) (subst (λ (k : ℕ). OnName (next v e.step) name k) (sym same) b))
 
     by : ((s : SentItem) → In s v.sent → (name : List ℕ) × OnName v name s.item.link) → Was (sent_by v e.step) v.sent s ⊎ (begins (sent_by v e.step) ≡ Some s.item) → (name : List ℕ) × OnName (at c (e ∷ past)) name s.item.link
@@ -155,7 +156,7 @@ on-name c (e ∷ past) fair lives s there = by (λ s there. on-name c past fair.
         let a = known w.before w.there in
         goes a.0 w.before.item.link a.1 w.same.link (λ n e' at-n. ends-left (sent_by v e.step) w.before.item n e' at-n w.stays) (λ e'. ends-over (sent_by v e.step) w.before.item e' w.stays)
     by known (inr is) =
-        let a = begun-on-name v e.step e.reply s fair.1.answers o.sound (begins-ours v e.step s.item is) in
+        let a = begun-on-name v e.step e.reply s (due fair.1) o.sound (begins-ours v e.step e.reply (due fair.1) s.item is) in
         goes a.0 s.item.link a.1 refl (λ n e' at-n. begins-none (sent_by v e.step) s.item (ap is_leave e') is) (λ e'. begins-none (sent_by v e.step) s.item (ap is_leave e') is)
 
 -- so the link of the name, where one is held on it
@@ -196,7 +197,7 @@ sent-since c early (e ∷ past) (inr t) fair lives s there serial = by (λ s the
     o = one-more (Sender, []) c e past fair
 
     h : HeldStep v (next v e.step) (sent_by v e.step) (received_by v e.step)
-    h = held-step v e.step e.reply fair.1.answers lp
+    h = held-step v e.step e.reply (due fair.1) lp
 
     later : {m k id : ℕ} → IsSerial c m id → m ≤ k → IsSerial c k id
     later x h = (x.0, ((let few = x.1.0 in omega (arith, few, h)), x.1.1))
@@ -204,7 +205,7 @@ sent-since c early (e ∷ past) (inr t) fair lives s there serial = by (λ s the
     by : ((s : SentItem) → In s v.sent → IsSerial c (started (live early)) s.item.id → Since c early past s) → Was (sent_by v e.step) v.sent s ⊎ (begins (sent_by v e.step) ≡ Some s.item) → Since c early (e ∷ past) s
     by earlier (inl w) =
         let x = earlier w.before w.there (subst (λ (id : ℕ). IsSerial c (started (live early)) id) w.same.id serial) in
-        let b = name-after v e.step e.reply x.name w.before.item.link fair.1.answers lp o.sound x.last (λ n e' at-n. ends-left (sent_by v e.step) w.before.item n e' at-n w.stays) (λ e'. ends-over (sent_by v e.step) w.before.item e' w.stays) in
+        let b = name-after v e.step e.reply x.name w.before.item.link (due fair.1) lp o.sound x.last (λ n e' at-n. ends-left (sent_by v e.step) w.before.item n e' at-n w.stays) (λ e'. ends-over (sent_by v e.step) w.before.item e' w.stays) in
         record {
           before = x.before;
           there = x.there;
@@ -214,6 +215,6 @@ sent-since c early (e ∷ past) (inr t) fair lives s there serial = by (λ s the
           last = subst (λ (v : View). OnName v x.name s.item.link) (sym o.goes_on) (subst (λ (k : ℕ). OnName (next v e.step) x.name k) (sym w.same.link) b);
         }
     by earlier (inr is) =
-        let b = begins-ours v e.step s.item is in
+        let b = begins-ours v e.step e.reply (due fair.1) s.item is in
         let grows : started (live early) ≤ started (live past) = lag.tail-grows (λ p. started (live p)) started-grows early past t in
         absurd (serial-apart c (started (live past)) s.item.id (started-few c past fair.0) (later serial grows) b.id)

@@ -27,10 +27,11 @@ use Rattle.amqp_laws.specs.Live.{live}
 use Rattle.amqp_laws.specs.Session.{session_at}
 use Rattle.amqp_laws.specs.Windows.{heard_transfers, known, promise, sent_transfers}
 use Rattle.amqp_laws.specs.At.{at}
-use Rattle.amqp_laws.specs.Lawful.{Answers, IsReplayed, next}
+use Rattle.amqp_laws.specs.Lawful.{IsReplayed, next}
 use Rattle.amqp_laws.proofs.Sound.{at-is-sound, law}
 use Rattle.amqp_laws.proofs.Twice.{and-both}
 use Rattle.amqp_laws.proofs.AttachLaw.{mapped-not-over}
+use Rattle.amqp_pair_laws.proofs.Plain.{Answers, due}
 use Rattle.amqp_pair_laws.specs.Moves.{count, said_as}
 use Rattle.amqp_pair_laws.specs.World.{IsFair, Moves, Tight, World, frame_among, frame_in, hears, sends}
 use Rattle.amqp_pair_laws.proofs.Lag as lag
@@ -52,11 +53,12 @@ few-by c (e ∷ before) h =
     rw (← add-one (length before)) (omega (arith, room, few))
 
 pub record IsGood (c : Config) (past : List Entry) : Type 0 where
+  pub fair : lag.AllFair sends hears IsFair c past
   pub replayed : IsReplayed c past
   pub few : length past ≤ 2 ^ 30
 
 pub good : (ca cb : Config) (n : ℕ) (a b : List Entry) → World ca cb n a b → IsGood ca a
-good ca cb n a b w = let f = lag.all-fair sends hears IsFair ca cb n a b w in record { replayed = replayed-by ca a f; few = few-by ca a f }
+good ca cb n a b w = let f = lag.all-fair sends hears IsFair ca cb n a b w in record { fair = f; replayed = replayed-by ca a f; few = few-by ca a f }
 
 pub body-of : (sent : List Sent) (p : Performative) (payload : List ℕ) (f : Frame) → sent ≡ sent_of (Some p) payload ∷ [] → frame_among sent ≡ Some f → f.body ≡ Some p
 body-of sent p payload f is h =
@@ -86,7 +88,7 @@ none-before v after heard' op reply (flows b t mapped open' begun numbers sent) 
 none-before v after heard' op reply (begins' b deaf is-begin unsent open' takes comes sent) h = rw sent refl
 none-before v after heard' op reply (others p payload t w beside sent) h = rw (sent, t) refl
 
-unheard : (c : Config) (past : List Entry) → IsReplayed c past → some_entry hears_begin (live past) ≡ false → sent_transfers (live past) ≡ 0
+unheard : (c : Config) (past : List Entry) → lag.AllFair sends hears IsFair c past → some_entry hears_begin (live past) ≡ false → sent_transfers (live past) ≡ 0
 unheard c [] h none = refl
 unheard c (e ∷ before) h none = by (some_entry ends (live before) && hears_no_end e.step) (unheard c before h.0) none
   where
@@ -95,7 +97,7 @@ unheard c (e ∷ before) h none = by (some_entry ends (live before) && hears_no_
     by true earlier none = earlier none
     by false earlier none =
         let both = or-none (hears_begin e) (some_entry hears_begin (live before)) none in
-        let zero' = none-before (at c before) (next (at c before) e.step) (body_heard e.step) (own_in e.step) e.reply (step-sending (at c before) e.step e.reply h.1) both.1 in
+        let zero' = none-before (at c before) (next (at c before) e.step) (body_heard e.step) (own_in e.step) e.reply (step-sending (at c before) e.step e.reply (due h.1)) both.1 in
         rw zero' (earlier both.1)
 
 -- a begin is heard once
@@ -164,7 +166,7 @@ other-of ca cb n e a b known w =
 
 pass-by : (ca cb : Config) (e : Entry) (a : List Entry) (e' : Entry) (b : List Entry) (f : Frame)
     → Sending (at ca a) (next (at ca a) e.step) (body_heard e.step) (own_in e.step) e.reply
-    → at ca (e ∷ a) ≡ next (at ca a) e.step → live (e ∷ a) ≡ e ∷ live a → IsReplayed cb b → length b ≤ 2 ^ 30 → IsSound (at cb b) → Answers (at cb b) e'.step e'.reply
+    → at ca (e ∷ a) ≡ next (at ca a) e.step → live (e ∷ a) ≡ e ∷ live a → lag.AllFair sends hears IsFair cb b → length b ≤ 2 ^ 30 → IsSound (at cb b) → Answers (at cb b) e'.step e'.reply
     → is_over (session_at (live b)) ≡ false → is_over (session_at (e' ∷ live b)) ≡ false
     → frame_among e.reply.sent ≡ Some f → body_heard e'.step ≡ f.body → Other ca cb e a b → Knows ca cb (live a) (live b) → Knows ca cb (e ∷ live a) (e' ∷ live b)
 pass-by ca cb e a e' b f (silent q) l go rb fb sb ans lives lives' sent hb other k = absurd (cc (q, sent))
@@ -206,9 +208,9 @@ known-pass ca cb n e a e' b f known w t m m' sent heard k lives =
     let ga = good ca cb n a b t.world in
     let gb = good cb ca n b a (lag.swapped sends hears IsFair ca cb n a b t.world) in
     let l = law ca a e ga.replayed ga.few m.fair.answers in
-    let go = sender-lives ca a e.step e.reply f m.fair.answers sent in
+    let go = sender-lives ca a e.step e.reply f (due m.fair) sent in
     let open' : is_over (session_at (e' ∷ live b)) ≡ false = subst (λ (p : List Entry). is_over (session_at p) ≡ false) g.is_live lives in
-    let both = pass-by ca cb e a e' b f (step-sending (at ca a) e.step e.reply m.fair.answers) l go gb.replayed gb.few (at-is-sound cb b gb.replayed gb.few) m'.fair.answers
+    let both = pass-by ca cb e a e' b f (step-sending (at ca a) e.step e.reply (due m.fair)) l go gb.fair gb.few (at-is-sound cb b gb.replayed gb.few) (due m'.fair)
     g.lived open' sent (heard-body e'.step f heard) (other-of ca cb n e a b known w) (k g.lived) in
     let here = subst (λ (p : List Entry). Knows ca cb p (e' ∷ live b)) (sym go) both in
     subst (λ (p : List Entry). Knows ca cb (live (e ∷ a)) p) (sym g.is_live) here
@@ -248,7 +250,7 @@ window-is-open ca cb n a b f t w waits is lives =
     let tight : count sends x.before ≡ count hears b = x.tight in
     let before = lag.cut sends hears IsFair ca cb x.moves x.entry x.before b x.world (omega (arith, tight)) in
     let m = lag.moved sends hears IsFair ca cb (suc x.moves) x.entry x.before b x.world in
-    let r = room-there (at ca x.before) (next (at ca x.before) x.entry.step) (body_heard x.entry.step) (own_in x.entry.step) x.entry.reply f t (step-sending (at ca x.before) x.entry.step x.entry.reply m.fair.answers) x.sent is in
+    let r = room-there (at ca x.before) (next (at ca x.before) x.entry.step) (body_heard x.entry.step) (own_in x.entry.step) x.entry.reply f t (step-sending (at ca x.before) x.entry.step x.entry.reply (due m.fair)) x.sent is in
     let here = windows-known ca cb x.moves x.before b (record { world = before; tight = tight }) lives in
     let s = lag.star sends hears IsFair ca cb x.moves x.before b before in
     let there = windows-known cb ca s.moves s.early x.before s.behind (mapped-not-over (at ca x.before).session r.0) in

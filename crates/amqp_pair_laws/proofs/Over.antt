@@ -14,7 +14,7 @@ use Rattle.amqp_rules.specs.End.{end_body}
 use Rattle.amqp_rules.specs.declared.reply.Reply.{Reply}
 use Rattle.amqp_rules.specs.View.{View, is_ending, is_mapped, is_over, takes_frames}
 use Rattle.amqp_rules.specs.Sending.{reply_ending, sent_of}
-use Rattle.amqp_rules.specs.Answer.{own_answer, body_answer, is_dropped, is_end}
+use Rattle.amqp_rules.specs.Answer.{body_answer, is_dropped, is_end}
 use Rattle.amqp_rules.specs.PeerEnd.{end_reply}
 use Rattle.amqp_rules.specs.Refusing.{unlinked}
 use Rattle.amqp_rules.specs.declared.violation.ViolationKind.TheVariants.{OutOfSession}
@@ -29,8 +29,9 @@ use Rattle.amqp_laws.specs.Said.{own_in, is_own_end, body_heard, ends, hears_end
 use Rattle.amqp_laws.specs.Live.{live}
 use Rattle.amqp_laws.specs.Session.{session_at}
 use Rattle.amqp_laws.specs.At.{at}
-use Rattle.amqp_laws.specs.Lawful.{Answers, next}
+use Rattle.amqp_laws.specs.Lawful.{next}
 use Rattle.amqp_laws.proofs.Sound.{law}
+use Rattle.amqp_pair_laws.proofs.Plain.{Answers, OwnAnswers, due}
 use Rattle.amqp_pair_laws.specs.Moves as moves
 use Rattle.amqp_pair_laws.specs.Moves.{count, said_as, IsTail}
 use Rattle.amqp_pair_laws.specs.World.{IsFair, Moves, Tight, frame_among, frame_in, hears, sends}
@@ -39,14 +40,14 @@ use Rattle.amqp_pair_laws.proofs.Sends.{Sending, begins as begins', flows, other
 use Rattle.amqp_pair_laws.proofs.Opens.{body-of, good, heard-body}
 use Rattle.amqp_pair_laws.proofs.Phases.{over-stays}
 
-own-end-sends : (v : View) (op : Op) (reply : Reply) (f : Frame) → own_answer v op ≡ Ok reply → is_own_end (Some op) ≡ true → frame_among reply.sent ≡ Some f → is_end f.body ≡ true
+own-end-sends : (v : View) (op : Op) (reply : Reply) (f : Frame) → OwnAnswers v op reply → is_own_end (Some op) ≡ true → frame_among reply.sent ≡ Some f → is_end f.body ≡ true
 own-end-sends v (own.End error) reply f h is sent =
     let s = sends-ending-ok v.max_frame ((not (is_mapped v.session), refusal.NotMapped) ∷ []) (end_body error) (ended_by Over Over v) given.Nothing reply h in
     let body = body-of reply.sent _ [] f (ap (λ (r : Reply). r.sent) (sym s.replies)) sent in
     ap is_end body
 own-end-sends v _ reply f h is sent = absurd (cc (is))
 
-own-end-loud : (v : View) (op : Op) (reply : Reply) → own_answer v op ≡ Ok reply → is_own_end (Some op) ≡ true → frame_among reply.sent ≡ None → ⊥
+own-end-loud : (v : View) (op : Op) (reply : Reply) → OwnAnswers v op reply → is_own_end (Some op) ≡ true → frame_among reply.sent ≡ None → ⊥
 own-end-loud v (own.End error) reply h is none =
     let s = sends-ending-ok v.max_frame ((not (is_mapped v.session), refusal.NotMapped) ∷ []) (end_body error) (ended_by Over Over v) given.Nothing reply h in
     let one : reply.sent ≡ sent_of (end_body error) [] ∷ [] = ap (λ (r : Reply). r.sent) (sym s.replies) in
@@ -138,7 +139,7 @@ sender-over c past e f (others p payload t w beside one) l sent is =
     ap (λ (v : View). is_over v.session) l ∙ beside.ends (sym b ∙ is)
 
 over-quiet : (ca cb : Config) (n : ℕ) (e : Entry) (a b : List Entry) → Tight ca cb n a b → Moves ca e a b → sends e ≡ None → (ends e || hears_end e ≡ true) → is_over (session_at (live b)) ≡ true
-over-quiet ca cb n e a b t m quiet is = by e.step refl m.fair.answers is
+over-quiet ca cb n e a b t m quiet is = by e.step refl (due m.fair) is
   where
     by : (step : Step) → e.step ≡ step → Answers (at ca a) step e.reply → is_own_end (own_in step) || is_end (body_heard step) ≡ true → is_over (session_at (live b)) ≡ true
     by (Opened told) same h is = absurd (cc (is))
@@ -156,7 +157,7 @@ over-quiet ca cb n e a b t m quiet is = by e.step refl m.fair.answers is
         let gx = good cb ca (suc x.moves) (x.entry ∷ x.before) a x.world in
         let fewer : length x.before ≤ 2 ^ 30 = (let few : length (x.entry ∷ x.before) ≤ 2 ^ 30 = gx.few in let k : length x.before + 1 ≤ 2 ^ 30 = rw (← add-one (length x.before)) at few in omega (arith, k)) in
         let l = law cb x.before x.entry gx.replayed.0 fewer f.1.answers in
-        over-later (x.entry ∷ x.before) b x.is_tail (sender-over cb x.before x.entry g (step-sending (at cb x.before) x.entry.step x.entry.reply f.1.answers) l x.sent is)
+        over-later (x.entry ∷ x.before) b x.is_tail (sender-over cb x.before x.entry g (step-sending (at cb x.before) x.entry.step x.entry.reply (due f.1)) l x.sent is)
 
 over-pass : (ca cb : Config) (e : Entry) (a : List Entry) (e' : Entry) (b : List Entry) (f : Frame) → Answers (at ca a) e.step e.reply → frame_among e.reply.sent ≡ Some f → hears e' ≡ Some f
     → (ends e || hears_end e ≡ true) → is_over (session_at (live (e' ∷ b))) ≡ true
@@ -171,7 +172,7 @@ over-kept =
       starts = λ ca cb h. absurd (cc (h));
       quiet = λ ca cb n e a b known w t m quiet k h. ⊎_elim k (λ is. over-quiet ca cb n e a b t m quiet is) (newly e a h);
       ahead = λ ca cb n e a b known w t m deaf k h. over-stays e b (k h);
-      pass = λ ca cb n e a e' b f known w t m m' sent heard' k h. ⊎_elim (λ o. over-stays e' b (k o)) (λ is. over-pass ca cb e a e' b f m.fair.answers sent heard' is) (newly e a h);
+      pass = λ ca cb n e a e' b f known w t m m' sent heard' k h. ⊎_elim (λ o. over-stays e' b (k o)) (λ is. over-pass ca cb e a e' b f (due m.fair) sent heard' is) (newly e a h);
     }
 
 -- where b has heard all that a sent, and its session is not over, nor is a's

@@ -1,5 +1,5 @@
 -- The state of its own that an end has of a delivery which it received is the last one that it gave.
-use Rattle.std.proofs.Common.{zero, suc, ◌≡◌, ◌⊎◌, inl, inr, ℕ, ◌==◌, Bool, true, false, cond, Option, Some, None, List, [], ◌∷◌, arith, refl, sym, ap, ◌∙◌, subst, find}
+use Rattle.std.proofs.Common.{zero, suc, ◌≡◌, ◌⊎◌, inl, inr, ℕ, ◌==◌, Bool, true, false, cond, Option, Some, None, List, [], ◌∷◌, arith, refl, sym, ap, ◌∙◌, subst, find, unwrap_or}
 use Rattle.amqp_performatives.specs.declared.bodies.Role.{Role}
 use Rattle.amqp_performatives.specs.declared.bodies.Role.TheVariants.{Sender, Receiver}
 use Rattle.amqp_performatives.specs.declared.bodies.TransferBody.{TransferBody}
@@ -20,6 +20,7 @@ use Rattle.amqp_laws.specs.declared.entry.Step.{Step}
 use Rattle.amqp_laws.specs.declared.entry.Step.TheVariants.{Opened, Own, Heard}
 use Rattle.amqp_laws.specs.Live.{live}
 use Rattle.amqp_laws.specs.At.{at, received_by}
+use Rattle.amqp_pair_laws.proofs.Plain.{due}
 use Rattle.amqp_pair_laws.specs.Moves.{IsNext, count, said_as}
 use Rattle.amqp_pair_laws.specs.Premise.{ids_heard}
 use Rattle.amqp_pair_laws.specs.States.{HasWhatItSaid, said_state, state_by}
@@ -41,11 +42,11 @@ transfer-mute : (t : TransferBody) (i : Item) (o : Option LinkView) → says_loc
 transfer-mute t i None = refl
 transfer-mute t i (Some l) = by l.left
   where
-    on : (o : Option Delivery) → says_local i (belongs_to l.number (transferred (rcv_mode l) t []) t.state o) ≡ None
+    on : (o : Option Delivery) → says_local i (belongs_to l.number l.waiting (transferred (rcv_mode l) t []) t.state o) ≡ None
     on None = refl
     on (Some d) = refl
 
-    by : (left : Bool) → says_local i (cond left (PassesOver t.delivery_id) (belongs_to l.number (transferred (rcv_mode l) t []) t.state l.receiving)) ≡ None
+    by : (left : Bool) → says_local i (cond left (PassesOver t.delivery_id) (belongs_to l.number l.waiting (transferred (rcv_mode l) t []) t.state l.receiving)) ≡ None
     by true = refl
     by false = on l.receiving
 
@@ -75,9 +76,9 @@ heard-none (Opened told) f id is = refl
 heard-none (Own op) f id is = absurd (cc (is))
 heard-none (Heard g) f id is = refl
 
--- # The id of a delivery that begins is new
+-- # The id of a delivery that begins is new, and it has no state of ours
 
-begun-new : (ca cb : Config) (n : ℕ) (a : List Entry) (e : Entry) (b : List Entry) (f : Frame) (u : Item) → World ca cb n a b → Moves cb e b a → Lives b → hears e ≡ Some f → begins (received_by (at cb b) e.step) ≡ Some u → said_state u.id b ≡ None
+begun-new : (ca cb : Config) (n : ℕ) (a : List Entry) (e : Entry) (b : List Entry) (f : Frame) (u : Item) → World ca cb n a b → Moves cb e b a → Lives b → hears e ≡ Some f → begins (received_by (at cb b) e.step) ≡ Some u → (said_state u.id b ≡ None) × (u.local ≡ None)
 begun-new ca cb n a e b f u w m lb heard' is =
     let next' : said_as sends (count hears b) a ≡ Some f = subst (λ (o : Option Frame). IsNext sends hears IsFair o b a) heard' m.next in
     let x = lag.waits sends hears IsFair ca cb n a b f w next' in
@@ -91,7 +92,10 @@ begun-new ca cb n a e b f u w m lb heard' is =
     let s = starts-there ca cb x.moves x.entry x.before e b f m1 m2 lb x.sent heard' u z in
     let id = next_delivery (at ca x.before) in
     let new : is_among (ids_heard (live b)) id ≡ false = ap (λ ids. is_among ids id) (ids-known ca cb x.moves x.before b (record { world = before; tight = tight }) lb) ∙ next-fresh ca x.before fair.0 in
-    ap (λ id. said_state id b) s.id ∙ (unsaid cb b id fair.1 (wire-small _) new).0
+    let same : z.transfer ≡ s.began'.transfer = (let k : ◌≡◌ {A = Option Performative} (Some (heard.Transfer z.transfer)) (Some (heard.Transfer s.began'.transfer)) = sym z.body-is ∙ s.began'.body in cc k) in (
+      ap (λ id. said_state id b) s.id ∙ (unsaid cb b id fair.1 (wire-small _) new).0,
+      ap (λ (i : Item). i.local) z.item ∙ z.bare (ap (λ (t : TransferBody). unwrap_or t.resume false) (same ∙ s.began'.transfer-is)),
+    )
 
 -- # Along a world
 
@@ -102,7 +106,7 @@ said-more : (ca cb : Config) (n : ℕ) (a : List Entry) (e : Entry) (b : List En
 said-more ca cb n a e b w m k lives u there =
     let lb = (lives-goes e b lives).lived in
     let o = one-more (Sender, []) cb e b ((fair-both ca cb n a b w).1, m.fair) in
-    let h = held-step (at cb b) e.step e.reply m.fair.answers lb in
+    let h = held-step (at cb b) e.step e.reply (due m.fair) lb in
     by lb (h.received u (subst (λ (v : View). In u v.received) o.goes_on there))
   where
     v : View
@@ -111,8 +115,8 @@ said-more ca cb n a e b w m k lives u there =
     begun : Lives b → begins (received_by v e.step) ≡ Some u → (o : Option Frame) → hears e ≡ o → u.local ≡ said_state u.id (e ∷ b)
     begun lb is None deaf = absurd (own-begins v e.step u deaf is)
     begun lb is (Some f) heard' =
-        let z = began-here v f.body u (ap begins (sym (heard-body' v e.step f heard')) ∙ is) in
-        ap (λ (i : Item). i.local) z.item ∙ sym (ap (λ o. or_earlier o (said_state u.id b)) (heard-none e.step f u.id heard') ∙ begun-new ca cb n a e b f u w m lb heard' is)
+        let new = begun-new ca cb n a e b f u w m lb heard' is in
+        new.1 ∙ sym (ap (λ o. or_earlier o (said_state u.id b)) (heard-none e.step f u.id heard') ∙ new.0)
 
     by : Lives b → Stayed (received_by v e.step) v.received u ⊎ (begins (received_by v e.step) ≡ Some u) → u.local ≡ said_state u.id (e ∷ b)
     by lb (inl s) =

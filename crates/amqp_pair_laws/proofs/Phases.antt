@@ -17,7 +17,7 @@ use Rattle.amqp_rules.specs.declared.reply.Reply.{Reply}
 use Rattle.amqp_rules.specs.declared.reply.Sent.{Sent}
 use Rattle.amqp_rules.specs.View.{View, is_mapped, is_over}
 use Rattle.amqp_rules.specs.Sending.{sent_of}
-use Rattle.amqp_rules.specs.Answer.{own_answer, is_end}
+use Rattle.amqp_rules.specs.Answer.{is_end, own_answer}
 use Rattle.amqp_rules.proofs.Accepted.{not-false, sends-ok, sends-ending-ok}
 use Rattle.amqp_rules.proofs.Listed.{by-bool}
 use Rattle.amqp_laws.specs.declared.entry.Entry.{Entry}
@@ -28,9 +28,11 @@ use Rattle.amqp_laws.specs.Said.{own_in, is_begin, is_own_end, begin_in, begins,
 use Rattle.amqp_laws.specs.Live.{live}
 use Rattle.amqp_laws.specs.Session.{session_at}
 use Rattle.amqp_laws.specs.At.{at}
-use Rattle.amqp_laws.specs.Lawful.{Answers, IsReplayed, next}
+use Rattle.amqp_laws.specs.Lawful.{IsReplayed, next}
+use Rattle.amqp_laws.specs.Lawful as lawful
 use Rattle.amqp_laws.proofs.Sound.{law}
 use Rattle.amqp_laws.proofs.Twice.{and-both}
+use Rattle.amqp_pair_laws.proofs.Plain.{Answers, OwnAnswers, due}
 use Rattle.amqp_pair_laws.specs.World.{IsFair, Tight, frame_among, hears, sends}
 use Rattle.amqp_pair_laws.proofs.Lag as lag
 use Rattle.amqp_pair_laws.proofs.Sends.{Sending, begins as begins', flows, others, silent, step-sending, transfers}
@@ -39,7 +41,7 @@ use Rattle.amqp_pair_laws.proofs.Windows.{or-true, sender-lives}
 
 -- # One journal
 
-own-begin : (v : View) (op : Op) (reply : Reply) → own_answer v op ≡ Ok reply → is_begin (Some op) ≡ true → (b : BeginBody) × (reply.sent ≡ sent_of (Some (heard.Begin b)) [] ∷ [])
+own-begin : (v : View) (op : Op) (reply : Reply) → OwnAnswers v op reply → is_begin (Some op) ≡ true → (b : BeginBody) × (reply.sent ≡ sent_of (Some (heard.Begin b)) [] ∷ [])
 own-begin v own.Begin reply h is =
     let s = sends-ok v.max_frame (begin_refusals v) (begin_body v) [] given.Nothing reply h in
     (_, ap (λ (r : Reply). r.sent) (sym s.replies))
@@ -68,7 +70,7 @@ own-end v (own.End error) reply h is =
     not-false (is_mapped v.session) s.none_holds.0
 own-end v _ reply h is = absurd (cc)
 
-end-mapped : (v : View) (step : Step) (reply : Reply) → Answers v step reply → is_own_end (own_in step) ≡ true → is_mapped v.session ≡ true
+end-mapped : (v : View) (step : Step) (reply : Reply) → lawful.Answers v step reply → is_own_end (own_in step) ≡ true → is_mapped v.session ≡ true
 end-mapped v (Opened told) reply h is = absurd (cc)
 end-mapped v (Own op) reply h is = own-end v op reply h is
 end-mapped v (Heard f) reply h is = absurd (cc)
@@ -194,13 +196,13 @@ phases-kept : lag.IsKept sends hears IsFair PhasesAgree
 phases-kept =
     record {
       starts = λ ca cb. record { begun = refl; ended = λ h. absurd (cc (h)) };
-      quiet = λ ca cb n e a b known w t m quiet k. phases-quiet ca cb e a b (no-begin (at ca a) e.step e.reply m.fair.answers (λ w same. silent-other e.reply.sent w quiet same)) k;
+      quiet = λ ca cb n e a b known w t m quiet k. phases-quiet ca cb e a b (no-begin (at ca a) e.step e.reply (due m.fair) (λ w same. silent-other e.reply.sent w quiet same)) k;
       ahead = λ ca cb n e a b known w t m deaf k. phases-ahead ca cb e a b (deaf-body e.step deaf) k;
       pass = λ ca cb n e a e' b f known w t m m' sent heard k.
           let ga = good ca cb n a b t.world in
           let gb = good cb ca n b a (lag.swapped sends hears IsFair ca cb n a b t.world) in
-          phases-pass ca cb e a e' b f (step-sending (at ca a) e.step e.reply m.fair.answers) m.fair.answers (law ca a e ga.replayed ga.few m.fair.answers)
-          (sender-lives ca a e.step e.reply f m.fair.answers sent) gb.replayed sent (heard-body e'.step f heard) k;
+          phases-pass ca cb e a e' b f (step-sending (at ca a) e.step e.reply (due m.fair)) (due m.fair) (law ca a e ga.replayed ga.few m.fair.answers)
+          (sender-lives ca a e.step e.reply f (due m.fair) sent) gb.replayed sent (heard-body e'.step f heard) k;
     }
   where
     silent-other : (sent : List Sent) (b : BeginBody) → frame_among sent ≡ None → sent ≡ sent_of (Some (heard.Begin b)) [] ∷ [] → ⊥

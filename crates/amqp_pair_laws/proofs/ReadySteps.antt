@@ -9,7 +9,7 @@ use Rattle.amqp_performatives.specs.declared.performative.Performative.{Performa
 use Rattle.amqp_performatives.specs.declared.performative.Performative.TheVariants as heard
 use Rattle.amqp_frames.specs.declared.frame.Frame.{Frame}
 use Rattle.amqp_events.specs.Event.{Disposition, Leaves, Over, Nothing as No_event}
-use Rattle.amqp_events.specs.Joined.{Delivery, is_complete, next_delivery as joined_to}
+use Rattle.amqp_events.specs.Joined.{Delivery, is_given, next_delivery as joined_to}
 use Rattle.amqp_events.specs.Told.{Telling}
 use Rattle.amqp_flow.specs.Windows.{WindowsView}
 use Rattle.amqp_rules.specs.declared.op.Op.{Op}
@@ -50,14 +50,15 @@ use Rattle.amqp_rules.specs.PeerDisposition.{disposition_reply, disposition_viol
 use Rattle.amqp_rules.specs.PeerDetach.{detach_reply, parting}
 use Rattle.amqp_rules.specs.PeerEnd.{end_reply}
 use Rattle.amqp_rules.specs.Deliveries.{disposition_of, ended_by, received_by_own, sent_by_body, sent_by_own, transferred}
-use Rattle.amqp_rules.specs.Answer.{body_answer, is_dropped, next_body, next_own, own_answer}
+use Rattle.amqp_rules.specs.Answer.{body_answer, is_dropped, next_body, next_own}
 use Rattle.amqp_rules.specs.Sound.{Ascends, IsSound, keys}
 use Rattle.amqp_rules.proofs.Accepted.{answered_Ok, no_refusal, not-false, on-link-ok, sends-ok, sends-ending-ok, there_Ok, unless_Ok}
 use Rattle.amqp_rules.proofs.Listed.{by-bool}
 use Rattle.amqp_laws.specs.declared.entry.Step.{Step}
 use Rattle.amqp_laws.specs.declared.entry.Step.TheVariants.{Opened, Own, Heard}
 use Rattle.amqp_laws.specs.Said.{body_heard, transfer_in}
-use Rattle.amqp_laws.specs.Lawful.{Answers, next}
+use Rattle.amqp_laws.specs.Lawful.{next}
+use Rattle.amqp_pair_laws.proofs.Plain.{Answers, OwnAnswers}
 use Rattle.amqp_pair_laws.specs.Passing.{taken_in}
 use Rattle.amqp_pair_laws.specs.Learns.{learnt_in}
 use Rattle.amqp_pair_laws.proofs.Windows.{or-none}
@@ -209,6 +210,7 @@ none-taken (given.Delivery l) h k = refl
 none-taken (given.Ready l d) h k = refl
 none-taken (given.Learned l) h k = absurd (cc (h))
 none-taken (given.Suspended s) h k = refl
+none-taken (given.Resumed r) h k = refl
 none-taken (given.Parted l s) h k = refl
 
 none-learnt : (v : View) (g : Given) → is_other g ≡ true → (l : Learned) → In l (learnt_in g) → WasWaiting v l
@@ -319,7 +321,7 @@ all l m n r e o t u y c =
       receiving = λ h. c;
     }
 
-us-leaves : (b : AttachBody) (l : LinkView) → Leaves' l (attached_by_us b l)
+us-leaves : (b : AttachBody) (l : LinkView) → Leaves' l (attached_by_us b [] l)
 us-leaves b l = record { same = record { number = refl; role = refl; name = refl; ours = λ h. refl; theirs = λ h. h; unleft = λ h. h }; ready = refl; receiving = λ h. refl }
 
 peer-leaves : (b : AttachBody) (l : LinkView) → Leaves' l (attached_by_peer b l)
@@ -341,14 +343,14 @@ learn-was v m there (t ∷ ts) reply is h l k = by (let e : learn_reply t ≡ re
     by (inl e) = record { telling' = t; waits = record { link' = m; there = there; told = subst (λ (ts : List Telling). In t ts) (sym is) (inl refl) }; is = sym e }
     by (inr k) = absurd k
 
-own-ready : (v : View) (op : Op) (reply : Reply) → own_answer v op ≡ Ok reply → IsSound v → Both v (next_own v op) (Own op) reply.given
+own-ready : (v : View) (op : Op) (reply : Reply) → OwnAnswers v op reply → IsSound v → Both v (next_own v op) (Own op) reply.given
 own-ready v own.Begin reply h s =
     let k = sends-ok v.max_frame (begin_refusals v) (begin_body v) [] given.Nothing reply h in
     still v (next_own v own.Begin) (Own own.Begin) reply.given refl s refl (given-is _ reply k.replies refl)
 own-ready v (own.Attach name role snd rcv source target count max_message) reply h s =
-    let w : Wanted = record { name = name; role = role; snd = snd; rcv = rcv; source = source; target = target; count = count; max_message = max_message } in
+    let w : Wanted = record { name = name; role = role; snd = snd; rcv = rcv; source = source; target = target; count = count; max_message = max_message; items = [] } in
     let k = sends-ok v.max_frame (attach_refusals v w) (Some (heard.Attach (attach_sent v w))) [] (given.Link (number_met v.made (find (is_offered_as role name) v.links))) reply h in
-    joins v (Own (own.Attach name role snd rcv source target count max_message)) reply.given (is_offered_as role name) role name (attached_by_us (attach_sent v w)) refl s (us-leaves (attach_sent v w)) (λ l. refl) refl (given-is _ reply k.replies refl)
+    joins v (Own (own.Attach name role snd rcv source target count max_message)) reply.given (is_offered_as role name) role name (attached_by_us (attach_sent v w) []) refl s (us-leaves (attach_sent v w)) (λ l. refl) refl (given-is _ reply k.replies refl)
 own-ready v (own.Start link tag format settled payload more) reply h s =
     let id = next_delivery v in
     let o = on-link-ok v link (λ l. sends v.max_frame (start_refusals v l tag settled payload) (start_body (handle_of l.ours) id tag format settled more) payload (given.Delivery id)) reply h in
@@ -420,6 +422,8 @@ own-ready v (own.Suspend link) reply h s =
     let o = on-link-ok v link (λ l. sends_ending v.max_frame (detach_refusals l) (detach_body (handle_of l.ours) None None) ended (given.Suspended (put_aside v l))) reply h in
     let k = sends-ending-ok v.max_frame (detach_refusals o.on) (detach_body (handle_of o.on.ours) None None) ended (given.Suspended (put_aside v o.on)) reply o.said in
     changes v (next_own v (own.Suspend link)) (Own (own.Suspend link)) reply.given (has_number link) left_by_us refl s refl left-leaves (λ l. refl) (given-is _ reply k.replies refl)
+own-ready v (own.Rejoin r) reply h s = absurd h
+own-ready v (own.Resume link tag settled) reply h s = absurd h
 own-ready v (own.End error) reply h s =
     let k = sends-ending-ok v.max_frame ((not (is_mapped v.session), refusal.NotMapped) ∷ []) (end_body error) (ended_by Over Over v) given.Nothing reply h in
     gone v (next_own v (own.End error)) (Own (own.End error)) reply.given refl refl (given-is _ reply k.replies refl)
@@ -433,7 +437,7 @@ met-other made (Some l) = refl
 
 ready-other : (left : Bool) (k : ℕ) (d : Delivery) → is_other (cond left given.Nothing (given_by k d)) ≡ true
 ready-other true k d = refl
-ready-other false k d = by (is_complete d)
+ready-other false k d = by (is_given d)
   where
     by : (b : Bool) → is_other (cond b (given.Ready k d.id) given.Nothing) ≡ true
     by true = refl

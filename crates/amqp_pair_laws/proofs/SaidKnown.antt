@@ -32,7 +32,8 @@ use Rattle.amqp_laws.specs.Past.{more, some_entry}
 use Rattle.amqp_laws.specs.Said.{body_heard, ends, hears_no_end, own_in, starts}
 use Rattle.amqp_laws.specs.Live.{live}
 use Rattle.amqp_laws.specs.At.{at, sent_by, started}
-use Rattle.amqp_laws.specs.Lawful.{Answers, next}
+use Rattle.amqp_laws.specs.Lawful.{next}
+use Rattle.amqp_pair_laws.proofs.Plain.{Answers, due, of-resumed}
 use Rattle.amqp_pair_laws.specs.States.{HearsWhatWasSaid, said_state, state_by}
 use Rattle.amqp_pair_laws.specs.Learns.{tells_by, was_told}
 use Rattle.amqp_pair_laws.specs.Moves.{IsTail}
@@ -138,6 +139,7 @@ own-remote v (Own (own.Dispose role first last settled state)) i none = by role
     by : (role : Role) → says_remote i (said_of Sender role (record { first = first; last = last; settled = settled; state = state })) ≡ None
     by Sender = refl
     by Receiver = refl
+own-remote v (Own (own.Resume link tag settled)) i none = of-resumed (λ e. says_remote i e ≡ None) refl (λ j unsettled. refl) (next_delivery v) link tag settled (find (has_number link) v.links)
 own-remote v (Heard f) i none = absurd (cc (none))
 own-remote v _ i none = refl
 
@@ -198,7 +200,7 @@ SaidAgree ca cb a b = Lives b → (u : SentItem) → In u (at cb b).sent → Sai
 
 said-quiet : (ca cb : Config) (e : Entry) (a b : List Entry) → Moves ca e a b → sends e ≡ None → SaidAgree ca cb a b → SaidAgree ca cb (e ∷ a) b
 said-quiet ca cb e a b m silent k lives u there =
-    let none = state-loud (at ca a) e.step e.reply u.item.id m.fair.answers (λ f d sent body. absurd (cc (sent, silent))) in
+    let none = state-loud (at ca a) e.step e.reply u.item.id (due m.fair) (λ f d sent body. absurd (cc (sent, silent))) in
     let x = k lives u there in
     record { remote = x.remote ∙ ap (λ o. or_earlier o (said_state u.item.id a)) (sym none.0); told = λ h. x.told (ap (λ b. b || was_told u.item.id a) (sym none.1) ∙ h) }
 
@@ -216,13 +218,13 @@ said-ahead ca cb n e a b w t m deaf k lives u there =
     let fair = fair-both ca cb (suc n) a (e ∷ b) w in
     let lb = (lives-goes e b lives).lived in
     let o = one-more (Sender, []) cb e b fair.1 in
-    let h = held-step (at cb b) e.step e.reply m.fair.answers lb in
+    let h = held-step (at cb b) e.step e.reply (due m.fair) lb in
     by fair.0 lb (h.ours u (subst (λ (v : View). In u v.sent) o.goes_on there))
   where
     by : AllFair ca a → Lives b → Was (sent_by (at cb b) e.step) (at cb b).sent u ⊎ (begins (sent_by (at cb b) e.step) ≡ Some u.item) → Said a u
     by fa lb (inl w) = said-was a (sent_by (at cb b) e.step) (at cb b).sent u w (λ i. own-remote (at cb b) e.step i deaf) (k lb)
     by fa lb (inr is) =
-        let x = begins-ours (at cb b) e.step u.item is in
+        let x = begins-ours (at cb b) e.step e.reply (due m.fair) u.item is in
         let none = unsaid ca a (next_delivery (at cb b)) fa (wire-small _) (next-unheard ca cb n a b t lb) in
         let untold : was_told u.item.id a ≡ false = ap (λ id. was_told id a) x.id ∙ none.1 in
         record { remote = x.remote ∙ sym (ap (λ id. said_state id a) x.id ∙ none.0); told = λ h. absurd (cc (untold, h)) }
@@ -233,7 +235,7 @@ said-pass ca cb n e a e' b f world m m' sent heard' k lives u there =
     let fair = fair-both ca cb (suc n) (e ∷ a) b world in
     let lb = (lives-goes e' b lives).lived in
     let o = one-more (Sender, []) cb e' b (fair.1, m'.fair) in
-    let h = held-step (at cb b) e'.step e'.reply m'.fair.answers lb in
+    let h = held-step (at cb b) e'.step e'.reply (due m'.fair) lb in
     by lb (h.ours u (subst (λ (v : View). In u v.sent) o.goes_on there))
   where
     v : View
@@ -241,7 +243,7 @@ said-pass ca cb n e a e' b f world m m' sent heard' k lives u there =
 
     -- no disposition passes
     none-by : (i : Item) (body : Option Performative) → f.body ≡ body → ((d : DispositionBody) → body ≡ Some (heard.Disposition d) → ⊥) → (state_by e.step i.id ≡ None) × (tells_by e.step i.id ≡ false)
-    none-by i body is none = state-loud (at ca a) e.step e.reply i.id m.fair.answers (λ g d sent' body'. (let one = same-some (sends e) g f sent' sent in none d (sym is ∙ ap (λ (f : Frame). f.body) (sym one) ∙ body')))
+    none-by i body is none = state-loud (at ca a) e.step e.reply i.id (due m.fair) (λ g d sent' body'. (let one = same-some (sends e) g f sent' sent in none d (sym is ∙ ap (λ (f : Frame). f.body) (sym one) ∙ body')))
 
     other : (i : Item) (body : Option Performative) → f.body ≡ body → ((d : DispositionBody) → body ≡ Some (heard.Disposition d) → ⊥) → says_remote i (sent_by_body v body) ≡ state_by e.step i.id
     other i body is none = body-remote v body i none ∙ sym (none-by i body is none).0
@@ -250,7 +252,7 @@ said-pass ca cb n e a e' b f world m m' sent heard' k lives u there =
     other-told i body is none h = let untold = (none-by i body is none).1 in absurd (cc (untold, h))
 
     disposed : (d : DispositionBody) → f.body ≡ Some (heard.Disposition d) → IsOf (own_in e.step) d
-    disposed d is = disposed-by (at ca a) (next (at ca a) e.step) (body_heard e.step) (own_in e.step) e.reply f d (step-sending (at ca a) e.step e.reply m.fair.answers) sent is
+    disposed d is = disposed-by (at ca a) (next (at ca a) e.step) (body_heard e.step) (own_in e.step) e.reply f d (step-sending (at ca a) e.step e.reply (due m.fair)) sent is
 
     says : (i : Item) (body : Option Performative) → f.body ≡ body → says_remote i (sent_by_body v body) ≡ state_by e.step i.id
     says i (Some (heard.Disposition d)) is = same-state v e.step d i (disposed d is)
@@ -273,7 +275,7 @@ said-pass ca cb n e a e' b f world m m' sent heard' k lives u there =
           told = λ h. w.told ∙ told' (ap (λ id. was_told id (e ∷ a)) (sym w.same.id) ∙ h);
         }
     by lb (inr is) =
-        let x = begins-ours v e'.step u.item is in
+        let x = begins-ours v e'.step e'.reply (due m'.fair) u.item is in
         let none : frame_in e'.step ≡ None = ap frame_in x.is-start in
         absurd (cc (none, heard'))
 

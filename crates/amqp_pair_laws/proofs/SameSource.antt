@@ -9,6 +9,7 @@ use Rattle.amqp_rules.specs.Sound.{IsSound}
 use Rattle.amqp_laws.specs.declared.entry.Entry.{Entry}
 use Rattle.amqp_laws.specs.At.{at}
 use Rattle.amqp_laws.specs.Lawful.{next}
+use Rattle.amqp_pair_laws.proofs.Plain.{due}
 use Rattle.amqp_pair_laws.specs.Moves.{IsTail, count}
 use Rattle.amqp_pair_laws.specs.World.{IsFair, Moves, Tight, World, hears, sends}
 use Rattle.amqp_pair_laws.proofs.Lag as lag
@@ -48,7 +49,7 @@ used-since c k early (e ∷ past) (inr t) fair lives u =
     let o = one-more (Sender, []) c e past fair in
     let before = used-since c k early past t fair.0 lp u in
     subst (λ (v : View). IsUsed v k its-theirs) (sym o.goes_on)
-    (used-later (at c past) e.step e.reply.given k its-theirs (ready-step (at c past) e.step e.reply fair.1.answers lp o.sound) o.sound (λ m f h. f.theirs h) before)
+    (used-later (at c past) e.step e.reply.given k its-theirs (ready-step (at c past) e.step e.reply (due fair.1) lp o.sound) o.sound (λ m f h. f.theirs h) before)
 
 used-now : (v : View) (P : LinkView → Bool) (y : LinkView) → IsSound v → find P v.links ≡ Some y → is_some y.theirs ≡ true → IsUsed v y.number its-theirs
 used-now v P y s found some =
@@ -59,7 +60,7 @@ used-now v P y s found some =
 
 -- a link that is not left was not left before
 pub unleft-before : (c : Config) (e : Entry) (past : List Entry) (name : List ℕ) (y y' : LinkView) → AllFair c (e ∷ past) → Lives past → link (Receiver, name) c past ≡ Some y → link (Receiver, name) c (e ∷ past) ≡ Some y' → y'.number ≡ y.number → y'.left ≡ false → y.left ≡ false
-unleft-before c e past name y y' fair lp found to number unleft = by (comes v (next v e.step) e.step e.reply.given (ready-step v e.step e.reply fair.1.answers lp o.sound) o.sound y' there)
+unleft-before c e past name y y' fair lp found to number unleft = by (comes v (next v e.step) e.step e.reply.given (ready-step v e.step e.reply (due fair.1) lp o.sound) o.sound y' there)
   where
     v : View
     v = at c past
@@ -153,7 +154,7 @@ source-pass ca cb n e a e' b f world t m' sent heard k lives name x' y' fx fy ou
     fresh free tb =
         let u1 = used-now (at cb b1) (has_name Receiver name) y1 (one-sound cb b1 (fair-tail cb b1 b tb fb.0)) g1 theirs in
         let u = used-since cb y'.number b1 b tb fb.0 lb (subst (λ (k : ℕ). IsUsed (at cb b1) k its-theirs) number u1) in
-        on u (comes v (next v e'.step) e'.step e'.reply.given (ready-step v e'.step e'.reply fb.1.answers lb o.sound) o.sound y' there)
+        on u (comes v (next v e'.step) e'.step e'.reply.given (ready-step v e'.step e'.reply (due fb.1) lb o.sound) o.sound y' there)
       where
         on : IsUsed v y'.number its-theirs → From v y' ⊎ New v y' → ⊥
         on u (inl g) =

@@ -22,6 +22,7 @@ use Rattle.amqp_laws.specs.Said.{body_heard, own_in, starts}
 use Rattle.amqp_laws.specs.Live.{live}
 use Rattle.amqp_laws.specs.At.{at, received_by, sent_by, started}
 use Rattle.amqp_laws.specs.Lawful.{next}
+use Rattle.amqp_pair_laws.proofs.Plain.{due, no-start}
 use Rattle.amqp_pair_laws.specs.World.{sends}
 use Rattle.amqp_pair_laws.proofs.Named.{found-passes, or_this}
 use Rattle.amqp_pair_laws.proofs.Windows.{lives-goes}
@@ -71,13 +72,13 @@ held-serial c [] fair lives s there = absurd there
 held-serial c (e ∷ past) fair lives s there =
     let o = one-more (Sender, []) c e past fair in
     let lp = (lives-goes e past lives).lived in
-    let h = held-step (at c past) e.step e.reply fair.1.answers lp in
+    let h = held-step (at c past) e.step e.reply (due fair.1) lp in
     by (held-serial c past fair.0 lp) (h.ours s (subst (λ (v : View). In s v.sent) o.goes_on there))
   where
     by : HeldSerial c past → Was (sent_by (at c past) e.step) (at c past).sent s ⊎ (begins (sent_by (at c past) e.step) ≡ Some s.item) → IsSerial c (started (live (e ∷ past))) s.item.id
     by before (inl w) = serial-later c e past s.item.id lives (subst (λ (id : ℕ). IsSerial c (started (live past)) id) (sym w.same.id) (before w.before w.there))
     by before (inr is) =
-        let b = begins-ours (at c past) e.step s.item is in
+        let b = begins-ours (at c past) e.step e.reply (due fair.1) s.item is in
         serial-now c e past s.item.id lives (starts-by c e past s.item b) b.id
 
 -- # What is unfinished
@@ -91,7 +92,7 @@ ours-later : (c : Config) (e : Entry) (past : List Entry) (l x : LinkView) (b d 
 ours-later c e past l x b d fair lives same number k =
     let o = one-more (Sender, []) c e past fair in
     let lp = (lives-goes e past lives).lived in
-    let h = held-step (at c past) e.step e.reply fair.1.answers lp in
+    let h = held-step (at c past) e.step e.reply (due fair.1) lp in
     record {
       serial = serial-later c e past d.id lives (subst (λ (id : ℕ). IsSerial c (started (live past)) id) (sym same) k.serial);
       on = λ s there is. by s (h.ours s (subst (λ (v : View). In s v.sent) o.goes_on there)) (is ∙ same);
@@ -100,7 +101,7 @@ ours-later c e past l x b d fair lives same number k =
     by : (s : SentItem) → Was (sent_by (at c past) e.step) (at c past).sent s ⊎ (begins (sent_by (at c past) e.step) ≡ Some s.item) → s.item.id ≡ b.id → s.item.link ≡ x.number
     by s (inl w) is = w.same.link ∙ k.on w.before w.there (sym w.same.id ∙ is) ∙ sym number
     by s (inr now) is =
-        let y = begins-ours (at c past) e.step s.item now in
+        let y = begins-ours (at c past) e.step e.reply (due fair.1) s.item now in
         absurd (serial-apart c (started (live past)) b.id (started-few c past fair.0) k.serial (sym is ∙ y.id))
 
 -- it begins by the step
@@ -109,7 +110,7 @@ ours-now : (c : Config) (e : Entry) (past : List Entry) (f : Frame) (l x : LinkV
 ours-now c e past f l x d fair lives is sent y one id number =
     let o = one-more (Sender, []) c e past fair in
     let lp = (lives-goes e past lives).lived in
-    let h = held-step (at c past) e.step e.reply fair.1.answers lp in
+    let h = held-step (at c past) e.step e.reply (due fair.1) lp in
     record {
       serial = serial-now c e past d.id lives is id;
       on = λ s there same. by s lp (h.ours s (subst (λ (v : View). In s v.sent) o.goes_on there)) (same ∙ id);
@@ -119,7 +120,7 @@ ours-now c e past f l x d fair lives is sent y one id number =
     by s lp (inl w) same =
         absurd (serial-apart c (started (live past)) w.before.item.id (started-few c past fair.0) (held-serial c past fair.0 lp w.before w.there) (sym w.same.id ∙ same))
     by s lp (inr now) same =
-        let z = begins-ours (at c past) e.step s.item now in
+        let z = begins-ours (at c past) e.step e.reply (due fair.1) s.item now in
         z.on ∙ at-number z ∙ ap (λ (l : LinkView). l.number) one ∙ sym number
       where
         at-number : (z : BeginsOurs (at c past) e.step s.item) → z.number ≡ y.link.number
@@ -158,7 +159,7 @@ ours-step c e past fair lives k name x d found stays is = by (turn-of (Sender, n
 
     number-of : (l : LinkView) → link i c past ≡ Some l → x.number ≡ l.number
     number-of l was =
-        let step = link-step (at c past) e.step e.reply fair.1.answers lp in
+        let step = link-step (at c past) e.step e.reply (due fair.1) lp in
         let g = stays-on (at c past) (next (at c past) e.step) (sent_by (at c past) e.step) (received_by (at c past) e.step) Sender name l x step o.sound was (ap (λ (v : View). find (has_name Sender name) v.links) (sym o.goes_on) ∙ found) stays in
         g.number
 
@@ -172,7 +173,7 @@ ours-step c e past fair lives k name x d found stays is = by (turn-of (Sender, n
         let id : d.id ≡ next_delivery (at c past) = t.begins-id d fresh is in
         by-bool (starts e)
         (λ (s : starts e ≡ true).
-        let y = began (at c past) e.step e.reply t.frame fair.1.answers s t.is_sent in
+        let y = began (at c past) e.step e.reply t.frame (due fair.1) s t.is_sent in
         let same : y.transfer ≡ t.transfer = (let z : ◌≡◌ {A = Option Performative} (Some (heard.Transfer y.transfer)) (Some (heard.Transfer t.transfer)) = sym y.body ∙ t.body in cc z) in
         let handle : y.transfer.handle ≡ handle_of l.ours = ap (λ (t : TransferBody). t.handle) same ∙ t.handle in
         let here = by-handle (at c past) y.transfer.handle (has_number y.number) y.link o.sound y.found (its-handle y.link.ours y.transfer.handle (attached-ours y.link y.attached) y.handle) in
@@ -180,7 +181,7 @@ ours-step c e past fair lives k name x d found stays is = by (turn-of (Sender, n
         let one : y.link ≡ l = same-some (find (has_handle y.transfer.handle) (at c past).links) y.link l here there in
         ours-now c e past t.frame l x d fair lives s t.is_sent y one id (number-of l was))
         (λ (s : starts e ≡ false).
-        let none' = no-id t.frame.body t.transfer (later-none (at c past) (next (at c past) e.step) (body_heard e.step) (own_in e.step) e.reply t.frame (step-sending (at c past) e.step e.reply fair.1.answers) s t.is_sent) t.body in
+        let none' = no-id t.frame.body t.transfer (later-none (at c past) (next (at c past) e.step) (body_heard e.step) (own_in e.step) e.reply t.frame (step-sending (at c past) e.step e.reply (due fair.1)) (no-start e s) t.is_sent) t.body in
         let named = (t.names fresh).0 in
         absurd (cc (none', named)))
 
@@ -193,7 +194,7 @@ ours-step c e past fair lives k name x d found stays is = by (turn-of (Sender, n
 
     by : Turn Sender name (at c past) (at c (e ∷ past)) (body_heard e.step) (sends e) → IsOurs c (e ∷ past) x d
     by (away gone why) = absurd (cc (gone, found))
-    by (asks b f n deaf s body free to) = joined (link i c past) (attached_by_us b) n refl (λ l. refl) (λ l. refl) (λ l. refl) to
+    by (asks b f n deaf s body free to) = joined (link i c past) (attached_by_us b []) n refl (λ l. refl) (λ l. refl) (λ l. refl) to
     by (meets b n heard' s free to) = joined (link i c past) (attached_by_peer b) n refl (λ l. refl) (λ l. refl) (λ l. refl) to
     by (goes l m was to ours' theirs' unleft g) =
         let one = same-some (link i c (e ∷ past)) m x to found in

@@ -14,7 +14,7 @@ use Rattle.amqp_performatives.specs.declared.performative.Performative.TheVarian
 use Rattle.amqp_frames.specs.declared.frame.Frame.{Frame}
 use Rattle.amqp_events.specs.Event.{Leaves, Over}
 use Rattle.amqp_rules.specs.declared.op.Op.{Op}
-use Rattle.amqp_rules.specs.declared.op.Op.TheVariants.{Begin, Attach, Start, Carry, Abort, Dispose, Learn, Grant, Offer, Drained, Refresh, Take, Detach, Suspend, End, Beat}
+use Rattle.amqp_rules.specs.declared.op.Op.TheVariants.{Begin, Attach, Start, Carry, Abort, Dispose, Learn, Grant, Offer, Drained, Refresh, Take, Detach, Suspend, Rejoin, Resume, End, Beat}
 use Rattle.amqp_rules.specs.declared.op.Op.TheVariants as own
 use Rattle.amqp_rules.specs.declared.reply.Reply.{Reply}
 use Rattle.amqp_rules.specs.declared.reply.Given.TheVariants as given
@@ -32,7 +32,7 @@ use Rattle.amqp_rules.specs.Deliveries.{ended_by, sent_by_own, received_by_own}
 use Rattle.amqp_events.specs.Event.{Nothing as No_event, Disposition}
 use Rattle.amqp_events.specs.Told.{Telling}
 use Rattle.amqp_events.specs.Joined.{Delivery}
-use Rattle.amqp_rules.specs.Answer.{body_answer, heard_answer, is_dropped, is_end, next_body, next_heard, own_answer, next_own}
+use Rattle.amqp_rules.specs.Answer.{body_answer, heard_answer, is_dropped, is_end, next_body, next_heard, next_own}
 use Rattle.amqp_rules.specs.Begin.{begin_body, begin_refusals}
 use Rattle.amqp_rules.specs.Attach.{Wanted, attach_answer, attach_refusals, attach_sent, number_met}
 use Rattle.amqp_rules.specs.Start.{start_body, start_refusals}
@@ -60,9 +60,10 @@ use Rattle.amqp_rules.proofs.Listed.{by-bool}
 use Rattle.amqp_laws.specs.declared.entry.Step.{Step}
 use Rattle.amqp_laws.specs.declared.entry.Step.TheVariants.{Opened, Own, Heard}
 use Rattle.amqp_laws.specs.Said.{body_heard, is_begin, is_detach, is_start, own_in, tells_windows, transfer_in}
-use Rattle.amqp_laws.specs.Lawful.{Answers, next}
+use Rattle.amqp_laws.specs.Lawful.{next}
 use Rattle.amqp_laws.proofs.AttachLaw.{mapped-not-over, not-over}
 use Rattle.amqp_laws.proofs.Twice.{and-both}
+use Rattle.amqp_pair_laws.proofs.Plain.{Answers, OwnAnswers}
 use Rattle.amqp_pair_laws.specs.World.{frame_among}
 use Rattle.amqp_rules.specs.Suspend.{put_aside}
 
@@ -183,12 +184,12 @@ dispose-sending v role d after reply h =
     let forward : is_backwards d.first d.last ≡ false = s.none_holds.1.0 in
     others _ [] refl refl (record { attaches = λ h. absurd (cc (h)); detaches = λ h. absurd (cc (h)); mapped = λ h. not-false (is_mapped v.session) s.none_holds.0; ends = λ h. absurd (cc (h)); range = λ e h. said-range role d e h forward; says = λ e h. said-of role d e h; spoken = refl }) (sent-by _ reply s.replies)
 
-pub own-sending : (v : View) (op : Op) (reply : Reply) → own_answer v op ≡ Ok reply → Sending v (next_own v op) None (Some op) reply
+pub own-sending : (v : View) (op : Op) (reply : Reply) → OwnAnswers v op reply → Sending v (next_own v op) None (Some op) reply
 own-sending v Begin reply h =
     let s = sends-ok v.max_frame (begin_refusals v) (begin_body v) [] given.Nothing reply h in
     let may = not-false (may_begin v.session) s.none_holds.0 in
     begins _ refl refl (begins-unsent v.session may) (begins-open v.session may) refl refl (sent-by _ reply s.replies)
-own-sending v (Attach name role snd rcv source target count max_message) reply h = attach-sending v _ _ reply h (Attach name role snd rcv source target count max_message) refl
+own-sending v (Attach name role snd rcv source target count max_message) reply h = attach-sending v (record { name = name; role = role; snd = snd; rcv = rcv; source = source; target = target; count = count; max_message = max_message; items = [] }) _ reply h (Attach name role snd rcv source target count max_message) refl
 own-sending v (Start link tag format settled payload more) reply h =
     let id = next_delivery v in
     let o = on-link-ok v link (λ l. sends v.max_frame (start_refusals v l tag settled payload) (start_body (handle_of l.ours) id tag format settled more) payload (given.Delivery id)) reply h in
@@ -238,6 +239,8 @@ own-sending v (Suspend link) reply h =
     let o = on-link-ok v link (λ l. sends_ending v.max_frame (detach_refusals l) (detach_body (handle_of l.ours) None None) (ended_by (Leaves link) (Leaves link) v) (given.Suspended (put_aside v l))) reply h in
     let s = sends-ending-ok v.max_frame (detach_refusals o.on) (detach_body (handle_of o.on.ours) None None) (ended_by (Leaves link) (Leaves link) v) (given.Suspended (put_aside v o.on)) reply o.said in
     others _ [] refl refl (record { attaches = λ h. absurd (cc (h)); detaches = λ h. refl; mapped = λ h. o.mapped; ends = λ h. absurd (cc (h)); range = λ d h. absurd (cc (h)); says = λ d h. absurd (cc (h)); spoken = refl }) (sent-by _ reply s.replies)
+own-sending v (Rejoin r) reply h = absurd h
+own-sending v (Resume link tag settled) reply h = absurd h
 own-sending v (End error) reply h =
     let s = sends-ending-ok v.max_frame ((not (is_mapped v.session), refusal.NotMapped) ∷ []) (end_body error) (ended_by Over Over v) given.Nothing reply h in
     others _ [] refl refl (record { attaches = λ k. absurd (cc (k)); detaches = λ k. absurd (cc (k)); mapped = λ h. not-false (is_mapped v.session) s.none_holds.0; ends = λ h. refl; range = λ d h. absurd (cc (h)); says = λ d h. absurd (cc (h)); spoken = refl }) (sent-by _ reply s.replies)

@@ -27,6 +27,7 @@ use Rattle.amqp_laws.specs.At.{at}
 use Rattle.amqp_laws.specs.Lawful.{next}
 use Rattle.amqp_laws.proofs.Sound.{at-is-sound, law}
 use Rattle.amqp_laws.proofs.Twice.{and-both}
+use Rattle.amqp_pair_laws.proofs.Plain.{due}
 use Rattle.amqp_pair_laws.specs.World.{IsFair, Tight, frame_in, hears, sends}
 use Rattle.amqp_pair_laws.proofs.Lag as lag
 use Rattle.amqp_pair_laws.proofs.Slots.{Act, IsLegal, Slot, added, after, asks, attached, goes, idle, kept, learns, leaves, meets, tells}
@@ -144,7 +145,7 @@ one-more i c e past h =
     let r = replayed-by c past h.0 in
     let few = few-by c past h.0 in
     let s = at-is-sound c past r few in
-    record { sound = s; goes_on = law c past e r few h.1.answers; does = step-does i.0 i.1 (at c past) e.step e.reply h.1.answers s }
+    record { sound = s; goes_on = law c past e r few h.1.answers; does = step-does i.0 i.1 (at c past) e.step e.reply (due h.1) s }
 
 pub goes-on : (i : Role × List ℕ) (c : Config) (e : Entry) (past : List Entry) → AllFair c (e ∷ past) → Lives (e ∷ past) → st i c (e ∷ past) ≡ after (act i c e past) (st i c past)
 goes-on i c e past h lives =

@@ -4,7 +4,7 @@ use Rattle.amqp_performatives.specs.declared.bodies.Role.{Role}
 use Rattle.amqp_performatives.specs.declared.performative.Performative.{Performative}
 use Rattle.amqp_performatives.specs.declared.performative.Performative.TheVariants as heard
 use Rattle.amqp_rules.specs.declared.op.Op.{Op}
-use Rattle.amqp_rules.specs.declared.op.Op.TheVariants.{Begin, Attach, Start, Carry, Abort, Dispose, Learn, Grant, Offer, Drained, Refresh, Take, Detach, Suspend, End, Beat}
+use Rattle.amqp_rules.specs.declared.op.Op.TheVariants.{Begin, Attach, Start, Carry, Abort, Dispose, Learn, Grant, Offer, Drained, Refresh, Take, Detach, Suspend, Rejoin, Resume, End, Beat}
 use Rattle.amqp_rules.specs.View.{EndView, LinkView, View, change_first, has_name, has_peer_handle}
 use Rattle.amqp_rules.specs.Answer.{next_body, next_own}
 use Rattle.amqp_rules.specs.Flow.{flow_link, flow_links, flowed}
@@ -58,6 +58,8 @@ abbrev pub IsIdle : Op → Type 0
 IsIdle (Attach name role snd rcv source target count max_message) = ⊥
 IsIdle (Detach link error) = ⊥
 IsIdle (Suspend link) = ⊥
+IsIdle (Rejoin r) = ⊥
+IsIdle (Resume link tag settled) = ⊥
 IsIdle (End error) = ⊥
 IsIdle _ = Unit {0}
 
@@ -79,6 +81,8 @@ own-idle role name v (Refresh echo) i = refl
 own-idle role name v (Take link) i = slot-changed role name _ _ v.links (plain _ (λ l. refl) (λ l. refl) (λ l. refl))
 own-idle role name v (Detach link error) i = absurd i
 own-idle role name v (Suspend link) i = absurd i
+own-idle role name v (Rejoin r) i = absurd i
+own-idle role name v (Resume link tag settled) i = absurd i
 own-idle role name v (End error) i = absurd i
 own-idle role name v Beat i = refl
 

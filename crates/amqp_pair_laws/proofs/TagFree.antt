@@ -1,5 +1,5 @@
 -- A tag that is free where a delivery begins is free where its first transfer is heard: so each transfer is taken.
-use Rattle.std.proofs.Common.{suc, ◌≡◌, inl, inr, ℕ, ◌==◌, ◌||◌, Bool, true, false, Option, Some, None, List, [], ◌∷◌, refl, sym, ap, ◌∙◌, subst, find, is_some, nat_eq, unwrap_or}
+use Rattle.std.proofs.Common.{suc, ◌≡◌, inl, inr, ℕ, ◌==◌, ◌&&◌, ◌||◌, Bool, true, false, not, Option, Some, None, List, [], ◌∷◌, refl, sym, ap, ◌∙◌, subst, find, is_some, nat_eq, unwrap_or}
 use Rattle.std.proofs.lemmas.Bool.{eq-eqb, eqb-true}
 use Rattle.std.specs.List.{list_any}
 use Rattle.std.specs.Cmp.Lexicographic.{pointwise}
@@ -22,6 +22,7 @@ use Rattle.amqp_laws.specs.Said.{body_heard, own_in, starts}
 use Rattle.amqp_laws.specs.At.{at}
 use Rattle.amqp_laws.specs.Lawful.{next}
 use Rattle.amqp_laws.proofs.Twice.{and-both}
+use Rattle.amqp_pair_laws.proofs.Plain.{no-start}
 use Rattle.amqp_pair_laws.proofs.FrameKinds.{AreTaken, IsTransfer}
 use Rattle.amqp_pair_laws.proofs.Named.{texts-same, texts-self}
 use Rattle.amqp_pair_laws.proofs.SlotActs.{attached-ours, by-handle, its-handle, one-more}
@@ -38,6 +39,7 @@ use Rattle.amqp_pair_laws.proofs.TransferTaken.{IsFreshTag, transfer-taken}
 use Rattle.amqp_pair_laws.proofs.Members.{In}
 use Rattle.amqp_pair_laws.proofs.Closed.{no-id}
 use Rattle.amqp_pair_laws.proofs.HeldKnown.{Partner, held-known}
+use Rattle.amqp_pair_laws.proofs.NoneWait.{none-wait, none-waits-on}
 
 -- one that passes the test
 record Passes {A : Type 0} (test : A → Bool) (xs : List A) : Type 0 where
@@ -66,7 +68,7 @@ in-any test (y ∷ ys) x (inr h) is = by (test y) (in-any test ys x h is)
 
 -- the tag of a delivery that is held on a link here is held there on the link of the name
 tag-there : (va vb : View) (name : List ℕ) (x y : LinkView) (tag : List ℕ) → find (has_name Sender name) va.links ≡ Some x → ((u : Item) → In u vb.received → u.link ≡ y.number → Partner va name u)
-    → list_any (is_tagged y.number tag) vb.received ≡ true → tag_is_held va x.number tag ≡ true
+    → list_any (is_tagged y.number tag) vb.received ≡ true → tag_is_held va x tag ≡ true
 tag-there va vb name x y tag found partner h =
     let p = any-in (is_tagged y.number tag) vb.received h in
     let both = and-both (p.member.link == y.number) (pointwise nat_eq tag p.member.tag) p.passes in
@@ -74,20 +76,26 @@ tag-there va vb name x y tag found partner h =
     let one : s.link' ≡ x = same-some (find (has_name Sender name) va.links) s.link' x s.found found in
     let at-x : s.held.item.link ≡ x.number = s.on ∙ ap (λ (l : LinkView). l.number) one in
     let same : tag ≡ s.held.item.tag = texts-same tag p.member.tag both.1 ∙ sym s.tag in
-    in-any (λ (s : SentItem). is_tagged x.number tag s.item) va.sent s.held s.there (tagged s.held.item x.number tag at-x same)
+    let any = in-any (λ (s : SentItem). is_tagged x.number tag s.item) va.sent s.held s.there (tagged s.held.item x.number tag at-x same) in
+    rw any refl
   where
     tagged : (i : Item) (k : ℕ) (tag : List ℕ) → i.link ≡ k → tag ≡ i.tag → is_tagged k tag i ≡ true
     tagged i k tag at-k same = let e = eq-eqb i.link k at-k in let f : pointwise nat_eq tag i.tag ≡ true = ap (λ t. pointwise nat_eq t i.tag) same ∙ texts-self i.tag in rw (e, f) refl
 
+and-none : (b : Bool) → b && false ≡ false
+and-none true = refl
+and-none false = refl
+
 -- a first transfer has the tag that was free
 fresh-by : (ca cb : Config) (b : List Entry) (f : Frame) (x : Next ca cb b f) (t : TransferBody) → f.body ≡ Some (heard.Transfer t) → is_over (at cb b).session ≡ false → (m : Met ca cb b f x t)
-    → m.link'.left ≡ false → m.link'.receiving ≡ None → tag_is_taken (at cb b) m.link'.number t ≡ false
+    → m.link'.left ≡ false → m.link'.receiving ≡ None → tag_is_taken (at cb b) m.link' t ≡ false
 fresh-by ca cb b f x t body lives m stays first =
     let s = m.sent-on' in
     let l = s.link' in
     let y = m.link' in
     let p = attached-ends l s.attached in
-    let fair = (fair-both ca cb (suc x.moves) (x.entry ∷ x.before) b x.whole).0 in
+    let fairs = fair-both ca cb (suc x.moves) (x.entry ∷ x.before) b x.whole in
+    let fair = fairs.0 in
     let sound = (one-more (Sender, []) ca x.entry x.before fair).sound in
     let agreed : Agreed l.role l (tally (l.role, l.name) ca x.before) y (tally (opposite l.role, l.name) cb b) = counts-known ca cb x.moves x.before b x.tight lives l.role l.name l y s.found m.named p.0 p.1.1 stays in
     let agreed' : Agreed Sender l (tally (l.role, l.name) ca x.before) y (tally (opposite l.role, l.name) cb b) = subst (λ (r : Role). Agreed r l (tally (l.role, l.name) ca x.before) y (tally (opposite l.role, l.name) cb b)) s.role-is agreed in
@@ -101,16 +109,18 @@ fresh-by ca cb b f x t body lives m stays first =
     let there = by-handle v t.handle (has_name l.role l.name) l sound s.found (its-handle l.ours t.handle p.0 s.handle) in
     let one : q.link ≡ l = same-some (find (has_handle t.handle) v.links) q.link l here there in
     let tag : unwrap_or t.delivery_tag [] ≡ q.tag = ap (λ (t : TransferBody). unwrap_or t.delivery_tag []) (sym same ∙ q.transfer-is) in
-    let free : tag_is_held v l.number q.tag ≡ false = ap (λ (l : LinkView). tag_is_held v l.number q.tag) (sym one) ∙ q.free in
+    let free : tag_is_held v l q.tag ≡ false = ap (λ (l : LinkView). tag_is_held v l q.tag) (sym one) ∙ q.free in
     let found : find (has_name Sender l.name) v.links ≡ Some l = ap (λ (r : Role). find (has_name r l.name) v.links) (sym s.role-is) ∙ s.found in
     let found' : link (Receiver, l.name) cb b ≡ Some y = ap (λ (r : Role). link (opposite r, l.name) cb b) (sym s.role-is) ∙ m.named in
     by-bool (list_any (is_tagged y.number q.tag) (at cb b).received)
     (λ (taken : list_any (is_tagged y.number q.tag) (at cb b).received ≡ true).
     let held = tag-there v (at cb b) l.name l y q.tag found (λ u in' on. held-known ca cb x.moves x.before b x.tight lives l.name y u found' in' on) taken in
     absurd (cc (held, free)))
-    (λ (none : list_any (is_tagged y.number q.tag) (at cb b).received ≡ false). ap (λ tag. list_any (is_tagged y.number tag) (at cb b).received) tag ∙ none))
+    (λ (none : list_any (is_tagged y.number q.tag) (at cb b).received ≡ false). let none' = ap (λ tag. list_any (is_tagged y.number tag) (at cb b).received) tag ∙ none in
+    let idle = none-waits-on (has_peer_handle t.handle) (at cb b).links y (none-wait cb b fairs.1) m.found in
+    rw (none', idle) (and-none (not (unwrap_or t.resume false)))))
     (λ (st : starts x.entry ≡ false).
-    let none = no-id f.body t (later-none v (next v x.entry.step) (body_heard x.entry.step) (own_in x.entry.step) x.entry.reply f (step-sending v x.entry.step x.entry.reply x.answers) st x.sent) body in
+    let none = no-id f.body t (later-none v (next v x.entry.step) (body_heard x.entry.step) (own_in x.entry.step) x.entry.reply f (step-sending v x.entry.step x.entry.reply x.answers) (no-start x.entry st) x.sent) body in
     absurd (cc (none, named)))
   where
     v : View
@@ -132,4 +142,4 @@ transfers-taken ca cb n a b f w waits of =
         let m = met-by ca cb b f x t body lives in
         let one : m.link' ≡ y = same-some (find (has_peer_handle t.handle) (at cb b).links) m.link' y m.found found in
         let free = fresh-by ca cb b f x t body lives m (ap (λ (l : LinkView). l.left) one ∙ stays) (ap (λ (l : LinkView). l.receiving) one ∙ first) in
-        ap (λ (l : LinkView). tag_is_taken (at cb b) l.number t) (sym one) ∙ free
+        ap (λ (l : LinkView). tag_is_taken (at cb b) l t) (sym one) ∙ free

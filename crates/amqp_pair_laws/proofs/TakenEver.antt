@@ -22,8 +22,9 @@ use Rattle.amqp_laws.specs.declared.entry.Entry.{Entry}
 use Rattle.amqp_laws.specs.declared.entry.Step.{Step}
 use Rattle.amqp_laws.specs.declared.entry.Step.TheVariants.{Heard}
 use Rattle.amqp_laws.specs.At.{at}
-use Rattle.amqp_laws.specs.Lawful.{Answers, next}
+use Rattle.amqp_laws.specs.Lawful.{next}
 use Rattle.amqp_laws.proofs.Twice.{and-both}
+use Rattle.amqp_pair_laws.proofs.Plain.{Answers, due}
 use Rattle.amqp_pair_laws.specs.World.{frame_in}
 use Rattle.amqp_pair_laws.specs.Moves.{IsTail}
 use Rattle.amqp_pair_laws.specs.Passing.{Content, content_of, taken_in, taken_on}
@@ -223,7 +224,7 @@ was-later c e past k name fair w = subst (λ (v : View). Was v k name) (sym o.go
         by-bool (is_over v.session)
         (λ (over : is_over v.session ≡ true). absurd (over-none over l found))
         (λ (lives : is_over v.session ≡ false).
-        let r = ready-step v e.step e.reply fair.1.answers lives o.sound in
+        let r = ready-step v e.step e.reply (due fair.1) lives o.sound in
         by l found (comes v (next v e.step) e.step e.reply.given r o.sound l (found-in (has_number k) (next v e.step).links l found)))
 
 -- # The last state in which the link was attached
@@ -270,7 +271,7 @@ stood-on : (c : Config) (from : List Entry) (k : ℕ) (name : List ℕ) (e : Ent
 stood-on c from k name e past s was front waits = record { early = s.early; since = s.since; is_tail = inr s.is_tail; link' = s.link'; found = s.found; number = s.number; attached = s.attached; was = was; front = front; waits = waits }
 
 stood-more : (c : Config) (from : List Entry) (k : ℕ) (name : List ℕ) (e : Entry) (past : List Entry) → AllFair c (e ∷ past) → IsTail from past → Stood c from k name past → Stood c from k name (e ∷ past)
-stood-more c from k name e past fair tail s = by-bool (is_over v.session) (λ (over : is_over v.session ≡ true). ended over) (λ (lives : is_over v.session ≡ false). by (find (has_number k) (at c (e ∷ past)).links) refl (ready-step v e.step e.reply fair.1.answers lives o.sound))
+stood-more c from k name e past fair tail s = by-bool (is_over v.session) (λ (over : is_over v.session ≡ true). ended over) (λ (lives : is_over v.session ≡ false). by (find (has_number k) (at c (e ∷ past)).links) refl (ready-step v e.step e.reply (due fair.1) lives o.sound))
   where
     v : View
     v = at c past
@@ -293,7 +294,7 @@ stood-more c from k name e past fair tail s = by-bool (is_over v.session) (λ (o
     ended : is_over v.session ≡ true → Stood c from k name (e ∷ past)
     ended over =
         let gone : (at c (e ∷ past)).links ≡ [] = (one-sound c (e ∷ past) fair).over (over-stays e past over) in
-        absent (idle-step v e.step e.reply fair.1.answers o.sound (o.sound.over over) k) (ap (find (has_number k)) gone)
+        absent (idle-step v e.step e.reply (due fair.1) o.sound (o.sound.over over) k) (ap (find (has_number k)) gone)
 
     here : (m : LinkView) → find (has_number k) (at c (e ∷ past)).links ≡ Some m → IsFront (taken_on k (e ∷ past) ++ map content_of m.ready) whole → Stood c from k name (e ∷ past)
     here m found f =
@@ -371,7 +372,7 @@ reached v step reply m h o s closed f t x is body there met heard' = by x.left r
         absurd (cc (open', closed))
 
 never-more : (c : Config) (k : ℕ) (e : Entry) (past : List Entry) → AllFair c (e ∷ past) → Never c past k → Never c (e ∷ past) k ⊎ WasAttached c (e ∷ past) k
-never-more c k e past fair x = by-bool (is_over v.session) (λ (over : is_over v.session ≡ true). inl (ended over)) (λ (lives : is_over v.session ≡ false). by lives (find (has_number k) (at c (e ∷ past)).links) refl (ready-step v e.step e.reply fair.1.answers lives o.sound))
+never-more c k e past fair x = by-bool (is_over v.session) (λ (over : is_over v.session ≡ true). inl (ended over)) (λ (lives : is_over v.session ≡ false). by lives (find (has_number k) (at c (e ∷ past)).links) refl (ready-step v e.step e.reply (due fair.1) lives o.sound))
   where
     v : View
     v = at c past
@@ -386,7 +387,7 @@ never-more c k e past fair x = by-bool (is_over v.session) (λ (over : is_over v
     ended over =
         let gone : (at c (e ∷ past)).links ≡ [] = (one-sound c (e ∷ past) fair).over (over-stays e past over) in
         record {
-          taken = still-none (idle-step v e.step e.reply fair.1.answers o.sound (o.sound.over over) k);
+          taken = still-none (idle-step v e.step e.reply (due fair.1) o.sound (o.sound.over over) k);
           ready = λ l h. (let here : find (has_number k) [] ≡ Some l = subst (λ (links : List LinkView). find (has_number k) links ≡ Some l) gone h in absurd (cc (here)));
         }
 
@@ -415,7 +416,7 @@ never-more c k e past fair x = by-bool (is_over v.session) (λ (over : is_over v
         (λ (t : takes_there m ≡ true). inr (open-now m found (and-both (is_attached m) (not (is_sender m.role)) t)))
         (λ (f : takes_there m ≡ false).
         let w = nothing-waits v k m e.reply.given x.ready (waits-step v (next v e.step) e.step e.reply.given k m o.sound r (ap (λ (v : View). find (has_number k) v.links) (sym o.goes_on) ∙ found)
-        (λ g t y is body h n met heard'. reached v e.step e.reply m fair.1.answers lives o.sound f g t y is body h met heard')) in
+        (λ g t y is body h n met heard'. reached v e.step e.reply m (due fair.1) lives o.sound f g t y is body h met heard')) in
         inl (record { taken = still-none w.1; ready = λ l h. (let one : m ≡ l = same-some (find (has_number k) (at c (e ∷ past)).links) m l found h in ap (λ (l : LinkView). l.ready) (sym one) ∙ w.0) }))
 
 never-or : (c : Config) (past : List Entry) (k : ℕ) → AllFair c past → Never c past k ⊎ WasAttached c past k

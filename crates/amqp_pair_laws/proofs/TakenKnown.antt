@@ -6,7 +6,7 @@ use Rattle.amqp_performatives.specs.declared.bodies.AttachBody.{AttachBody}
 use Rattle.amqp_performatives.specs.declared.bodies.TransferBody.{TransferBody}
 use Rattle.amqp_performatives.specs.declared.performative.Performative.TheVariants as heard
 use Rattle.amqp_frames.specs.declared.frame.Frame.{Frame}
-use Rattle.amqp_events.specs.Joined.{Delivery, and_more, complete, completed, goes_on, is_complete, unfinished, next_delivery as joined_to}
+use Rattle.amqp_events.specs.Joined.{Delivery, and_more, complete, completed, goes_on, is_given, unfinished, next_delivery as joined_to}
 use Rattle.amqp_events.proofs.JoinedLaw.{complete-step, unfinished-step}
 use Rattle.amqp_rules.specs.declared.config.Config.{Config}
 use Rattle.amqp_rules.specs.View.{EndView, LinkView, View, has_name, has_number, new_link, rcv_mode}
@@ -19,6 +19,7 @@ use Rattle.amqp_laws.specs.declared.entry.Entry.{Entry}
 use Rattle.amqp_laws.specs.Said.{body_heard, transfer_in}
 use Rattle.amqp_laws.specs.At.{at, received_by, sent_by}
 use Rattle.amqp_laws.specs.Lawful.{next}
+use Rattle.amqp_pair_laws.proofs.Plain.{due}
 use Rattle.amqp_pair_laws.specs.Passing.{content_of, passed_on, sent_now, sent_on, taken_in, taken_on}
 use Rattle.amqp_pair_laws.specs.World.{Moves, Tight, World, hears, sends}
 use Rattle.amqp_pair_laws.proofs.Slots.{kept}
@@ -74,7 +75,7 @@ plain-unfinished n k e = by (goes_on n) (goes_on k) (ap goes_on e)
     by false false h = refl
 
 plain-completed : (n k : Delivery) → plain n ≡ plain k → map content_of (completed n) ≡ map content_of (completed k)
-plain-completed n k e = by (is_complete n) (is_complete k) (ap is_complete e)
+plain-completed n k e = by (is_given n) (is_given k) (ap is_given e)
   where
     by : (b c : Bool) → b ≡ c → map content_of (cond b (n ∷ []) []) ≡ map content_of (cond c (k ∷ []) [])
     by true true h = ap (λ d. content_of d ∷ []) e
@@ -142,7 +143,7 @@ whole-hears k e a e' y b t payload now none w =
 pub data FirstWas (ca : Config) (e : Entry) (a : List Entry) (name : List ℕ) (x' : LinkView) : Type 0 where
   was : (x : LinkView) → link (Sender, name) ca a ≡ Some x → is_some x.ours ≡ true → x.left ≡ false → x'.number ≡ x.number → FirstWas ca e a name x'
   asked : (b' : AttachBody) (f' : Frame) (n : ℕ) → sends e ≡ Some f' → f'.body ≡ Some (heard.Attach b') → (slot_of Sender name (at ca a).links).ours ≡ None
-      → link (Sender, name) ca (e ∷ a) ≡ Some (attached_by_us b' (or_this (link (Sender, name) ca a) (new_link n Sender name))) → FirstWas ca e a name x'
+      → link (Sender, name) ca (e ∷ a) ≡ Some (attached_by_us b' [] (or_this (link (Sender, name) ca a) (new_link n Sender name))) → FirstWas ca e a name x'
 
 pub first-was : (ca : Config) (e : Entry) (a : List Entry) (name : List ℕ) (x' : LinkView) → AllFair ca (e ∷ a) → Lives a → link (Sender, name) ca (e ∷ a) ≡ Some x' → is_some x'.ours ≡ true → x'.left ≡ false → FirstWas ca e a name x'
 first-was ca e a name x' fair la to ours unleft = by (turn-of (Sender, name) ca e a fair)
@@ -165,7 +166,7 @@ first-was ca e a name x' fair la to ours unleft = by (turn-of (Sender, name) ca 
     by (meets b' n is none free at') = met (link (Sender, name) ca a) b' n refl at'
     by (goes l m found at' o' t' left' g) =
         let one = same-some (link (Sender, name) ca (e ∷ a)) m x' at' to in
-        let s = stays-on (at ca a) (next (at ca a) e.step) (sent_by (at ca a) e.step) (received_by (at ca a) e.step) Sender name l x' (link-step (at ca a) e.step e.reply fair.1.answers la) o.sound found
+        let s = stays-on (at ca a) (next (at ca a) e.step) (sent_by (at ca a) e.step) (received_by (at ca a) e.step) Sender name l x' (link-step (at ca a) e.step e.reply (due fair.1) la) o.sound found
         (ap (λ (v : View). find (has_name Sender name) v.links) (sym o.goes_on) ∙ to) unleft in
         was l found (ap (λ (x : Option EndView). is_some x) (sym o') ∙ ap (λ (l : LinkView). is_some l.ours) one ∙ ours) (left' (ap (λ (l : LinkView). l.left) one ∙ unleft)) s.number
 
@@ -192,14 +193,14 @@ other-was ca cb n a e' b name x y' t lb fb found ours unleft to unleft' =
     by None none some = absurd (cc (some))
     by (Some y) there some =
         let o = one-more (Receiver, name) cb e' b fb in
-        let s = stays-on (at cb b) (next (at cb b) e'.step) (sent_by (at cb b) e'.step) (received_by (at cb b) e'.step) Receiver name y y' (link-step (at cb b) e'.step e'.reply fb.1.answers lb) o.sound there
+        let s = stays-on (at cb b) (next (at cb b) e'.step) (sent_by (at cb b) e'.step) (received_by (at cb b) e'.step) Receiver name y y' (link-step (at cb b) e'.step e'.reply (due fb.1) lb) o.sound there
         (ap (λ (v : View). find (has_name Receiver name) v.links) (sym o.goes_on) ∙ to) unleft' in
         record { link' = y; found = there; number = s.number }
 
 -- a step by which no transfer is heard
 pub other-rests : (k : ℕ) (a : List Entry) (cb : Config) (e' : Entry) (b : List Entry) (name : List ℕ) (y y' : LinkView) → Lives b → AllFair cb (e' ∷ b) → link (Receiver, name) cb b ≡ Some y → link (Receiver, name) cb (e' ∷ b) ≡ Some y'
     → y'.number ≡ y.number → y'.left ≡ false → transfer_in (body_heard e'.step) ≡ None → (y.left ≡ false → Whole k a y b) → Whole k a y' (e' ∷ b)
-other-rests k a cb e' b name y y' lb fb found to number unleft mute w = by (ready-step v e'.step e'.reply fb.1.answers lb o.sound)
+other-rests k a cb e' b name y y' lb fb found to number unleft mute w = by (ready-step v e'.step e'.reply (due fb.1) lb o.sound)
   where
     v : View
     v = at cb b
@@ -257,7 +258,7 @@ taken-quiet ca cb n e a b w t m silent' k lives name x' y fx fy ours unleft unle
   where
     by : FirstWas ca e a name x' → Whole x'.number (e ∷ a) y b
     by (was x found some stays number) =
-        let none = sent-none x.number e (silent-carrier (at ca a) e.step e.reply m.fair.answers silent') in
+        let none = sent-none x.number e (silent-carrier (at ca a) e.step e.reply (due m.fair) silent') in
         subst (λ (n : ℕ). Whole n (e ∷ a) y b) (sym number) (whole-still x.number e a y b none (k lives name x y found fy some stays unleft'))
     by (asked b' f' h sent body free at') = absurd (cc (sent, silent'))
 

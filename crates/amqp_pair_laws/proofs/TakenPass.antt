@@ -24,6 +24,7 @@ use Rattle.amqp_laws.specs.declared.entry.Step.TheVariants.{Own}
 use Rattle.amqp_laws.specs.Said.{body_heard, own_in, transfer_in}
 use Rattle.amqp_laws.specs.At.{at}
 use Rattle.amqp_laws.specs.Lawful.{next}
+use Rattle.amqp_pair_laws.proofs.Plain.{due}
 use Rattle.amqp_pair_laws.specs.Moves.{count}
 use Rattle.amqp_pair_laws.specs.Passing.{content_of, sent_now, sent_on, taken_in, taken_on}
 use Rattle.amqp_pair_laws.specs.World.{IsFair, Moves, Tight, World, frame_among, frame_in, hears, sends}
@@ -98,7 +99,7 @@ module _ (ca cb : Config) (n : ℕ) (e : Entry) (a : List Entry) (e' : Entry) (b
         mute : (o : Option TransferBody) → transfer_in f.body ≡ o → transfer_in (body_heard e'.step) ≡ None
         mute None h = ap transfer_in body-is ∙ h
         mute (Some t0) h =
-            let yes = sends-transfer va (next va e.step) (body_heard e.step) (own_in e.step) e.reply f t0 (step-sending va e.step e.reply m.fair.answers) sent (transfer-some f.body t0 h) in
+            let yes = sends-transfer va (next va e.step) (body_heard e.step) (own_in e.step) e.reply f t0 (step-sending va e.step e.reply (due m.fair)) sent (transfer-some f.body t0 h) in
             absurd (cc (yes, none))
 
     -- one passes
@@ -175,7 +176,7 @@ module _ (ca cb : Config) (n : ℕ) (e : Entry) (a : List Entry) (e' : Entry) (b
               absurd (cc (yes, unmet))
 
       pass-transfer : Whole x.number (e ∷ a) y' (e' ∷ b)
-      pass-transfer = by (ready-step vb e'.step e'.reply fb.1.answers lb sb)
+      pass-transfer = by (ready-step vb e'.step e'.reply (due fb.1) lb sb)
         where
           by : ReadyStep vb (next vb e'.step) e'.step e'.reply.given → Whole x.number (e ∷ a) y' (e' ∷ b)
           by (rests quiet g none) =
@@ -191,12 +192,12 @@ module _ (ca cb : Config) (n : ℕ) (e : Entry) (a : List Entry) (e' : Entry) (b
               by-bool (has_peer_handle t0.handle y) (λ (yes : has_peer_handle t0.handle y ≡ true). on-these yes to-l' none) (λ (no : has_peer_handle t0.handle y ≡ false). on-others no to-l' none)
 
     pass-was : Whole x.number (e ∷ a) y' (e' ∷ b)
-    pass-was = by-bool (is_carrier (own_in e.step)) (λ (yes : is_carrier (own_in e.step) ≡ true). pass-transfer (carries va e f m.fair.answers yes sent)) (λ (no : is_carrier (own_in e.step) ≡ false). pass-still no)
+    pass-was = by-bool (is_carrier (own_in e.step)) (λ (yes : is_carrier (own_in e.step) ≡ true). pass-transfer (carries va e f (due m.fair) yes sent)) (λ (no : is_carrier (own_in e.step) ≡ false). pass-still no)
 
   -- # An attach passes
 
   heard-none : (k : ℕ) → taken_in k e'.reply.given ≡ []
-  heard-none j = by (ready-step vb e'.step e'.reply fb.1.answers lb (one-more (Sender, []) cb e' b fb).sound)
+  heard-none j = by (ready-step vb e'.step e'.reply (due fb.1) lb (one-more (Sender, []) cb e' b fb).sound)
     where
       by : ReadyStep vb (next vb e'.step) e'.step e'.reply.given → taken_in j e'.reply.given ≡ []
       by (rests quiet g none) = none j
@@ -222,7 +223,7 @@ module _ (ca cb : Config) (n : ℕ) (e : Entry) (a : List Entry) (e' : Entry) (b
       by (inl none) = none
       by (inr u) =
           let o = one-more (Sender, name) ca e a fa in
-          let r = ready-step va e.step e.reply fa.1.answers la o.sound in
+          let r = ready-step va e.step e.reply (due fa.1) la o.sound in
           let to'' : find (has_name Sender name) (next va e.step).links ≡ Some x' = ap (λ (v : View). find (has_name Sender name) v.links) (sym o.goes_on) ∙ to in
           absurd (on (comes va (next va e.step) e.step e.reply.given r o.sound x' (found-in (has_name Sender name) (next va e.step).links x' to'')))
         where
@@ -264,7 +265,7 @@ module _ (ca cb : Config) (n : ℕ) (e : Entry) (a : List Entry) (e' : Entry) (b
       by (inl x) = (x.taken, ready')
       by (inr u) =
           let o = one-more (Receiver, name) cb e' b fb in
-          let r = ready-step vb e'.step e'.reply fb.1.answers lb o.sound in
+          let r = ready-step vb e'.step e'.reply (due fb.1) lb o.sound in
           let to'' : find (has_name Receiver name) after ≡ Some y' = ap (λ (v : View). find (has_name Receiver name) v.links) (sym o.goes_on) ∙ to in
           absurd (on (comes vb (next vb e'.step) e'.step e'.reply.given r o.sound y' (found-in (has_name Receiver name) after y' to'')))
         where
@@ -280,7 +281,7 @@ module _ (ca cb : Config) (n : ℕ) (e : Entry) (a : List Entry) (e' : Entry) (b
       let one = same-some (link (Receiver, name) cb (e' ∷ b)) y' (attached_by_peer b'' (or_this (link (Receiver, name) cb b) (new_link j Receiver name))) fy at' in
       let z = fresh-other y' b'' j (link (Receiver, name) cb b) refl free' one fy in
       let none = fresh-first x' fx free in
-      let now : sent_now x'.number e ≡ None = sent-none x'.number e (by-bool (is_carrier (own_in e.step)) (λ (yes : is_carrier (own_in e.step) ≡ true). (let c = (carries va e f m.fair.answers yes sent).body in absurd (cc (c, body)))) (λ (no : is_carrier (own_in e.step) ≡ false). no)) in
+      let now : sent_now x'.number e ≡ None = sent-none x'.number e (by-bool (is_carrier (own_in e.step)) (λ (yes : is_carrier (own_in e.step) ≡ true). (let c = (carries va e f (due m.fair) yes sent).body in absurd (cc (c, body)))) (λ (no : is_carrier (own_in e.step) ≡ false). no)) in
       let sent' : sent_on x'.number (e ∷ a) ≡ [] = rw (now, none) refl in
       let fresh = (met-fresh (Receiver, name) cb e' b b'' j y' fb (link (Receiver, name) cb b) refl free' at' fy).fresh.receiving' in
       record {

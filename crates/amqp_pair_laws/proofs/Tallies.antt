@@ -13,6 +13,7 @@ use Rattle.amqp_laws.specs.declared.entry.Entry.{Entry}
 use Rattle.amqp_laws.specs.Said.{body_heard}
 use Rattle.amqp_laws.specs.At.{at}
 use Rattle.amqp_laws.proofs.Twice.{and-both}
+use Rattle.amqp_pair_laws.proofs.Plain.{due}
 use Rattle.amqp_pair_laws.specs.Moves.{count, IsTail}
 use Rattle.amqp_pair_laws.specs.World.{IsFair, hears, sends}
 use Rattle.amqp_pair_laws.proofs.Lag as lag
@@ -42,7 +43,7 @@ tally i c (e ∷ past) = grown (link i c past) (link i c (e ∷ past)) (tally i 
 pub turn-of : (i : Role × List ℕ) (c : Config) (e : Entry) (past : List Entry) → AllFair c (e ∷ past) → Turn i.0 i.1 (at c past) (at c (e ∷ past)) (body_heard e.step) (sends e)
 turn-of i c e past h =
     let m = one-more i c e past h in
-    subst (λ (v : View). Turn i.0 i.1 (at c past) v (body_heard e.step) (sends e)) (sym m.goes_on) (step-turn i.0 i.1 (at c past) e.step e.reply h.1.answers m.sound)
+    subst (λ (v : View). Turn i.0 i.1 (at c past) v (body_heard e.step) (sends e)) (sym m.goes_on) (step-turn i.0 i.1 (at c past) e.step e.reply (due h.1) m.sound)
 
 -- # Numbers
 
@@ -115,17 +116,17 @@ new-tallied role m p c s r =
     few Sender = tt
     few Receiver = let k = c in rw k (omega arith)
 
-pub us-same : (b : AttachBody) (l : LinkView) → Same l (attached_by_us b l)
+pub us-same : (b : AttachBody) (l : LinkView) → Same l (attached_by_us b [] l)
 us-same b l = by l.role
   where
-    by : (r : Role) → Same l (record l { ours = Some (end_of b); credit = cond (is_sender r) (count_given (count_of b) l.credit) l.credit })
+    by : (r : Role) → Same l (record (attached_by_us b [] l) { credit = cond (is_sender r) (count_given (count_of b) l.credit) l.credit })
     by Sender = record { passed = refl; credit = refl; sending' = refl; receiving' = refl }
     by Receiver = record { passed = refl; credit = refl; sending' = refl; receiving' = refl }
 
 pub peer-same : (b : AttachBody) (l : LinkView) → Same l (attached_by_peer b l)
 peer-same b l = by l.role
   where
-    by : (r : Role) → Same l (record l { theirs = Some (end_of b); credit = cond (is_sender r) l.credit (count_given (count_of b) l.credit) })
+    by : (r : Role) → Same l (record (attached_by_peer b l) { credit = cond (is_sender r) l.credit (count_given (count_of b) l.credit) })
     by Sender = record { passed = refl; credit = refl; sending' = refl; receiving' = refl }
     by Receiver = record { passed = refl; credit = refl; sending' = refl; receiving' = refl }
 
@@ -246,7 +247,7 @@ tallied-on i c e past h before m is = by (turn-of i c e past h)
     by : Turn i.0 i.1 (at c past) (at c (e ∷ past)) (body_heard e.step) (sends e) → Tallied i.0 m (tally i c (e ∷ past))
     by (away gone why) = absurd (cc (gone, is))
     by (asks b f k none sent body free to) =
-        joined (link i c past) (attached_by_us b) k refl (us-same b) to (λ l f. ours-none l (ap (λ o. (shape o).ours) (sym f) ∙ free)) (λ l h. h)
+        joined (link i c past) (attached_by_us b []) k refl (us-same b) to (λ l f. ours-none l (ap (λ o. (shape o).ours) (sym f) ∙ free)) (λ l h. h)
     by (meets b k none sent free to) =
         joined (link i c past) (attached_by_peer b) k refl (peer-same b) to (λ l f. theirs-none l (ap (λ o. (shape o).theirs) (sym f) ∙ free)) (λ l h. absurd (cc (h)))
     by (goes l x found to o t left' g) =

@@ -42,7 +42,7 @@ pub record Says (id : ℕ) (l : LinkView) (t : TransferBody) (payload : List ℕ
   pub later : is_some l.sending ≡ true → t.delivery_id ≡ None
   pub no-mode : t.rcv_settle_mode ≡ None
   pub allows : (mode : ℕ) (d : Option Delivery) → l.sending ≡ option_map size_of d → Fits l.ours d → unwrap_or t.aborted false ≡ false → mode_forbids (snd_of l.ours) (joined_to (transferred mode t payload) d).settled ≡ false
-  pub short : (mode : ℕ) (d : Option Delivery) → l.sending ≡ option_map size_of d → unwrap_or t.aborted false ≡ false → is_too_long (max_of l.theirs) (length (joined_to (transferred mode t payload) d).payload) ≡ false
+  pub short : (mode : ℕ) (d : Option Delivery) → l.sending ≡ option_map size_of d → Fits l.ours d → unwrap_or t.aborted false ≡ false → is_too_long (max_of l.theirs) (length (joined_to (transferred mode t payload) d).payload) ≡ false
 
 says-of : (id : ℕ) (l m : LinkView) (o : Option Frame) (x : TellsTransfer id l m o) → Says id l x.transfer x.frame.payload
 says-of id l m o x = record { names = x.names; later = x.later; no-mode = x.no-mode; allows = x.allows; short = x.short }

@@ -62,7 +62,7 @@ record Finds (v : View) (t : TransferBody) (payload : List ℕ) (id : ℕ) (x y 
   receives' : y.role ≡ Receiver
   expected : (n : ℕ) → v.expected ≡ Some n → n ≡ id
   credit : y.receiving ≡ None → 0 < y.credit.credit
-  free : y.receiving ≡ None → tag_is_taken v y.number t ≡ false
+  free : y.receiving ≡ None → tag_is_taken v y t ≡ false
 
 none-there : (o : Option Delivery) → o ≡ None → is_some (option_map size_of o) ≡ false
 none-there o e = rw e refl
@@ -82,7 +82,7 @@ names-hold : (v : View) (t : TransferBody) (payload : List ℕ) (id : ℕ) (x y 
 names-hold v t payload id x y k None is =
     let says = k.says in
     let named = says.names (ap (λ (s : Option SendingView). is_some s) k.same ∙ none-there y.receiving is) in
-    three (is_nameless t) (is_unexpected v.expected t) (tag_is_taken v y.number t) _ _ _ (nameless-by t id named.0 named.1) (expected-by v.expected t id named.0 k.expected) (k.free is)
+    three (is_nameless t) (is_unexpected v.expected t) (tag_is_taken v y t) _ _ _ (nameless-by t id named.0 named.1) (expected-by v.expected t id named.0 k.expected) (k.free is)
 names-hold v t payload id x y k (Some d) is =
     let says = k.says in
     let none = says.later (ap (λ (s : Option SendingView). is_some s) k.same ∙ some-there y.receiving d is) in
@@ -145,7 +145,7 @@ size-holds : (v : View) (t : TransferBody) (payload : List ℕ) (id : ℕ) (x y 
 size-holds v t payload id x y k =
     let says = k.says in
     let n = length (joined_to (transferred (rcv_mode y) t payload) y.receiving).payload in
-    by (unwrap_or t.aborted false) (is_too_long (max_of y.ours) n) (λ goes. ap (λ (o : Option EndView). is_too_long (max_of o) n) k.ours ∙ says.short (rcv_mode y) y.receiving k.same goes)
+    by (unwrap_or t.aborted false) (is_too_long (max_of y.ours) n) (λ goes. ap (λ (o : Option EndView). is_too_long (max_of o) n) k.ours ∙ says.short (rcv_mode y) y.receiving k.same k.fits goes)
   where
     by : (aborted long : Bool) → (aborted ≡ false → long ≡ false) → not aborted && long ≡ false
     by true long h = refl
@@ -177,7 +177,7 @@ transfer-ok v t payload y takes found none = rw (takes, found, none) refl
 
 -- its tag is free on the link, where it begins a delivery
 abbrev pub IsFreshTag : View → TransferBody → Type 0
-IsFreshTag v t = (y : LinkView) → find (has_peer_handle t.handle) v.links ≡ Some y → y.left ≡ false → y.receiving ≡ None → tag_is_taken v y.number t ≡ false
+IsFreshTag v t = (y : LinkView) → find (has_peer_handle t.handle) v.links ≡ Some y → y.left ≡ false → y.receiving ≡ None → tag_is_taken v y t ≡ false
 
 finds-by : (ca cb : Config) (n : ℕ) (a b : List Entry) (f : Frame) (t : TransferBody) → World ca cb n a b → said_as sends (count hears b) a ≡ Some f → f.body ≡ Some (heard.Transfer t)
     → is_over (at cb b).session ≡ false → (x : Next ca cb b f) → (m : Met ca cb b f x t) → IsFreshTag (at cb b) t → m.link'.left ≡ false

@@ -44,8 +44,9 @@ use Rattle.amqp_rules.proofs.Listed.{by-bool}
 use Rattle.amqp_laws.specs.declared.entry.Step.{Step}
 use Rattle.amqp_laws.specs.declared.entry.Step.TheVariants.{Opened, Own, Heard}
 use Rattle.amqp_laws.specs.Said.{body_heard}
-use Rattle.amqp_laws.specs.Lawful.{Answers, next}
+use Rattle.amqp_laws.specs.Lawful.{next}
 use Rattle.amqp_laws.proofs.Twice.{and-both}
+use Rattle.amqp_pair_laws.proofs.Plain.{Answers}
 use Rattle.amqp_pair_laws.specs.World.{frame_among}
 use Rattle.amqp_pair_laws.proofs.Doing.{detach-sends, free-theirs, met-joins-at, peer-keeps, theirs-there}
 use Rattle.amqp_pair_laws.proofs.Named.{KeepsName, found-passes, joined-other, named-is, removed-other, removed-there, role-same, texts-same}

@@ -11,7 +11,7 @@ use Rattle.amqp_performatives.specs.declared.performative.Performative.{Performa
 use Rattle.amqp_performatives.specs.declared.performative.Performative.TheVariants as heard
 use Rattle.amqp_frames.specs.declared.frame.Frame.{Frame}
 use Rattle.amqp_events.specs.Event.{Leaves, Over, Nothing as No_event}
-use Rattle.amqp_events.specs.Joined.{Delivery, next_unfinished, next_delivery as joined_to}
+use Rattle.amqp_events.specs.Joined.{Delivery, next_unfinished, next_delivery as joined_to, unless_resumed}
 use Rattle.amqp_events.specs.Event.{Disposition}
 use Rattle.amqp_rules.specs.declared.op.Op.{Op}
 use Rattle.amqp_rules.specs.declared.op.Op.TheVariants as own
@@ -45,6 +45,7 @@ use Rattle.amqp_rules.proofs.Accepted.{not-false, on-link-ok, sends-ok, sends-en
 use Rattle.amqp_rules.proofs.Listed.{by-bool}
 use Rattle.amqp_laws.specs.Transfers.{size_of}
 use Rattle.amqp_laws.proofs.Twice.{and-both}
+use Rattle.amqp_pair_laws.proofs.Plain.{OwnAnswers, bare}
 use Rattle.amqp_pair_laws.specs.World.{frame_among}
 use Rattle.amqp_pair_laws.proofs.Doing.{IsOther, attach-joins-at, free-ours, us-keeps}
 use Rattle.amqp_pair_laws.proofs.Named.{KeepsName, changed-other, changed-there, joined-other, named-found, named-is, role-same, texts-same}
@@ -136,8 +137,8 @@ start-carries o handle id tag format settled more payload None none fits mode No
     by false = refl
 
     of : (more settled : Bool) → mode_forbids (snd_of o) settled ≡ false → Fits o (next_unfinished (transferred mode (start_transfer handle id tag format settled more) payload) None)
-    of true true f = f
-    of true false f = f
+    of true true f = (f, refl)
+    of true false f = (f, refl)
     of false settled f = tt
 start-carries o handle id tag format settled more payload None none fits mode (Some u) e x = absurd (cc (e))
 
@@ -170,7 +171,7 @@ carry-carries o handle more payload (Some u) some mode (Some d) e x = (by more, 
     longer u k = let both = length-append d.payload payload in rw (k, both) refl
 
     by : (more : Bool) → carried (length payload) more (Some u) ≡ option_map size_of (next_unfinished (transferred mode (later_transfer handle (flag more) None) payload) (Some d))
-    by true = longer u same
+    by true = longer u same ∙ ap (λ (b : Bool). Some (record { id = d.id; size = length (d.payload ++ unless_resumed b payload) })) (sym x.1)
     by false = refl
 
     or-same : (b : Bool) → b ≡ b || false
@@ -178,7 +179,7 @@ carry-carries o handle more payload (Some u) some mode (Some d) e x = (by more, 
     or-same false = refl
 
     of : (more : Bool) → Fits o (next_unfinished (transferred mode (later_transfer handle (flag more) None) payload) (Some d))
-    of true = subst (λ (b : Bool). mode_forbids (snd_of o) b ≡ false) (or-same d.settled) x
+    of true = (subst (λ (b : Bool). mode_forbids (snd_of o) b ≡ false) (or-same d.settled) x.0, x.1)
     of false = tt
 
 abort-carries : (o : Option EndView) (handle : ℕ) (payload : List ℕ) (s : Option SendingView) → Carries o (later_transfer handle None (Some true)) payload s None
@@ -205,19 +206,20 @@ carry-allows : (o : Option EndView) (handle : ℕ) (more : Bool) (payload : List
     → (mode : ℕ) (d : Option Delivery) → s ≡ option_map size_of d → Fits o d → mode_forbids (snd_of o) (joined_to (transferred mode (later_transfer handle (flag more) None) payload) d).settled ≡ false
 carry-allows o handle more payload None some mode d e x = absurd (cc (some))
 carry-allows o handle more payload (Some u) some mode None e x = absurd (cc (e))
-carry-allows o handle more payload (Some u) some mode (Some d) e x = subst (λ (b : Bool). mode_forbids (snd_of o) b ≡ false) (or-same d.settled) x
+carry-allows o handle more payload (Some u) some mode (Some d) e x = subst (λ (b : Bool). mode_forbids (snd_of o) b ≡ false) (or-same d.settled) x.0
   where
     or-same : (b : Bool) → b ≡ b || false
     or-same true = refl
     or-same false = refl
 
-carry-short : (max : ℕ) (handle : ℕ) (more : Bool) (payload : List ℕ) (s : Option SendingView) → is_none s ≡ false → is_too_long max (size_so_far s + length payload) ≡ false
-    → (mode : ℕ) (d : Option Delivery) → s ≡ option_map size_of d → is_too_long max (length (joined_to (transferred mode (later_transfer handle (flag more) None) payload) d).payload) ≡ false
-carry-short max handle more payload None some few mode d e = absurd (cc (some))
-carry-short max handle more payload (Some u) some few mode None e = absurd (cc (e))
-carry-short max handle more payload (Some u) some few mode (Some d) e =
+carry-short : (o : Option EndView) (max : ℕ) (handle : ℕ) (more : Bool) (payload : List ℕ) (s : Option SendingView) → is_none s ≡ false → is_too_long max (size_so_far s + length payload) ≡ false
+    → (mode : ℕ) (d : Option Delivery) → s ≡ option_map size_of d → Fits o d → is_too_long max (length (joined_to (transferred mode (later_transfer handle (flag more) None) payload) d).payload) ≡ false
+carry-short o max handle more payload None some few mode d e x = absurd (cc (some))
+carry-short o max handle more payload (Some u) some few mode None e x = absurd (cc (e))
+carry-short o max handle more payload (Some u) some few mode (Some d) e x =
     let same : u ≡ size_of d = cc e in
-    let long : u.size + length payload ≡ length (d.payload ++ payload) = ap (λ (u : SendingView). u.size + length payload) same ∙ sym (length-append d.payload payload) in
+    let long : u.size + length payload ≡ length (d.payload ++ unless_resumed d.resumed payload) =
+    ap (λ (u : SendingView). u.size + length payload) same ∙ sym (length-append d.payload payload) ∙ ap (λ (b : Bool). length (d.payload ++ unless_resumed b payload)) (sym x.1) in
     subst (λ (n : ℕ). is_too_long max n ≡ false) long few
 
 start-turn : (role : Role) (name : List ℕ) (v : View) (link : ℕ) (tag : List ℕ) (format : ℕ) (settled : Bool) (payload : List ℕ) (more : Bool) (reply : Reply)
@@ -238,7 +240,7 @@ start-turn role name v link tag format settled payload more reply h s =
     (turn-on role name v (next_own v (own.Start link tag format settled payload more)) None (Some f) (has_number link) (begin_delivery id (length payload) more) l
     (plain _ (λ l. refl) (λ l. refl) (λ l. refl) (λ l. refl) (λ l h. h)) s o.found refl
     (λ n. sending (role-of role name l n Sender k.none_holds.1.0) (rw fresh refl) (λ h. k.none_holds.1.1.1.1.1.0) refl
-    (record { frame = f; transfer = start_transfer (handle_of l.ours) id tag format settled more; attached = attached; is_sent = refl; body = refl; handle = refl; carries = start-carries l.ours (handle_of l.ours) id tag format settled more payload l.sending fresh fits; names = λ h. (refl, refl); later = λ h. absurd (cc (h, fresh)); no-mode = refl; begins-id = λ d none was. start-id more id (length payload) d was; keeps-id = λ c d was now. absurd (some-fresh l.sending c was fresh); allows = λ mode d e x y. start-allows l.ours (handle_of l.ours) id tag format settled more payload l.sending fresh fits mode d e; short = λ mode d e y. start-short (max_of l.theirs) (handle_of l.ours) id tag format settled more payload l.sending fresh k.none_holds.1.1.1.1.1.1.1.0 mode d e }))
+    (record { frame = f; transfer = start_transfer (handle_of l.ours) id tag format settled more; attached = attached; is_sent = refl; body = refl; handle = refl; carries = start-carries l.ours (handle_of l.ours) id tag format settled more payload l.sending fresh fits; names = λ h. (refl, refl); later = λ h. absurd (cc (h, fresh)); no-mode = refl; begins-id = λ d none was. start-id more id (length payload) d was; keeps-id = λ c d was now. absurd (some-fresh l.sending c was fresh); allows = λ mode d e x y. start-allows l.ours (handle_of l.ours) id tag format settled more payload l.sending fresh fits mode d e; short = λ mode d e x y. start-short (max_of l.theirs) (handle_of l.ours) id tag format settled more payload l.sending fresh k.none_holds.1.1.1.1.1.1.1.0 mode d e }))
     (λ n. other-on role name v (has_number link) l o.found attached n))
 
 carry-turn : (role : Role) (name : List ℕ) (v : View) (link : ℕ) (payload : List ℕ) (more : Bool) (reply : Reply)
@@ -256,7 +258,7 @@ carry-turn role name v link payload more reply h s =
     (turn-on role name v (next_own v (own.Carry link payload more)) None (Some f) (has_number link) (carry_on (length payload) more) l
     (plain _ (λ l. refl) (λ l. refl) (λ l. refl) (λ l. refl) (λ l h. h)) s o.found refl
     (λ n. sending (role-of role name l n Sender k.none_holds.1.0) (rw is refl) (λ h. absurd (cc (h, is))) refl
-    (record { frame = f; transfer = later_transfer (handle_of l.ours) (flag more) None; attached = attached; is_sent = refl; body = refl; handle = refl; carries = carry-carries l.ours (handle_of l.ours) more payload l.sending some; names = λ h. absurd (cc (h, is)); later = λ h. refl; no-mode = refl; begins-id = λ d none was. absurd (cc (none, is)); keeps-id = λ c d was now. carry-id (length payload) more l.sending c d was now; allows = λ mode d e x y. carry-allows l.ours (handle_of l.ours) more payload l.sending some mode d e x; short = λ mode d e y. carry-short (max_of l.theirs) (handle_of l.ours) more payload l.sending some k.none_holds.1.1.1.1.0 mode d e }))
+    (record { frame = f; transfer = later_transfer (handle_of l.ours) (flag more) None; attached = attached; is_sent = refl; body = refl; handle = refl; carries = carry-carries l.ours (handle_of l.ours) more payload l.sending some; names = λ h. absurd (cc (h, is)); later = λ h. refl; no-mode = refl; begins-id = λ d none was. absurd (cc (none, is)); keeps-id = λ c d was now. carry-id (length payload) more l.sending c d was now; allows = λ mode d e x y. carry-allows l.ours (handle_of l.ours) more payload l.sending some mode d e x; short = λ mode d e x y. carry-short l.ours (max_of l.theirs) (handle_of l.ours) more payload l.sending some k.none_holds.1.1.1.1.0 mode d e x }))
     (λ n. other-on role name v (has_number link) l o.found attached n))
   where
     unfinished-some : (o : Option SendingView) → is_none o ≡ false → is_some o ≡ true
@@ -278,7 +280,7 @@ abort-turn role name v link reply h s =
     (turn-on role name v (next_own v (own.Abort link)) None (Some f) (has_number link) aborted l
     (plain _ (λ l. refl) (λ l. refl) (λ l. refl) (λ l. refl) (λ l h. h)) s o.found refl
     (λ n. sending (role-of role name l n Sender k.none_holds.1.0) (rw is refl) (λ h. absurd (cc (h, is))) refl
-    (record { frame = f; transfer = later_transfer (handle_of l.ours) None (Some true); attached = attached; is_sent = refl; body = refl; handle = refl; carries = abort-carries l.ours (handle_of l.ours) [] l.sending; names = λ h. absurd (cc (h, is)); later = λ h. refl; no-mode = refl; begins-id = λ d none now. absurd (cc (now)); keeps-id = λ c d was now. absurd (cc (now)); allows = λ mode d e x y. absurd (cc (y)); short = λ mode d e y. absurd (cc (y)) }))
+    (record { frame = f; transfer = later_transfer (handle_of l.ours) None (Some true); attached = attached; is_sent = refl; body = refl; handle = refl; carries = abort-carries l.ours (handle_of l.ours) [] l.sending; names = λ h. absurd (cc (h, is)); later = λ h. refl; no-mode = refl; begins-id = λ d none now. absurd (cc (now)); keeps-id = λ c d was now. absurd (cc (now)); allows = λ mode d e x y. absurd (cc (y)); short = λ mode d e x y. absurd (cc (y)) }))
     (λ n. other-on role name v (has_number link) l o.found attached n))
   where
     unfinished-some : (o : Option SendingView) → is_none o ≡ false → is_some o ≡ true
@@ -375,15 +377,15 @@ leave-turn role name v link closed error tell reply h s =
     (λ n. leaving refl (attached-both l attached) refl refl)
     (λ n. other-on role name v (has_number link) l o.found attached n))
 
-attach-turn : (role : Role) (name : List ℕ) (v : View) (a : Wanted) (reply : Reply) → attach_answer v a ≡ Ok reply → IsSound v
-    → Turn role name v (next_attach v a) None (frame_among reply.sent)
+attach-turn : (role : Role) (name : List ℕ) (v : View) (a : Wanted) (reply : Reply) → attach_answer v (bare a) ≡ Ok reply → IsSound v
+    → Turn role name v (next_attach v (bare a)) None (frame_among reply.sent)
 attach-turn role name v a reply h s =
-    let b = attach_sent v a in
-    let k = sends-ok v.max_frame (attach_refusals v a) (Some (heard.Attach b)) [] (given.Link (number_met v.made (find (is_offered_as a.role a.name) v.links))) reply h in
+    let b = attach_sent v (bare a) in
+    let k = sends-ok v.max_frame (attach_refusals v (bare a)) (Some (heard.Attach b)) [] (given.Link (number_met v.made (find (is_offered_as a.role a.name) v.links))) reply h in
     let f = frame_of (Some (heard.Attach b)) [] in
     let sent : frame_among reply.sent ≡ Some f = ap (λ (r : Reply). frame_among r.sent) (sym k.replies) in
     let free : is_some (find (is_ours a.role a.name) v.links) ≡ false = k.none_holds.1.0 in
-    subst (λ (o : Option Frame). Turn role name v (next_attach v a) None o) (sym sent)
+    subst (λ (o : Option Frame). Turn role name v (next_attach v (bare a)) None o) (sym sent)
     (by-bool (same_role role a.role && pointwise nat_eq name a.name)
     (λ (t : same_role role a.role && pointwise nat_eq name a.name ≡ true).
     let both = and-both (same_role role a.role) (pointwise nat_eq name a.name) t in
@@ -391,8 +393,8 @@ attach-turn role name v a reply h s =
     let n : name ≡ a.name = texts-same name a.name both.1 in
     asks b f v.made refl refl refl (rw (r, n) (free-ours v a.role a.name free (find (has_name a.role a.name) v.links) refl)) (rw (r, n) (attach-joins-at v a s free)))
     (λ (d : same_role role a.role && pointwise nat_eq name a.name ≡ false).
-    rest-turn role name v (next_attach v a) None (Some f)
-    (joined-other v (is_offered_as a.role a.name) a.role a.name role name (attached_by_us b) (us-keeps b) (λ l h. (and-both (has_name a.role a.name l) (is_offered l) h).0) d)
+    rest-turn role name v (next_attach v (bare a)) None (Some f)
+    (joined-other v (is_offered_as a.role a.name) a.role a.name role name (attached_by_us b []) (us-keeps b) (λ l h. (and-both (has_name a.role a.name l) (is_offered l) h).0) d)
     d))
 
 -- nothing of links is sent or changed
@@ -401,12 +403,12 @@ still-turn : (role : Role) (name : List ℕ) (v : View) (op : Op) (body : Option
 still-turn role name v op body payload sent same is aside =
     rest-turn role name v (next_own v op) None sent (ap (find (has_name role name)) same) (subst (λ (o : Option Frame). IsAside role name v o) (sym is) aside)
 
-pub own-turn : (role : Role) (name : List ℕ) (v : View) (op : Op) (reply : Reply) → own_answer v op ≡ Ok reply → IsSound v → OwnTurn role name v op (frame_among reply.sent)
+pub own-turn : (role : Role) (name : List ℕ) (v : View) (op : Op) (reply : Reply) → OwnAnswers v op reply → IsSound v → OwnTurn role name v op (frame_among reply.sent)
 own-turn role name v own.Begin reply h s =
     let k = sends-ok v.max_frame (begin_refusals v) (begin_body v) [] given.Nothing reply h in
     still-turn role name v own.Begin (begin_body v) [] (frame_among reply.sent) refl (ap (λ (r : Reply). frame_among r.sent) (sym k.replies)) tt
 own-turn role name v (own.Attach name' role' snd rcv source target count max_message) reply h s =
-    attach-turn role name v (record { name = name'; role = role'; snd = snd; rcv = rcv; source = source; target = target; count = count; max_message = max_message }) reply h s
+    attach-turn role name v (record { name = name'; role = role'; snd = snd; rcv = rcv; source = source; target = target; count = count; max_message = max_message; items = [] }) reply h s
 own-turn role name v (own.Start link tag format settled payload more) reply h s = start-turn role name v link tag format settled payload more reply h s
 own-turn role name v (own.Carry link payload more) reply h s = carry-turn role name v link payload more reply h s
 own-turn role name v (own.Abort link) reply h s = abort-turn role name v link reply h s
@@ -437,6 +439,8 @@ own-turn role name v (own.Take link) reply h s =
     (turn-on role name v (next_own v (own.Take link)) None None (has_number link) taken_from t.on (plain _ (λ l. refl) (λ l. refl) (λ l. refl) (λ l. refl) (λ l h. h)) s t.found refl (λ n. rests refl refl refl tt) (λ n. tt))
 own-turn role name v (own.Detach link error) reply h s = leave-turn role name v link (Some true) error (λ l. given.Nothing) reply h s
 own-turn role name v (own.Suspend link) reply h s = leave-turn role name v link None None (λ l. given.Suspended (put_aside v l)) reply h s
+own-turn role name v (own.Rejoin r) reply h s = absurd h
+own-turn role name v (own.Resume link tag settled) reply h s = absurd h
 own-turn role name v (own.End error) reply h s =
     let k = sends-ending-ok v.max_frame ((not (is_mapped v.session), refusal.NotMapped) ∷ []) (end_body error) (ended_by Over Over v) given.Nothing reply h in
     let sent : frame_among reply.sent ≡ frame_among (sent_of (end_body error) [] ∷ []) = ap (λ (r : Reply). frame_among r.sent) (sym k.replies) in

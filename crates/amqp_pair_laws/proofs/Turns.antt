@@ -1,5 +1,5 @@
 -- What one accepted step does to the counts of the link of a role and a name, and what of it the other end is told.
-use Rattle.std.proofs.Common.{length, unwrap_or, ◌≡◌, ◌≤◌, ◌⊎◌, inl, ℕ, ◌+◌, ◌==◌, ◌&&◌, Bool, true, false, not, cond, Option, Some, None, List, refl, ◌∙◌, find, is_some, nat_eq, option_map}
+use Rattle.std.proofs.Common.{length, unwrap_or, ◌≡◌, ◌≤◌, ◌⊎◌, inl, ℕ, ◌+◌, ◌==◌, ◌&&◌, Bool, true, false, not, cond, Option, Some, None, List, refl, ◌∙◌, find, is_some, nat_eq, option_map, []}
 use Rattle.std.specs.Cmp.Lexicographic.{pointwise}
 use Rattle.amqp_flow.specs.Serial.{wire}
 use Rattle.amqp_flow.specs.Credit.{delivery_begun, delivery_count}
@@ -70,10 +70,10 @@ pub record TellsFlow (l m : LinkView) (sent : Option Frame) : Type 0 where
   pub count : flow.delivery_count ≡ Some (delivery_count m.credit)
   pub credit : flow.link_credit ≡ Some m.credit.credit
 
--- the mode of the sender's attach allows what an unfinished delivery says of being settled
+-- the mode of the sender's attach allows what an unfinished delivery says of being settled, and it was not brought in
 abbrev pub Fits : Option EndView → Option Delivery → Type 0
 Fits o None = Unit {0}
-Fits o (Some d) = mode_forbids (snd_of o) d.settled ≡ false
+Fits o (Some d) = (mode_forbids (snd_of o) d.settled ≡ false) × (d.resumed ≡ false)
 
 -- the unfinished delivery of the end that hears a transfer stays that of the end that sends it
 abbrev pub Carries : Option EndView → TransferBody → List ℕ → Option SendingView → Option SendingView → Type 0
@@ -99,7 +99,7 @@ pub record TellsTransfer (id : ℕ) (l m : LinkView) (sent : Option Frame) : Typ
   pub keeps-id : (c d : SendingView) → l.sending ≡ Some c → m.sending ≡ Some d → d.id ≡ c.id
   -- unless it aborts the delivery, the mode allows what is said of being settled, and the payloads are not too long together
   pub allows : (mode : ℕ) (d : Option Delivery) → l.sending ≡ option_map size_of d → Fits l.ours d → unwrap_or transfer.aborted false ≡ false → mode_forbids (snd_of l.ours) (joined_to (transferred mode transfer frame.payload) d).settled ≡ false
-  pub short : (mode : ℕ) (d : Option Delivery) → l.sending ≡ option_map size_of d → unwrap_or transfer.aborted false ≡ false → is_too_long (max_of l.theirs) (length (joined_to (transferred mode transfer frame.payload) d).payload) ≡ false
+  pub short : (mode : ℕ) (d : Option Delivery) → l.sending ≡ option_map size_of d → Fits l.ours d → unwrap_or transfer.aborted false ≡ false → is_too_long (max_of l.theirs) (length (joined_to (transferred mode transfer frame.payload) d).payload) ≡ false
 
 -- # Numbers: j deliveries pass, and the credit goes from c to c'
 
@@ -126,7 +126,7 @@ pub data Goes (role : Role) (name : List ℕ) (v : View) (hears : Bool) (l m : L
 pub data Turn (role : Role) (name : List ℕ) (v after : View) (hears : Option Performative) (sent : Option Frame) : Type 0 where
   away : find (has_name role name) after.links ≡ None → ((find (has_name role name) v.links ≡ None) × IsAside role name v sent) ⊎ IsUncounted sent → Turn role name v after hears sent
   asks : (b : AttachBody) (f : Frame) (k : ℕ) → hears ≡ None → sent ≡ Some f → f.body ≡ Some (heard.Attach b) → (slot_of role name v.links).ours ≡ None
-      → find (has_name role name) after.links ≡ Some (attached_by_us b (or_this (find (has_name role name) v.links) (new_link k role name))) → Turn role name v after hears sent
+      → find (has_name role name) after.links ≡ Some (attached_by_us b [] (or_this (find (has_name role name) v.links) (new_link k role name))) → Turn role name v after hears sent
   meets : (b : AttachBody) (k : ℕ) → hears ≡ Some (heard.Attach b) → sent ≡ None → (slot_of role name v.links).theirs ≡ None
       → find (has_name role name) after.links ≡ Some (attached_by_peer b (or_this (find (has_name role name) v.links) (new_link k role name))) → Turn role name v after hears sent
   goes : (l m : LinkView) → find (has_name role name) v.links ≡ Some l → find (has_name role name) after.links ≡ Some m → m.ours ≡ l.ours → m.theirs ≡ l.theirs → (m.left ≡ false → l.left ≡ false)

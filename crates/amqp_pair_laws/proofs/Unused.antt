@@ -25,7 +25,7 @@ use Rattle.amqp_rules.specs.Abort.{abort_refusals}
 use Rattle.amqp_rules.specs.Take.{taken_from, taken_of}
 use Rattle.amqp_rules.specs.PeerTransfer.{heard_on, received_on}
 use Rattle.amqp_rules.specs.Deliveries.{ended_by, sent_by_own, transferred}
-use Rattle.amqp_rules.specs.Answer.{is_dropped, next_body, next_own, own_answer}
+use Rattle.amqp_rules.specs.Answer.{is_dropped, next_body, next_own}
 use Rattle.amqp_rules.specs.Sound.{Ascends, IsSound, keys}
 use Rattle.amqp_rules.proofs.Accepted.{not-false, on-link-ok, sends-ok, sends-ending-ok}
 use Rattle.amqp_rules.proofs.Listed.{by-bool}
@@ -34,7 +34,12 @@ use Rattle.amqp_laws.specs.declared.entry.Step.{Step}
 use Rattle.amqp_laws.specs.declared.entry.Step.TheVariants.{Opened, Own, Heard}
 use Rattle.amqp_laws.specs.Said.{own_in, transfer_among}
 use Rattle.amqp_laws.specs.At.{at}
-use Rattle.amqp_laws.specs.Lawful.{Answers, next}
+use Rattle.amqp_laws.specs.Lawful.{next}
+use Rattle.amqp_rules.specs.Rejoin.{rejoined}
+use Rattle.amqp_rules.specs.Resume.{begin_resumed, resume_begins, resumed_from}
+use Rattle.amqp_flow.specs.Windows.{windows_sent}
+use Rattle.amqp_events.specs.Told.{next_sent_held}
+use Rattle.amqp_pair_laws.proofs.Plain.{Answers, OwnAnswers, due}
 use Rattle.amqp_pair_laws.specs.World.{frame_among}
 use Rattle.amqp_pair_laws.specs.Passing.{names, sent_now, sent_on, taken_in, taken_on}
 use Rattle.amqp_pair_laws.proofs.Named.{found-passes, role-same}
@@ -63,7 +68,7 @@ sent-by : (k number : ℕ) (reply : Reply) (t : TransferBody) (payload : List �
     → cond (number == k) (option_map (λ t. transferred 0 t.0 t.1) (transfer_among reply.sent)) None ≡ cond (number == k) (Some (transferred 0 t f.payload)) None
 sent-by k number reply t payload f is one = rw (is, ← one) refl
 
-carries-own : (v : View) (op : Op) (reply : Reply) (f : Frame) → own_answer v op ≡ Ok reply → is_carrier (Some op) ≡ true → frame_among reply.sent ≡ Some f → Transfers v (record { step = Own op; reply = reply }) f
+carries-own : (v : View) (op : Op) (reply : Reply) (f : Frame) → OwnAnswers v op reply → is_carrier (Some op) ≡ true → frame_among reply.sent ≡ Some f → Transfers v (record { step = Own op; reply = reply }) f
 carries-own v (own.Start link tag format settled payload more) reply f h is sent =
     let id = next_delivery v in
     let o = on-link-ok v link (λ l. sends' v.max_frame (start_refusals v l tag settled payload) (start_body (handle_of l.ours) id tag format settled more) payload (given.Delivery id)) reply h in
@@ -139,7 +144,7 @@ pub sent-none : (k : ℕ) (e : Entry) → is_carrier (own_in e.step) ≡ false �
 sent-none k e h = let f = not-named k (own_in e.step) h in rw f refl
 
 -- a carrier sends a frame
-carrier-loud : (v : View) (op : Op) (reply : Reply) → own_answer v op ≡ Ok reply → is_carrier (Some op) ≡ true → frame_among reply.sent ≡ None → ⊥
+carrier-loud : (v : View) (op : Op) (reply : Reply) → OwnAnswers v op reply → is_carrier (Some op) ≡ true → frame_among reply.sent ≡ None → ⊥
 carrier-loud v (own.Start link tag format settled payload more) reply h is none =
     let id = next_delivery v in
     let o = on-link-ok v link (λ l. sends' v.max_frame (start_refusals v l tag settled payload) (start_body (handle_of l.ours) id tag format settled more) payload (given.Delivery id)) reply h in
@@ -194,7 +199,14 @@ made-joined v test role name change = by (is_some (find test v.links))
 
 own-made : (v : View) (op : Op) → v.made ≤ (next_own v op).made
 own-made v (own.Attach name role snd rcv source target count max_message) =
-    made-joined v (is_offered_as role name) role name (attached_by_us (attach_sent v (record { name = name; role = role; snd = snd; rcv = rcv; source = source; target = target; count = count; max_message = max_message })))
+    made-joined v (is_offered_as role name) role name (attached_by_us (attach_sent v (record { name = name; role = role; snd = snd; rcv = rcv; source = source; target = target; count = count; max_message = max_message; items = [] })) [])
+own-made v (own.Rejoin r) = made-joined v (is_offered_as r.role r.name) r.role r.name (attached_by_us (attach_sent v (rejoined r)) r.items)
+own-made v (own.Resume link tag settled) = by (resume_begins tag (find (has_number link) v.links))
+  where
+    by : (anew : Bool)
+        → v.made ≤ (cond anew (record v { steps = v.steps + 1; windows = windows_sent v.windows; deliveries = v.deliveries + 1; links = change_first (has_number link) (begin_resumed tag) v.links; sent = next_sent_held (sent_by_own v (own.Resume link tag settled)) v.sent }) (record v { steps = v.steps + 1; links = change_first (has_number link) (resumed_from tag) v.links })).made
+    by true = omega arith
+    by false = omega arith
 own-made v _ = omega arith
 
 body-made : (v : View) (body : Option Performative) (payload : List ℕ) → v.made ≤ (next_body v body payload).made
@@ -269,7 +281,7 @@ its-theirs l = l.theirs
 
 -- # What was sent
 
-names-own : (v : View) (op : Op) (reply : Reply) (k : ℕ) → own_answer v op ≡ Ok reply → names k (Some op) ≡ true → (l : LinkView) × ((find (has_number k) v.links ≡ Some l) × (is_attached l ≡ true))
+names-own : (v : View) (op : Op) (reply : Reply) (k : ℕ) → OwnAnswers v op reply → names k (Some op) ≡ true → (l : LinkView) × ((find (has_number k) v.links ≡ Some l) × (is_attached l ≡ true))
 names-own v (own.Start link tag format settled payload more) reply k h is =
     let id = next_delivery v in
     let o = on-link-ok v link (λ l. sends' v.max_frame (start_refusals v l tag settled payload) (start_body (handle_of l.ours) id tag format settled more) payload (given.Delivery id)) reply h in
@@ -316,14 +328,14 @@ none-sent-on c (e ∷ past) fair lives k = by (names k (own_in e.step)) refl (no
     o = one-more (Sender, []) c e past fair
 
     r : ReadyStep v (next v e.step) e.step e.reply.given
-    r = ready-step v e.step e.reply fair.1.answers lp o.sound
+    r = ready-step v e.step e.reply (due fair.1) lp o.sound
 
     later : IsUsed v k its-ours → IsUsed (at c (e ∷ past)) k its-ours
     later u = subst (λ (v : View). IsUsed v k its-ours) (sym o.goes_on) (used-later v e.step e.reply.given k its-ours r o.sound (λ m f h. f.ours h) u)
 
     by : (b : Bool) → names k (own_in e.step) ≡ b → (sent_on k past ≡ []) ⊎ IsUsed v k its-ours → (sent_on k (e ∷ past) ≡ []) ⊎ IsUsed (at c (e ∷ past)) k its-ours
     by true is before =
-        let l = names-found v e.step e.reply k fair.1.answers is in
+        let l = names-found v e.step e.reply k (due fair.1) is in
         let n = number-is v k l.0 l.1.0 in
         let few : l.0.number < v.made = below v l.0 o.sound (found-in (has_number k) v.links l.0 l.1.0) in
         inr (later (record {
@@ -364,7 +376,7 @@ none-taken-on c (e ∷ past) fair lives k = by (none-taken-on c past fair.0 lp k
     o = one-more (Sender, []) c e past fair
 
     r : ReadyStep v (next v e.step) e.step e.reply.given
-    r = ready-step v e.step e.reply fair.1.answers lp o.sound
+    r = ready-step v e.step e.reply (due fair.1) lp o.sound
 
     later : IsUsed v k its-theirs → IsUsed (at c (e ∷ past)) k its-theirs
     later u = subst (λ (v : View). IsUsed v k its-theirs) (sym o.goes_on) (used-later v e.step e.reply.given k its-theirs r o.sound (λ m f h. f.theirs h) u)

@@ -26,9 +26,9 @@ use Rattle.amqp_laws.specs.Live.{live}
 use Rattle.amqp_laws.specs.Session.{session_at}
 use Rattle.amqp_laws.specs.Windows.{heard_since_told, heard_transfers, known, last_told, next_incoming, promise, sent_transfers}
 use Rattle.amqp_laws.specs.At.{at}
-use Rattle.amqp_laws.specs.Lawful.{Answers}
 use Rattle.amqp_laws.proofs.Promises.{promise-grows}
 use Rattle.amqp_laws.proofs.Twice.{NotOk, body-over, and-both}
+use Rattle.amqp_pair_laws.proofs.Plain.{Answers}
 use Rattle.amqp_pair_laws.specs.World.{frame_among}
 
 -- # What is sent

@@ -10,7 +10,7 @@ use Rattle.amqp_laws.specs.declared.entry.Step.TheVariants.{Heard}
 use Rattle.amqp_laws.specs.At.{at}
 use Rattle.amqp_laws.specs.Lawful.{Answers}
 use Rattle.amqp_pair_laws.specs.Moves as moves
-use Rattle.amqp_pair_laws.specs.Premise.{KeepsToHeard}
+use Rattle.amqp_pair_laws.specs.Premise.{IsPlain, KeepsToHeard}
 
 -- the frame with a body among those sent: a reply sends one at most; a frame without a body says nothing (part 2, 2.4.5)
 abbrev pub frame_among : List Sent → Option Frame
@@ -36,6 +36,8 @@ pub record IsFair (c : Config) (e : Entry) (before : List Entry) : Type 0 where
   pub answers : Answers (at c before) e.step e.reply
   -- the application disposes what it heard
   pub told : KeepsToHeard e.step before
+  -- and brings nothing in
+  pub plain : IsPlain e.step
 
 -- a and b are reached by n moves: an operation of an end, or the hearing of the other's next frame
 abbrev pub World : Config → Config → ℕ → List Entry → List Entry → Type 0

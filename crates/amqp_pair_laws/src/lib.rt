@@ -1,7 +1,7 @@
 //! Two ends that speak with each other: sessions whose journals are reached by moves, each end's own operations and the hearing of the other's next
 //! frame (`specs/World`). Both are within their limits, short of their journal limits, and dispose only deliveries that they heard; a link that is put
-//! aside is left, and none is brought back. A world says nothing of a connection that is lost, nor that a frame is ever heard, nor of want of memory.
-//! What holds of every such world, as `laws::laws` says it:
+//! aside is left, and neither rejoins a link or resumes a delivery. A world says nothing of a connection that is lost, nor that a frame is ever heard,
+//! nor of want of memory. What holds of every such world, as `laws::laws` says it:
 //!
 //! | clause | law |
 //! |---|---|

@@ -11,6 +11,7 @@ use Rattle.amqp_rules.specs.View.{View, LinkView, has_number, is_mapped}
 use Rattle.amqp_rules.specs.Refusing.{first_refusal, answered, if_there, unless}
 use Rattle.amqp_rules.specs.Sending.{frame_refused, sends, sends_ending, reply_of, reply_ending}
 use Rattle.amqp_rules.specs.OnLink.{on_link}
+use Rattle.amqp_rules.specs.Resume.{unless_refused}
 
 pub not-false : (b : Bool) → not b ≡ false → b ≡ true
 not-false true h = refl
@@ -28,6 +29,11 @@ answered_Ok (Some e) r reply h = absurd (cc)
 pub unless_Ok : {A E : Type 0} → (b : Bool) (e : E) (answer : Result A E) (reply : A) → unless b e answer ≡ Ok reply → (b ≡ false) × (answer ≡ Ok reply)
 unless_Ok true e answer reply h = absurd (cc)
 unless_Ok false e answer reply h = (refl, h)
+
+-- nothing is refused, and the rest is answered
+pub unless_refused_Ok : (o : Option Refusal) (said : Result Reply Refusal) (reply : Reply) → unless_refused o said ≡ Ok reply → (o ≡ None) × (said ≡ Ok reply)
+unless_refused_Ok None said reply h = (refl, h)
+unless_refused_Ok (Some e) said reply h = absurd (cc)
 
 pub record IsThere {A B E : Type 0} (o : Option A) (say : A → Result B E) (reply : B) : Type 0 where
   pub on : A

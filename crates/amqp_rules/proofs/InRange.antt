@@ -19,15 +19,18 @@ use Rattle.amqp_events.specs.Joined.{Delivery}
 use Rattle.amqp_events.specs.Told.{SentItem}
 use Rattle.amqp_rules.specs.declared.config.Config.{Config}
 use Rattle.amqp_rules.specs.declared.op.Op.{Op}
-use Rattle.amqp_rules.specs.declared.op.Op.TheVariants.{Begin, Attach, Start, Carry, Abort, Dispose, Learn, Grant, Offer, Drained, Refresh, Take, Detach, Suspend, End, Beat}
+use Rattle.amqp_rules.specs.declared.op.Op.TheVariants.{Begin, Attach, Start, Carry, Abort, Dispose, Learn, Grant, Offer, Drained, Refresh, Take, Detach, Suspend, Rejoin, Resume, End, Beat}
 use Rattle.amqp_rules.specs.declared.refusal.Refusal.{Refusal}
 use Rattle.amqp_rules.specs.declared.reply.Reply.{Reply}
 use Rattle.amqp_rules.specs.declared.reply.Given.TheVariants as given
+use Rattle.amqp_waiting.specs.declared.item.SuspendedItem.{SuspendedItem}
+use Rattle.amqp_rules.specs.Rejoin.{rejoined}
+use Rattle.amqp_rules.specs.Resume.{resume_begins, begin_resumed, resumed_from}
 use Rattle.amqp_rules.specs.View.{LinkView, View, change_first, handle_of, has_number, has_peer_handle, initial, is_asked_as, is_offered_as, is_sender, new_link, next_delivery, opposite}
 use Rattle.amqp_rules.specs.Limits.{IsWithinLimits}
 use Rattle.amqp_rules.specs.Sending.{sends}
 use Rattle.amqp_rules.specs.Answer.{body_answer, heard_answer, is_dropped, next_body, next_heard, next_own, own_answer}
-use Rattle.amqp_rules.specs.Attach.{attach_sent, attached_by_peer, attached_by_us, count_of, join_link}
+use Rattle.amqp_rules.specs.Attach.{Wanted, attach_sent, attached_by_peer, attached_by_us, count_of, join_link, next_attach}
 use Rattle.amqp_rules.specs.Start.{begin_delivery}
 use Rattle.amqp_rules.specs.Carry.{carry_on}
 use Rattle.amqp_rules.specs.Abort.{aborted}
@@ -58,8 +61,8 @@ credit-kept' : (sender : Bool) (n : ℕ) (c : CreditView) → c.credit < 2 ^ 32 
 credit-kept' true n c h = h
 credit-kept' false n c h = h
 
-ours-in-range : (b : AttachBody) → b.handle < 2 ^ 32 → (l : LinkView) → IsLinkInRange l → IsLinkInRange (attached_by_us b l)
-ours-in-range b small l r = record { handle = small; credit = credit-kept (is_sender l.role) (count_of b) l.credit r.credit; available = r.available }
+ours-in-range : (b : AttachBody) (items : List SuspendedItem) → b.handle < 2 ^ 32 → (l : LinkView) → IsLinkInRange l → IsLinkInRange (attached_by_us b items l)
+ours-in-range b items small l r = record { handle = small; credit = credit-kept (is_sender l.role) (count_of b) l.credit r.credit; available = r.available }
 
 theirs-in-range : (b : AttachBody) (l : LinkView) → IsLinkInRange l → IsLinkInRange (attached_by_peer b l)
 theirs-in-range b l r = record { handle = r.handle; credit = credit-kept' (is_sender l.role) (count_of b) l.credit r.credit; available = r.available }
@@ -167,13 +170,16 @@ grant-small v link credit drain echo reply h =
     let s = sends-ok v.max_frame (grant_refusals o.on credit) (grant_body v.windows (granted_on credit drain o.on) drain echo) [] given.Nothing reply o.said in
     omega (arith, ltb-false 2147483647 credit s.none_holds.1.1.0)
 
+attach-in-range : (v : View) (a : Wanted) → v.steps < 2 ^ 32 → IsSound v → IsInRange v → IsInRange (next_attach v a)
+attach-in-range v a few s r =
+    let most = links-few v s in
+    let least = free-handle_small v.links in
+    joined-in-range v (is_offered_as a.role a.name) a.role a.name (attached_by_us (attach_sent v a) a.items) (ours-in-range (attach_sent v a) a.items (omega (arith, most, least, few))) r
+
 pub own-in-range : (v : View) (op : Op) (reply : Reply) → own_answer v op ≡ Ok reply → v.steps < 2 ^ 32 → IsSound v → IsOpInRange op → IsInRange v → IsInRange (next_own v op)
 own-in-range v Begin reply h few s op r = record { window = r.window; links = r.links }
 own-in-range v (Attach name role snd rcv source target count max_message) reply h few s op r =
-    let b = attach_sent v (record { name = name; role = role; snd = snd; rcv = rcv; source = source; target = target; count = count; max_message = max_message }) in
-    let most = links-few v s in
-    let least = free-handle_small v.links in
-    joined-in-range v (is_offered_as role name) role name (attached_by_us b) (ours-in-range b (omega (arith, most, least, few))) r
+    attach-in-range v (record { name = name; role = role; snd = snd; rcv = rcv; source = source; target = target; count = count; max_message = max_message; items = [] }) few s r
 own-in-range v (Start link tag format settled payload more) reply h few s op r =
     record { window = r.window; links = changed v link (begin_delivery (next_delivery v) (length payload) more) r (λ l. (refl, omega arith, refl)) }
 own-in-range v (Carry link payload more) reply h few s op r = record { window = r.window; links = changed v link (carry_on (length payload) more) r (λ l. (refl, omega arith, refl)) }
@@ -190,6 +196,11 @@ own-in-range v (Refresh echo) reply h few s op r = record { window = r.window; l
 own-in-range v (Take link) reply h few s op r = record { window = r.window; links = changed v link taken_from r (λ l. (refl, omega arith, refl)) }
 own-in-range v (Detach link error) reply h few s op r = record { window = r.window; links = changed v link left_by_us r (λ l. (refl, omega arith, refl)) }
 own-in-range v (Suspend link) reply h few s op r = record { window = r.window; links = changed v link left_by_us r (λ l. (refl, omega arith, refl)) }
+own-in-range v (Rejoin j) reply h few s op r = attach-in-range v (rejoined j) few s r
+own-in-range v (Resume link tag settled) reply h few s op r =
+    by-bool (resume_begins tag (find (has_number link) v.links))
+    (λ (anew : resume_begins tag (find (has_number link) v.links) ≡ true). rw anew (record { window = r.window; links = changed v link (begin_resumed tag) r (λ l. (refl, omega arith, refl)) }))
+    (λ (none : resume_begins tag (find (has_number link) v.links) ≡ false). rw none (record { window = r.window; links = changed v link (resumed_from tag) r (λ l. (refl, omega arith, refl)) }))
 own-in-range v (End error) reply h few s op r = record { window = r.window; links = tt }
 own-in-range v Beat reply h few s op r = record { window = r.window; links = r.links }
 

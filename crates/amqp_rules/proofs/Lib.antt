@@ -4,6 +4,7 @@ pub mod Free
 pub mod Told
 pub mod Soundness
 pub mod Unfinished
+pub mod Apart
 pub mod Counts
 pub mod InRange
 pub mod Writing

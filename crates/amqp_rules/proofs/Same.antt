@@ -16,8 +16,13 @@ use Rattle.amqp_performatives.proofs.Same.{errors_alike, states_alike, performat
 use Rattle.amqp_frames.specs.declared.frame.Frame.{Frame}
 use Rattle.amqp_frames.specs.contracts.frame.FramePartialEq.TheImpl.{ghosts as frames}
 use Rattle.amqp_waiting.specs.contracts.item.SuspendedItemPartialEq.TheImpl.{ghosts as waitings}
+use Rattle.amqp_waiting.specs.declared.item.Verdict.{Verdict}
+use Rattle.amqp_waiting.specs.declared.item.Verdict.TheVariants.{Unclear, Absent, Partial, Held, Outcome}
+use Rattle.amqp_waiting.specs.contracts.item.VerdictPartialEq.TheImpl.{ghosts as verdicts}
+use Rattle.amqp_rules.specs.declared.op.Rejoin.{Rejoin as Rejoined}
+use Rattle.amqp_rules.specs.contracts.op.RejoinPartialEq.TheImpl.{ghosts as rejoins}
 use Rattle.amqp_rules.specs.declared.op.Op.{Op}
-use Rattle.amqp_rules.specs.declared.op.Op.TheVariants.{Begin, Attach, Start, Carry, Abort, Dispose, Learn, Grant, Offer, Drained, Refresh, Take, Detach, Suspend, End, Beat}
+use Rattle.amqp_rules.specs.declared.op.Op.TheVariants.{Begin, Attach, Start, Carry, Abort, Dispose, Learn, Grant, Offer, Drained, Refresh, Take, Detach, Suspend, Rejoin, Resume, End, Beat}
 use Rattle.amqp_rules.specs.contracts.op.OpPartialEq.TheImpl.{ghosts as ops}
 use Rattle.amqp_rules.specs.contracts.op.OpEq.TheImpl.Laws as ops_whole
 use Rattle.amqp_rules.specs.declared.reply.Sent.{Sent}
@@ -31,6 +36,7 @@ use Rattle.amqp_rules.specs.contracts.reply.SentPartialEq.TheImpl.{ghosts as sen
 use Rattle.amqp_rules.specs.contracts.reply.TakenPartialEq.TheImpl.{ghosts as takens}
 use Rattle.amqp_rules.specs.contracts.reply.LearnedPartialEq.TheImpl.{ghosts as learneds}
 use Rattle.amqp_rules.specs.contracts.reply.SuspendedPartialEq.TheImpl.{ghosts as suspendeds}
+use Rattle.amqp_rules.specs.contracts.reply.ResumedPartialEq.TheImpl.{ghosts as resumeds}
 use Rattle.amqp_rules.specs.contracts.reply.GivenPartialEq.TheImpl.{ghosts as givens}
 use Rattle.amqp_rules.specs.contracts.reply.ReplyPartialEq.TheImpl.{ghosts as replies}
 use Rattle.amqp_rules.specs.contracts.reply.ReplyEq.TheImpl.Laws as replies_whole
@@ -91,6 +97,16 @@ error = record { is = λ x y. (errors_alike x y).0 }
 state : Tells states.eq
 state = record { is = λ x y. (states_alike x y).0 }
 
+waiting : Tells waitings.eq
+waiting = record { is = λ x y h. let t = (octets ⊗ maybe state).is (x.tag, x.state) (y.tag, y.state) h in λ i. record { tag = (t i).0; state = (t i).1 } }
+
+rejoin : Tells rejoins.eq
+rejoin =
+    record {
+      is = λ x y h. let t = (octets ⊗ role ⊗ number ⊗ number ⊗ maybe any ⊗ maybe any ⊗ number ⊗ number ⊗ items waiting).is (x.name, (x.role, (x.snd, (x.rcv, (x.source, (x.target, (x.count, (x.max_message, x.items)))))))) (y.name, (y.role, (y.snd, (y.rcv, (y.source, (y.target, (y.count, (y.max_message, y.items)))))))) h in
+          λ i. record { name = (t i).0; role = (t i).1.0; snd = (t i).1.1.0; rcv = (t i).1.1.1.0; source = (t i).1.1.1.1.0; target = (t i).1.1.1.1.1.0; count = (t i).1.1.1.1.1.1.0; max_message = (t i).1.1.1.1.1.1.1.0; items = (t i).1.1.1.1.1.1.1.1 };
+    }
+
 same : (a b : Op) → ops.eq a b ≡ true → a ≡ b
 same Begin Begin h = refl
 same (Attach a b c d e f g k) (Attach l m n o p q r s) h =
@@ -114,6 +130,8 @@ same (Refresh a) (Refresh l) h = ap Refresh (boolean.is a l h)
 same (Take a) (Take l) h = ap Take (number.is a l h)
 same (Detach a b) (Detach l m) h = let t = (number ⊗ maybe error).is (a, b) (l, m) h in λ i. Detach (t i).0 (t i).1
 same (Suspend a) (Suspend l) h = ap Suspend (number.is a l h)
+same (Rejoin a) (Rejoin l) h = ap Rejoin (rejoin.is a l h)
+same (Resume a b c) (Resume l m n) h = let t = (number ⊗ octets ⊗ boolean).is (a, (b, c)) (l, (m, n)) h in λ i. Resume (t i).0 (t i).1.0 (t i).1.1
 same (End a) (End l) h = ap End ((maybe error).is a l h)
 same Beat Beat h = refl
 same _ _ h = no h
@@ -143,14 +161,29 @@ learned =
           λ i. record { id = (t i).0; link = (t i).1.0; tag = (t i).1.1.0; state = (t i).1.1.1.0; settled = (t i).1.1.1.1 };
     }
 
-waiting : Tells waitings.eq
-waiting = record { is = λ x y h. let t = (octets ⊗ maybe state).is (x.tag, x.state) (y.tag, y.state) h in λ i. record { tag = (t i).0; state = (t i).1 } }
-
 aside : Tells suspendeds.eq
 aside =
     record {
       is = λ x y h. let t = (octets ⊗ role ⊗ items waiting).is (x.name, (x.role, x.items)) (y.name, (y.role, y.items)) h in
           λ i. record { name = (t i).0; role = (t i).1.0; items = (t i).1.1 };
+    }
+
+verdict_same : (x y : Verdict) → verdicts.eq x y ≡ true → x ≡ y
+verdict_same Unclear Unclear h = refl
+verdict_same Absent Absent h = refl
+verdict_same Partial Partial h = refl
+verdict_same Held Held h = refl
+verdict_same Outcome Outcome h = refl
+verdict_same _ _ h = no h
+
+verdict : Tells verdicts.eq
+verdict = record { is = verdict_same }
+
+resumed : Tells resumeds.eq
+resumed =
+    record {
+      is = λ x y h. let t = (verdict ⊗ maybe number ⊗ maybe state).is (x.verdict, (x.id, x.state)) (y.verdict, (y.id, y.state)) h in
+          λ i. record { verdict = (t i).0; id = (t i).1.0; state = (t i).1.1 };
     }
 
 given_same : (a b : Given) → givens.eq a b ≡ true → a ≡ b
@@ -165,6 +198,7 @@ given_same (given.Taken a) (given.Taken l) h = ap given.Taken (taken.is a l h)
 given_same (given.Learned a) (given.Learned l) h = ap given.Learned (learned.is a l h)
 given_same (given.Suspended a) (given.Suspended l) h = ap given.Suspended (aside.is a l h)
 given_same (given.Parted a b) (given.Parted l m) h = let t = (number ⊗ aside).is (a, b) (l, m) h in λ i. given.Parted (t i).0 (t i).1
+given_same (given.Resumed a) (given.Resumed l) h = ap given.Resumed (resumed.is a l h)
 given_same _ _ h = no h
 
 told : Tells givens.eq

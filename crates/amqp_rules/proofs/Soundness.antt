@@ -9,8 +9,10 @@ use Rattle.amqp_performatives.specs.declared.performative.Performative.TheVarian
 use Rattle.amqp_frames.specs.declared.frame.Frame.{Frame}
 use Rattle.amqp_rules.specs.declared.config.Config.{Config}
 use Rattle.amqp_rules.specs.declared.op.Op.{Op}
-use Rattle.amqp_rules.specs.declared.op.Op.TheVariants.{Begin, Attach, Start, Carry, Abort, Dispose, Learn, Grant, Offer, Drained, Refresh, Take, Detach, Suspend, End, Beat}
+use Rattle.amqp_rules.specs.declared.op.Op.TheVariants.{Begin, Attach, Start, Carry, Abort, Dispose, Learn, Grant, Offer, Drained, Refresh, Take, Detach, Suspend, Rejoin, Resume, End, Beat}
 use Rattle.amqp_rules.specs.declared.reply.Reply.{Reply}
+use Rattle.amqp_rules.specs.Rejoin.{rejoined}
+use Rattle.amqp_rules.specs.Resume.{resume_begins, begin_resumed, resumed_from}
 use Rattle.amqp_rules.specs.declared.reply.Given.TheVariants as given
 use Rattle.amqp_rules.specs.View.{EndView, LinkView, SessionView, View, change_first, free_handle, has_handle, has_number, has_peer_handle, holds, initial, is_asked_as, is_mapped, is_offered_as, is_ours, is_over, is_theirs, new_link, next_delivery, opposite, remove_first, same_role, takes_frames}
 use Rattle.amqp_rules.specs.Refusing.{first_refusal}
@@ -196,9 +198,9 @@ attach-sound v a reply h s =
     let test' : Keys → Bool = λ k. (same_role a.role k.role && pointwise nat_eq a.name k.name) && (is_some k.theirs && is_none k.ours) in
     let free : Every (λ k. holds (λ f. eqb f.handle e.handle) k.ours ≡ false) (map keys v.links) =
     every-mapped keys (λ k. holds (λ f. eqb f.handle e.handle) k.ours ≡ false) v.links (none-passes (has_handle (free_handle v.links)) v.links (free-handle_is-free v.links)) in
-    joined-sound v (is_offered_as a.role a.name) a.role a.name (attached_by_us b) s
+    joined-sound v (is_offered_as a.role a.name) a.role a.name (attached_by_us b a.items) s
     (record {
-      met = rw (map-changed keys (is_offered_as a.role a.name) (attached_by_us b) test' (with_ours e) v.links (λ l. refl) (λ l. refl)) (sound-ours v.made test' e (map keys v.links) s.links free);
+      met = rw (map-changed keys (is_offered_as a.role a.name) (attached_by_us b a.items) test' (with_ours e) v.links (λ l. refl) (λ l. refl)) (sound-ours v.made test' e (map keys v.links) s.links free);
       new =
           λ unmet.
           let in_use = every-mapped keys (λ k. (same_role a.role k.role && pointwise nat_eq a.name k.name) && is_some k.ours ≡ false) v.links (none-passes (is_ours a.role a.name) v.links k.none_holds.1.0) in
@@ -293,7 +295,7 @@ mapped-on v link say reply h = let o = on-link-ok v link say reply h in o.mapped
 own-sound : (v : View) (op : Op) (reply : Reply) → own_answer v op ≡ Ok reply → IsSound v → IsSound (next_own v op)
 own-sound v Begin reply h s = told-sound v (record v.session { begin_sent = true }) v.sent v.received (windows_renewed v.windows) v.max_frame v.handle_max refl refl (λ b. absurd (cc b)) s
 own-sound v (Attach name role snd rcv source target count max_message) reply h s =
-    attach-sound v (record { name = name; role = role; snd = snd; rcv = rcv; source = source; target = target; count = count; max_message = max_message }) reply h s
+    attach-sound v (record { name = name; role = role; snd = snd; rcv = rcv; source = source; target = target; count = count; max_message = max_message; items = [] }) reply h s
 own-sound v (Start link tag format settled payload more) reply h s =
     sent-sound v (v.deliveries + 1) _ (has_number link) (begin_delivery (next_delivery v) (length payload) more) (mapped-on v link _ reply h) (omega arith) (λ l. refl) s
 own-sound v (Carry link payload more) reply h s =
@@ -308,6 +310,12 @@ own-sound v (Refresh echo) reply h s = told-sound v v.session v.sent v.received 
 own-sound v (Take link) reply h s = changed-sound v v.expected v.sent v.received v.windows (has_number link) taken_from refl (λ l. refl) s
 own-sound v (Detach link error) reply h s = changed-sound v v.expected _ _ v.windows (has_number link) left_by_us refl (λ l. refl) s
 own-sound v (Suspend link) reply h s = changed-sound v v.expected _ _ v.windows (has_number link) left_by_us refl (λ l. refl) s
+own-sound v (Rejoin r) reply h s = attach-sound v (rejoined r) reply h s
+own-sound v (Resume link tag settled) reply h s =
+    let mapped = mapped-on v link _ reply h in
+    by-bool (resume_begins tag (find (has_number link) v.links))
+    (λ (anew : resume_begins tag (find (has_number link) v.links) ≡ true). rw anew (sent-sound v (v.deliveries + 1) _ (has_number link) (begin_resumed tag) mapped (omega arith) (λ l. refl) s))
+    (λ (none : resume_begins tag (find (has_number link) v.links) ≡ false). rw none (changed-sound v v.expected v.sent v.received v.windows (has_number link) (resumed_from tag) refl (λ l. refl) s))
 own-sound v (End error) reply h s = ended-sound v (record v.session { end_sent = true }) refl s
 own-sound v Beat reply h s = told-sound v v.session v.sent v.received v.windows v.max_frame v.handle_max refl refl (λ b. b) s
 
@@ -339,7 +347,7 @@ detached-sound v held received test test' same s =
       unbegun = s.unbegun;
     }
 
-body-sound : (v : View) (body : Option Performative) (payload : List ℕ) (reply : Reply) → body_answer v body payload ≡ Ok reply → IsSound v → IsSound (next_body v body payload)
+pub body-sound : (v : View) (body : Option Performative) (payload : List ℕ) (reply : Reply) → body_answer v body payload ≡ Ok reply → IsSound v → IsSound (next_body v body payload)
 body-sound v (Some (heard.Begin b)) payload reply h s = told-sound v (record v.session { begin_heard = true }) v.sent v.received (windows_begun b.next_outgoing_id b.incoming_window b.outgoing_window v.windows) v.max_frame _ refl refl (λ b. b) s
 body-sound v (Some (heard.Attach b)) payload reply h s = attach-heard-sound v b reply h s
 body-sound v (Some (heard.Flow b)) payload reply h s = flow-sound v b b.handle s

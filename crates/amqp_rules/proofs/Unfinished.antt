@@ -9,16 +9,19 @@ use Rattle.amqp_performatives.specs.declared.performative.Performative.{Performa
 use Rattle.amqp_performatives.specs.declared.performative.Performative.TheVariants as heard
 use Rattle.amqp_frames.specs.declared.frame.Frame.{Frame}
 use Rattle.amqp_rules.specs.declared.op.Op.{Op}
-use Rattle.amqp_rules.specs.declared.op.Op.TheVariants.{Begin, Attach, Start, Carry, Abort, Dispose, Learn, Grant, Offer, Drained, Refresh, Take, Detach, Suspend, End, Beat}
+use Rattle.amqp_rules.specs.declared.op.Op.TheVariants.{Begin, Attach, Start, Carry, Abort, Dispose, Learn, Grant, Offer, Drained, Refresh, Take, Detach, Suspend, Rejoin, Resume, End, Beat}
 use Rattle.amqp_rules.specs.declared.reply.Reply.{Reply}
 use Rattle.amqp_rules.specs.declared.reply.Given.TheVariants as given
 use Rattle.amqp_rules.specs.declared.violation.Violation.{Violation}
 use Rattle.amqp_rules.specs.declared.violation.ViolationKind.TheVariants.{OutOfSession, BadHandle}
+use Rattle.amqp_waiting.specs.declared.item.SuspendedItem.{SuspendedItem}
+use Rattle.amqp_rules.specs.Rejoin.{rejoined}
+use Rattle.amqp_rules.specs.Resume.{resume_begins, begin_resumed, resumed_from}
 use Rattle.amqp_rules.specs.View.{EndView, LinkView, SendingView, View, change_first, handle_of, has_number, has_peer_handle, holds, is_asked_as, is_attached, is_offered_as, is_sender, new_link, next_delivery, opposite, same_role, takes_frames}
 use Rattle.amqp_rules.specs.Refusing.{answered, first_refusal, if_there, unlinked}
 use Rattle.amqp_rules.specs.Sending.{sends}
 use Rattle.amqp_rules.specs.Answer.{body_answer, heard_answer, is_dropped, next_body, next_heard, next_own, own_answer}
-use Rattle.amqp_rules.specs.Attach.{attach_sent, attached_by_peer, attached_by_us, join_link}
+use Rattle.amqp_rules.specs.Attach.{Wanted, attach_sent, attached_by_peer, attached_by_us, join_link, next_attach}
 use Rattle.amqp_rules.specs.Start.{begin_delivery, sending_after, start_body, start_refusals}
 use Rattle.amqp_rules.specs.Carry.{carried, carry_on}
 use Rattle.amqp_rules.specs.Abort.{aborted}
@@ -63,8 +66,8 @@ with-theirs true o true left s h = h
 with-theirs true true false left s h = absurd (cc)
 with-theirs true false t left s h = absurd (cc)
 
-ours-unfinished : (b : AttachBody) (l : LinkView) → IsUnfinished l → IsUnfinished (attached_by_us b l)
-ours-unfinished b l u =
+ours-unfinished : (b : AttachBody) (items : List SuspendedItem) (l : LinkView) → IsUnfinished l → IsUnfinished (attached_by_us b items l)
+ours-unfinished b items l u =
     record {
       sending = with-ours (is_some l.sending) (is_some l.ours) (is_some l.theirs) l.left (is_sender l.role) u.sending;
       receiving = with-ours (is_some l.receiving) (is_some l.ours) (is_some l.theirs) l.left (not (is_sender l.role)) u.receiving;
@@ -172,11 +175,13 @@ told-unfinished e items (l ∷ links) all = (record { sending = all.0.sending; r
 
 -- # All steps
 
+attach-unfinished : (v : View) (a : Wanted) → Every IsUnfinished v.links → Every IsUnfinished (next_attach v a).links
+attach-unfinished v a all = joined-unfinished v (is_offered_as a.role a.name) a.role a.name (attached_by_us (attach_sent v a) a.items) (ours-unfinished (attach_sent v a) a.items) all
+
 pub own-unfinished : (v : View) (op : Op) (reply : Reply) → own_answer v op ≡ Ok reply → Every IsUnfinished v.links → Every IsUnfinished (next_own v op).links
 own-unfinished v Begin reply h all = all
 own-unfinished v (Attach name role snd rcv source target count max_message) reply h all =
-    let b = attach_sent v (record { name = name; role = role; snd = snd; rcv = rcv; source = source; target = target; count = count; max_message = max_message }) in
-    joined-unfinished v (is_offered_as role name) role name (attached_by_us b) (ours-unfinished b) all
+    attach-unfinished v (record { name = name; role = role; snd = snd; rcv = rcv; source = source; target = target; count = count; max_message = max_message; items = [] }) all
 own-unfinished v (Start link tag format settled payload more) reply h all = start-unfinished v link tag format settled payload more reply h all
 own-unfinished v (Carry link payload more) reply h all = every-changed IsUnfinished (has_number link) (carry_on (length payload) more) v.links all (carry-unfinished (length payload) more)
 own-unfinished v (Abort link) reply h all = every-changed IsUnfinished (has_number link) aborted v.links all (λ l u. record { sending = refl; receiving = u.receiving })
@@ -189,6 +194,11 @@ own-unfinished v (Refresh echo) reply h all = all
 own-unfinished v (Take link) reply h all = every-changed IsUnfinished (has_number link) taken_from v.links all (λ l u. record { sending = u.sending; receiving = u.receiving })
 own-unfinished v (Detach link error) reply h all = every-changed IsUnfinished (has_number link) left_by_us v.links all (λ l u. record { sending = refl; receiving = refl })
 own-unfinished v (Suspend link) reply h all = every-changed IsUnfinished (has_number link) left_by_us v.links all (λ l u. record { sending = refl; receiving = refl })
+own-unfinished v (Rejoin j) reply h all = attach-unfinished v (rejoined j) all
+own-unfinished v (Resume link tag settled) reply h all =
+    by-bool (resume_begins tag (find (has_number link) v.links))
+    (λ (anew : resume_begins tag (find (has_number link) v.links) ≡ true). rw anew (every-changed IsUnfinished (has_number link) (begin_resumed tag) v.links all (λ l u. record { sending = u.sending; receiving = u.receiving })))
+    (λ (none : resume_begins tag (find (has_number link) v.links) ≡ false). rw none (every-changed IsUnfinished (has_number link) (resumed_from tag) v.links all (λ l u. record { sending = u.sending; receiving = u.receiving })))
 own-unfinished v (End error) reply h all = tt
 own-unfinished v Beat reply h all = all
 

@@ -19,17 +19,17 @@ use Rattle.amqp_frames.specs.declared.frame.Frame.{Frame}
 use Rattle.amqp_frames.specs.Field.{header}
 use Rattle.amqp_frames.specs.Written.{contents_octets, framed, frame_octets, within_size}
 use Rattle.amqp_rules.specs.declared.op.Op.{Op}
-use Rattle.amqp_rules.specs.declared.op.Op.TheVariants.{Begin, Attach, Start, Carry, Abort, Dispose, Learn, Grant, Offer, Drained, Refresh, Take, Detach, Suspend, End, Beat}
+use Rattle.amqp_rules.specs.declared.op.Op.TheVariants.{Begin, Attach, Start, Carry, Abort, Dispose, Learn, Grant, Offer, Drained, Refresh, Take, Detach, Suspend, Rejoin, Resume, End, Beat}
 use Rattle.amqp_rules.specs.declared.reply.Reply.{Reply}
 use Rattle.amqp_rules.specs.declared.reply.Sent.{Sent}
 use Rattle.amqp_rules.specs.declared.reply.Given.{Given}
 use Rattle.amqp_rules.specs.declared.refusal.Refusal.{Refusal}
-use Rattle.amqp_rules.specs.declared.refusal.Refusal.TheVariants.{NoLink, NotMapped, WrongRole}
+use Rattle.amqp_rules.specs.declared.refusal.Refusal.TheVariants.{NoLink, NotMapped, NotWaiting, WrongRole, Unclear as Not_clear}
 use Rattle.amqp_rules.specs.declared.reply.Given.TheVariants.{Nothing, Link, Delivery, Gone, Suspended}
 use Rattle.amqp_rules.specs.View.{View, LinkView, handle_of, has_number, has_peer_handle, is_attached, is_ending, is_mapped, is_offered_as, next_delivery, same_role, takes_frames}
 use Rattle.amqp_rules.specs.Deliveries.{disposition_of, ended_by, received_by_own, sent_by_own}
 use Rattle.amqp_rules.specs.Begin.{begin_body, begin_refusals}
-use Rattle.amqp_rules.specs.Attach.{Wanted, attach_refusals, attach_sent, number_met}
+use Rattle.amqp_rules.specs.Attach.{Wanted, attach_answer, attach_refusals, attach_sent, number_met}
 use Rattle.amqp_rules.specs.Start.{start_body, start_refusals}
 use Rattle.amqp_rules.specs.Carry.{carry_refusals, later_body}
 use Rattle.amqp_rules.specs.Abort.{abort_refusals}
@@ -57,6 +57,10 @@ use Rattle.amqp_rules.specs.Flow.{echo_body, echoes, flow_answer, flow_link, flo
 use Rattle.amqp_rules.specs.PeerTransfer.{transfer_reply, transfer_violations}
 use Rattle.amqp_rules.specs.PeerDisposition.{disposition_reply, disposition_violations}
 use Rattle.amqp_rules.specs.Suspend.{put_aside}
+use Rattle.amqp_waiting.specs.Waiting.{WaitingItem, waits_as}
+use Rattle.amqp_rules.specs.Deliveries.{is_sent_anew}
+use Rattle.amqp_rules.specs.Rejoin.{rejoined}
+use Rattle.amqp_rules.specs.Resume.{absent_reply, early_refusals, is_unclear, outcome_of, resume_body, resume_item, resume_refusals, resume_sends, resumed_to, unless_refused}
 use Rattle.amqp_rules.specs.PeerDetach.{detach_heard_answer, detach_reply, parting}
 use Rattle.amqp_rules.specs.PeerEnd.{end_heard_answer, end_reply}
 use Rattle.amqp_rules.specs.Ranges.{IsBodyInRange, IsInRange, IsLinkInRange}
@@ -68,7 +72,7 @@ use Rattle.amqp_rules.specs.Take.{take_first, take_reply}
 use Rattle.amqp_rules.specs.Learn.{learn_first, learn_reply}
 use Rattle.amqp_rules.specs.Answer.{body_answer, heard_answer, is_dropped, own_answer}
 use Rattle.amqp_rules.specs.Written.{AllWritten, IsWritten}
-use Rattle.amqp_rules.proofs.Accepted.{answered_Ok, on-link-ok, sends-ok, sends-ending-ok, there_Ok, unless_Ok}
+use Rattle.amqp_rules.proofs.Accepted.{answered_Ok, on-link-ok, sends-ok, sends-ending-ok, there_Ok, unless_Ok, unless_refused_Ok}
 
 -- ---- one frame
 
@@ -135,12 +139,34 @@ learn-sends-none : (told : List Telling) (reply : Reply) → learn_first told �
 learn-sends-none [] reply h = absurd cc
 learn-sends-none (t ∷ ts) reply h = let same : learn_reply t ≡ reply = cc in ap (λ (r : Reply). r.sent) (sym same)
 
+attach-written : (v : View) (a : Wanted) (reply : Reply) → attach_answer v a ≡ Ok reply → AllWritten v.max_frame reply
+attach-written v a reply h =
+    by-sends v.max_frame (attach_refusals v a) (Some (heard.Attach (attach_sent v a))) []
+    (Link (number_met v.made (find (is_offered_as a.role a.name) v.links))) reply h
+
+resume-sends-written : (v : View) (l : LinkView) (settled : Bool) (w : WaitingItem) (reply : Reply) → resume_sends v l settled w ≡ Ok reply → AllWritten v.max_frame reply
+resume-sends-written v l settled w reply h =
+    by-sends v.max_frame (resume_refusals v l settled w) (resume_body (handle_of l.ours) (next_delivery v) settled w) []
+    (resumed_to w.verdict (Some (next_delivery v)) (outcome_of w)) reply h
+
+item-written : (v : View) (l : LinkView) (settled : Bool) (w : WaitingItem) (reply : Reply) → resume_item v l settled w ≡ Ok reply → AllWritten v.max_frame reply
+item-written v l settled w reply h = by (is_sent_anew w) (unless_Ok (is_unclear w) Not_clear (cond (is_sent_anew w) (resume_sends v l settled w) (Ok absent_reply)) reply h).1
+  where
+    by : (anew : Bool) → cond anew (resume_sends v l settled w) (Ok absent_reply) ≡ Ok reply → AllWritten v.max_frame reply
+    by true k = resume-sends-written v l settled w reply k
+    by false k = let same : absent_reply ≡ reply = cc in none-sent v.max_frame reply (ap (λ (r : Reply). r.sent) (sym same))
+
+resume-written : (v : View) (l : LinkView) (tag : List ℕ) (settled : Bool) (reply : Reply)
+    → unless_refused (first_refusal (early_refusals l)) (if_there (find (waits_as tag) l.waiting) NotWaiting (resume_item v l settled)) ≡ Ok reply → AllWritten v.max_frame reply
+resume-written v l tag settled reply h =
+    let r = unless_refused_Ok (first_refusal (early_refusals l)) (if_there (find (waits_as tag) l.waiting) NotWaiting (resume_item v l settled)) reply h in
+    let t = there_Ok (find (waits_as tag) l.waiting) NotWaiting (resume_item v l settled) reply r.1 in
+    item-written v l settled t.on reply t.said
+
 pub own-written : (v : View) (op : Op) (reply : Reply) → own_answer v op ≡ Ok reply → AllWritten v.max_frame reply
 own-written v Begin reply h = by-sends v.max_frame (begin_refusals v) (begin_body v) [] Nothing reply h
 own-written v (Attach name role snd rcv source target count max_message) reply h =
-    let a : Wanted = record { name = name; role = role; snd = snd; rcv = rcv; source = source; target = target; count = count; max_message = max_message } in
-    by-sends v.max_frame (attach_refusals v a) (Some (heard.Attach (attach_sent v a))) []
-    (Link (number_met v.made (find (is_offered_as role name) v.links))) reply h
+    attach-written v (record { name = name; role = role; snd = snd; rcv = rcv; source = source; target = target; count = count; max_message = max_message; items = [] }) reply h
 own-written v (Start link tag format settled payload more) reply h =
     by-link v link
     (λ l. sends v.max_frame (start_refusals v l tag settled payload) (start_body (handle_of l.ours) (next_delivery v) tag format settled more) payload (Delivery (next_delivery v)))
@@ -182,6 +208,10 @@ own-written v (Suspend link) reply h =
     let ended : List (Role × ℕ) = ended_by (Leaves link) (Leaves link) v in
     by-link v link (λ l. sends_ending v.max_frame (detach_refusals l) (detach_body (handle_of l.ours) None None) ended (Suspended (put_aside v l))) reply
     (λ l. by-ending v.max_frame (detach_refusals l) (detach_body (handle_of l.ours) None None) ended (Suspended (put_aside v l)) reply) h
+own-written v (Rejoin r) reply h = attach-written v (rejoined r) reply h
+own-written v (Resume link tag settled) reply h =
+    by-link v link (λ l. unless_refused (first_refusal (early_refusals l)) (if_there (find (waits_as tag) l.waiting) NotWaiting (resume_item v l settled))) reply
+    (λ l. resume-written v l tag settled reply) h
 own-written v (End error) reply h = by-ending v.max_frame ((not (is_mapped v.session), NotMapped) ∷ []) (end_body error) (ended_by Over Over v) Nothing reply h
 own-written v Beat reply h = by-sends v.max_frame [] None [] Nothing reply h
 

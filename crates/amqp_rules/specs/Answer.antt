@@ -1,10 +1,10 @@
 -- What the endpoint answers to a step, and what it is afterwards: one line for each kind of step.
-use Rattle.std.specs.Prelude.{ℕ, ◌+◌, ◌&&◌, not, Bool, true, false, cond, Option, Some, Result, Ok, Err, List}
+use Rattle.std.specs.Prelude.{ℕ, ◌+◌, ◌&&◌, not, Bool, true, false, cond, Option, Some, Result, Ok, Err, List, []}
 use Rattle.amqp_frames.specs.declared.frame.Frame.{Frame}
 use Rattle.amqp_performatives.specs.declared.performative.Performative.{Performative}
 use Rattle.amqp_performatives.specs.declared.performative.Performative.TheVariants as heard
 use Rattle.amqp_rules.specs.declared.op.Op.{Op}
-use Rattle.amqp_rules.specs.declared.op.Op.TheVariants.{Begin, Attach, Start, Carry, Abort, Dispose, Learn, Grant, Offer, Drained, Refresh, Take, Detach, Suspend, End, Beat}
+use Rattle.amqp_rules.specs.declared.op.Op.TheVariants.{Begin, Attach, Start, Carry, Abort, Dispose, Learn, Grant, Offer, Drained, Refresh, Take, Detach, Suspend, Rejoin, Resume, End, Beat}
 use Rattle.amqp_rules.specs.declared.reply.Reply.{Reply}
 use Rattle.amqp_rules.specs.declared.refusal.Refusal.{Refusal}
 use Rattle.amqp_rules.specs.declared.violation.Violation.{Violation}
@@ -26,6 +26,8 @@ use Rattle.amqp_rules.specs.Refresh.{refresh_answer, next_refresh}
 use Rattle.amqp_rules.specs.Take.{take_answer, next_take}
 use Rattle.amqp_rules.specs.Detach.{detach_answer, next_detach}
 use Rattle.amqp_rules.specs.Suspend.{suspend_answer, next_suspend}
+use Rattle.amqp_rules.specs.Rejoin.{rejoin_answer, next_rejoin}
+use Rattle.amqp_rules.specs.Resume.{resume_answer, next_resume}
 use Rattle.amqp_rules.specs.End.{end_answer, next_end}
 use Rattle.amqp_rules.specs.Beat.{beat_answer, next_beat}
 use Rattle.amqp_rules.specs.PeerBegin.{begin_heard_answer, next_begin_heard}
@@ -39,7 +41,7 @@ use Rattle.amqp_rules.specs.Refusing.{unlinked}
 abbrev pub own_answer : View → Op → Result Reply Refusal
 own_answer v Begin = begin_answer v
 own_answer v (Attach name role snd rcv source target count max_message) =
-    attach_answer v (record { name = name; role = role; snd = snd; rcv = rcv; source = source; target = target; count = count; max_message = max_message })
+    attach_answer v (record { name = name; role = role; snd = snd; rcv = rcv; source = source; target = target; count = count; max_message = max_message; items = [] })
 own_answer v (Start link tag format settled payload more) = start_answer v link tag format settled payload more
 own_answer v (Carry link payload more) = carry_answer v link payload more
 own_answer v (Abort link) = abort_answer v link
@@ -52,13 +54,15 @@ own_answer v (Refresh echo) = refresh_answer v echo
 own_answer v (Take link) = take_answer v link
 own_answer v (Detach link error) = detach_answer v link error
 own_answer v (Suspend link) = suspend_answer v link
+own_answer v (Rejoin r) = rejoin_answer v r
+own_answer v (Resume link tag settled) = resume_answer v link tag settled
 own_answer v (End error) = end_answer v error
 own_answer v Beat = beat_answer v
 
 abbrev pub next_own : View → Op → View
 next_own v Begin = next_begin v
 next_own v (Attach name role snd rcv source target count max_message) =
-    next_attach v (record { name = name; role = role; snd = snd; rcv = rcv; source = source; target = target; count = count; max_message = max_message })
+    next_attach v (record { name = name; role = role; snd = snd; rcv = rcv; source = source; target = target; count = count; max_message = max_message; items = [] })
 next_own v (Start link tag format settled payload more) = next_start v link tag format settled payload more
 next_own v (Carry link payload more) = next_carry v link payload more
 next_own v (Abort link) = next_abort v link
@@ -71,6 +75,8 @@ next_own v (Refresh echo) = next_refresh v
 next_own v (Take link) = next_take v link
 next_own v (Detach link error) = next_detach v link
 next_own v (Suspend link) = next_suspend v link
+next_own v (Rejoin r) = next_rejoin v r
+next_own v (Resume link tag settled) = next_resume v link tag settled
 next_own v (End error) = next_end v
 next_own v Beat = next_beat v
 

@@ -25,6 +25,8 @@ pub mod Refresh
 pub mod Take
 pub mod Detach
 pub mod Suspend
+pub mod Rejoin
+pub mod Resume
 pub mod End
 pub mod Beat
 -- frames that are heard

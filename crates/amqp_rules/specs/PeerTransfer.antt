@@ -8,7 +8,7 @@ use Rattle.amqp_flow.specs.Credit.{CreditView, delivery_begun}
 use Rattle.amqp_events.specs.Event.{Nothing as No_event}
 use Rattle.amqp_events.specs.Numbers.{id_used, one_past}
 use Rattle.amqp_events.specs.Unsettled.{next_held}
-use Rattle.amqp_events.specs.Joined.{Transferred, Delivery, next_delivery, next_unfinished, completed, is_complete}
+use Rattle.amqp_events.specs.Joined.{Transferred, Delivery, next_delivery, next_unfinished, completed, is_given}
 use Rattle.amqp_rules.specs.declared.reply.Reply.{Reply}
 use Rattle.amqp_rules.specs.declared.reply.Given.{Given}
 use Rattle.amqp_rules.specs.declared.reply.Given.TheVariants.{Nothing, Ready}
@@ -16,6 +16,7 @@ use Rattle.amqp_rules.specs.declared.violation.Violation.{Violation}
 use Rattle.amqp_rules.specs.declared.violation.ViolationKind.TheVariants.{OutOfSession, BadHandle, Window, MissingField, IdOrder, TagHeld, Mode, Credit, TooLong}
 use Rattle.amqp_rules.specs.View.{View, LinkView, takes_frames, is_sender, has_peer_handle, snd_mode, rcv_mode, max_of, is_too_long, change_first}
 use Rattle.amqp_events.specs.Tags.{is_tagged}
+use Rattle.amqp_waiting.specs.Waiting.{WaitingItem, waits, without}
 use Rattle.amqp_rules.specs.Deliveries.{transferred, received_by_body, ended_by}
 use Rattle.amqp_rules.specs.Refusing.{first_refusal, answered, if_there, unless, unlinked, of_link}
 
@@ -37,16 +38,18 @@ abbrev pub is_unexpected : Option ℕ → TransferBody → Bool
 is_unexpected None b = false
 is_unexpected (Some id) b = is_other b.delivery_id id
 
--- a delivery that we received on the link and that is unsettled has the tag
-abbrev pub tag_is_taken : View → ℕ → TransferBody → Bool
-tag_is_taken v k b = list_any (is_tagged k (unwrap_or b.delivery_tag [])) v.received
+-- a delivery that we received on the link and that is unsettled has the tag, or one that waits on it and is not brought in by this
+abbrev pub tag_is_taken : View → LinkView → TransferBody → Bool
+tag_is_taken v l b =
+    list_any (is_tagged l.number (unwrap_or b.delivery_tag [])) v.received
+    || not (unwrap_or b.resume false) && waits (unwrap_or b.delivery_tag []) l.waiting
 
 -- what a first transfer violates by its names, and a later one
 abbrev pub name_violations : View → TransferBody → LinkView → Option Delivery → List (Bool × Violation)
 name_violations v b l None =
     (is_nameless b, unlinked MissingField)
     ∷ (is_unexpected v.expected b, unlinked IdOrder)
-    ∷ (tag_is_taken v l.number b, unlinked TagHeld)
+    ∷ (tag_is_taken v l b, unlinked TagHeld)
     ∷ []
 name_violations v b l (Some d) = (is_other b.delivery_id d.id, unlinked IdOrder) ∷ []
 
@@ -81,9 +84,9 @@ transfer_violations v b payload l =
     ∷ (v.windows.incoming == 0, unlinked Window)
     ∷ cond l.left [] (delivery_violations v b payload l)
 
--- a delivery that is complete can be taken
+-- a delivery that is complete can be taken, unless it was brought in
 abbrev pub given_by : ℕ → Delivery → Given
-given_by k d = cond (is_complete d) (Ready k d.id) Nothing
+given_by k d = cond (is_given d) (Ready k d.id) Nothing
 
 abbrev pub transfer_given : TransferBody → LinkView → Given
 transfer_given b l = cond l.left Nothing (given_by l.number (next_delivery (transferred (rcv_mode l) b []) l.receiving))
@@ -103,6 +106,11 @@ abbrev pub credit_used : Option Delivery → CreditView → CreditView
 credit_used None c = delivery_begun c
 credit_used (Some d) c = c
 
+-- a delivery that is brought in by a first transfer waits no longer
+abbrev pub waiting_after : Transferred → Option Delivery → List WaitingItem → List WaitingItem
+waiting_after t None ws = cond t.resumed (without t.tag ws) ws
+waiting_after t (Some d) ws = ws
+
 -- the transfer goes to the unfinished delivery or begins one; a complete one can be taken
 abbrev pub transfer_taken : Transferred → LinkView → LinkView
 transfer_taken t l =
@@ -110,6 +118,7 @@ transfer_taken t l =
       credit = credit_used l.receiving l.credit;
       receiving = next_unfinished t l.receiving;
       ready = l.ready ++ completed (next_delivery t l.receiving);
+      waiting = waiting_after t l.receiving l.waiting;
     }
 
 abbrev pub received_on : TransferBody → List ℕ → LinkView → LinkView

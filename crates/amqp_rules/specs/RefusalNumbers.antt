@@ -1,7 +1,7 @@
--- The numbers by which programs tell a refusal: the order in which they are tested.
+-- The numbers by which programs tell a refusal. They are tested in this order, but that 29 and 30 come directly after 10, and 31 directly after 9.
 use Rattle.std.specs.Prelude.{ℕ}
 use Rattle.amqp_rules.specs.declared.refusal.Refusal.{Refusal}
-use Rattle.amqp_rules.specs.declared.refusal.Refusal.TheVariants.{NotRunning, JournalFull, AlreadyBegun, NotMapped, NoLink, NotAttached, WrongRole, NameInUse, HandleLimit, InDelivery, NotInDelivery, TagHeld, SettleMode, NoCredit, NoWindow, MessageTooLong, BadCredit, CreditRecedes, Draining, NotDraining, BadRange, NothingHeld, MustNotSettle, OutcomeFixed, Nothing, NotWritable, FrameTooBig, NoMemory}
+use Rattle.amqp_rules.specs.declared.refusal.Refusal.TheVariants.{NotRunning, JournalFull, AlreadyBegun, NotMapped, NoLink, NotAttached, WrongRole, NameInUse, HandleLimit, InDelivery, NotInDelivery, TagHeld, SettleMode, NoCredit, NoWindow, MessageTooLong, BadCredit, CreditRecedes, Draining, NotDraining, BadRange, NothingHeld, MustNotSettle, OutcomeFixed, Nothing, NotWritable, FrameTooBig, NoMemory, NotWaiting, Unclear, TagTwice}
 
 abbrev pub refusal_number : Refusal → ℕ
 refusal_number NotRunning = 1
@@ -32,3 +32,6 @@ refusal_number Nothing = 25
 refusal_number NotWritable = 26
 refusal_number FrameTooBig = 27
 refusal_number NoMemory = 28
+refusal_number NotWaiting = 29
+refusal_number Unclear = 30
+refusal_number TagTwice = 31

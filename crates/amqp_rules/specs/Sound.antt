@@ -1,7 +1,10 @@
--- What holds of a session at all times, beside what its steps say: its links are told apart, and its counts stay small.
+-- What holds of a session at all times, beside what its steps say: its links are told apart, its counts stay small, and what waits has tags of its own.
 use Rattle.std.specs.Prelude.{ℕ, ◌≡◌, ◌<◌, ◌≤◌, ◌+◌, ◌==◌, ◌&&◌, ◌||◌, not, Bool, true, false, Option, List, [], ◌∷◌, map, find, is_some, nat_eq}
+use Rattle.std.specs.List.{list_any}
 use Rattle.std.specs.Cmp.Lexicographic.{pointwise}
 use Rattle.amqp_performatives.specs.declared.bodies.Role.{Role}
+use Rattle.amqp_events.specs.Event.{Item}
+use Rattle.amqp_events.specs.Tags.{is_tagged}
 use Rattle.amqp_rules.specs.View.{View, LinkView, EndView, has_handle, holds, is_attached, is_over, is_sender, same_role}
 
 -- P holds of each
@@ -75,3 +78,22 @@ pub record IsLowestFree (links : List LinkView) (h : ℕ) : Type 0 where
 pub record IsUnfinished (l : LinkView) : Type 0 where
   pub sending : is_some l.sending && not (is_attached l && is_sender l.role) ≡ false
   pub receiving : is_some l.receiving && not (is_attached l && not (is_sender l.role)) ≡ false
+
+-- # What waits, beside unsettled deliveries of one direction
+
+-- on the link
+pub record WaitsApart (items : List Item) (l : LinkView) : Type 0 where
+  -- no tag that waits is that of an unsettled delivery
+  pub waiting : Every (λ w. list_any (is_tagged l.number w.tag) items ≡ false) l.waiting
+  -- without our attach there is no unsettled delivery
+  pub bare : is_some l.ours ≡ false → list_any (λ i. i.link == l.number) items ≡ false
+
+pub record AllWaitApart (made : ℕ) (links : List LinkView) (items : List Item) : Type 0 where
+  pub apart : Every (WaitsApart items) links
+  -- the links of unsettled deliveries were made
+  pub below : Every (λ i. i.link < made) items
+
+-- no tag that waits on a link is that of a delivery which is unsettled on it
+pub record IsWaitingApart (v : View) : Type 0 where
+  pub sent : AllWaitApart v.made v.links (map (λ s. s.item) v.sent)
+  pub received : AllWaitApart v.made v.links v.received

@@ -7,6 +7,7 @@ use Rattle.amqp_performatives.specs.declared.performative.Performative.TheVarian
 use Rattle.amqp_flow.specs.Windows.{windows_sent}
 use Rattle.amqp_flow.specs.Credit.{delivery_begun}
 use Rattle.amqp_events.specs.Told.{next_sent_held}
+use Rattle.amqp_waiting.specs.Waiting.{waits}
 use Rattle.amqp_rules.specs.declared.op.Op.TheVariants as own
 use Rattle.amqp_rules.specs.declared.reply.Reply.{Reply}
 use Rattle.amqp_rules.specs.declared.reply.Given.TheVariants.{Delivery}
@@ -36,9 +37,9 @@ start_body handle id tag format settled more =
       batchable = None;
     }))
 
--- an unsettled delivery that we sent on the link has the tag
-abbrev pub tag_is_held : View → ℕ → List ℕ → Bool
-tag_is_held v link tag = list_any (λ s. is_tagged link tag s.item) v.sent
+-- an unsettled delivery that we sent on the link has the tag, or one that waits on it
+abbrev pub tag_is_held : View → LinkView → List ℕ → Bool
+tag_is_held v l tag = list_any (λ s. is_tagged l.number tag s.item) v.sent || waits tag l.waiting
 
 -- the mode settled (1) takes settled deliveries alone, unsettled (0) none
 abbrev pub mode_forbids : ℕ → Bool → Bool
@@ -49,7 +50,7 @@ abbrev pub start_refusals : View → LinkView → List ℕ → Bool → List ℕ
 start_refusals v l tag settled payload =
     attached_as Sender l (
     (is_some l.sending, InDelivery)
-    ∷ (tag_is_held v l.number tag, TagHeld)
+    ∷ (tag_is_held v l tag, TagHeld)
     ∷ (mode_forbids (snd_mode l) settled, SettleMode)
     ∷ (l.credit.credit == 0, NoCredit)
     ∷ (v.windows.remote_incoming == 0, NoWindow)

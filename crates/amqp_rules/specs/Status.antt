@@ -1,10 +1,12 @@
--- The windows and a link, as they are shown.
-use Rattle.std.specs.Prelude.{ℕ, ◌||◌, Bool, cond, Option, option_map, find, is_some, length}
+-- The windows, a link and what waits on it, as they are shown.
+use Rattle.std.specs.Prelude.{ℕ, ◌||◌, Bool, cond, Option, None, Some, option_map, find, is_some, length, List, [], slice_get}
 use Rattle.amqp_performatives.specs.declared.bodies.Role.{Role}
 use Rattle.amqp_performatives.specs.declared.bodies.Role.TheVariants.{Sender, Receiver}
 use Rattle.amqp_flow.specs.Windows.{next_outgoing}
 use Rattle.amqp_flow.specs.Credit.{CreditView, delivery_count}
 use Rattle.amqp_flow.specs.Receiver.{has_open_drain}
+use Rattle.amqp_waiting.specs.declared.item.Verdict.{Verdict}
+use Rattle.amqp_waiting.specs.Waiting.{WaitingItem}
 use Rattle.amqp_rules.specs.declared.status.WindowView.{WindowView}
 use Rattle.amqp_rules.specs.declared.status.LinkStatus.{LinkStatus}
 use Rattle.amqp_rules.specs.declared.status.LinkPhase.{LinkPhase}
@@ -44,3 +46,11 @@ link_status l =
 
 abbrev pub status_of : View → ℕ → Option LinkStatus
 status_of v link = option_map link_status (find (has_number link) v.links)
+
+abbrev pub waiting_of : Option LinkView → List WaitingItem
+waiting_of None = []
+waiting_of (Some l) = l.waiting
+
+-- the tag of the delivery that waits at this place on the link with this number, and what becomes of it; none past the end, or where there is no such link
+abbrev pub waiting_shown : View → ℕ → ℕ → Option (List ℕ × Verdict)
+waiting_shown v link place = option_map (λ w. (w.tag, w.verdict)) (slice_get (waiting_of (find (has_number link) v.links)) place)

@@ -1,10 +1,11 @@
 -- Suspend: a link is put aside (part 2, 2.6.4 and 2.6.6). It is detached and not closed, and what is unsettled on it is given.
-use Rattle.std.specs.Prelude.{ℕ, ◌+◌, ◌==◌, ◌&&◌, not, Bool, false, Option, None, Some, Result, List, map, filter}
+use Rattle.std.specs.Prelude.{ℕ, ◌+◌, ◌==◌, ◌&&◌, not, Bool, false, Option, None, Some, Result, List, ◌++◌, map, filter}
 use Rattle.std.specs.List.{list_any}
 use Rattle.amqp_events.specs.Event.{Item, Leaves}
 use Rattle.amqp_events.specs.Joined.{Delivery}
 use Rattle.amqp_events.specs.Unsettled.{next_held}
 use Rattle.amqp_events.specs.Told.{next_sent_held}
+use Rattle.amqp_waiting.specs.Waiting.{WaitingItem}
 use Rattle.amqp_waiting.specs.declared.item.SuspendedItem.{SuspendedItem}
 use Rattle.amqp_rules.specs.declared.reply.Reply.{Reply}
 use Rattle.amqp_rules.specs.declared.reply.Suspended.{Suspended}
@@ -41,9 +42,13 @@ is_put_aside l i = i.link == l.number && not (is_sending i.id l.sending) && not 
 abbrev pub item_aside : Item → SuspendedItem
 item_aside i = record { tag = i.tag; state = i.local }
 
--- the link, with what of these unsettled deliveries goes with it, in order
+-- and so is one that waits still
+abbrev pub waiting_aside : WaitingItem → SuspendedItem
+waiting_aside w = record { tag = w.tag; state = w.state }
+
+-- the link, with what waits on it, and behind it what of these unsettled deliveries goes with it, in order
 abbrev pub aside_of : LinkView → List Item → Suspended
-aside_of l items = record { name = l.name; role = l.role; items = map item_aside (filter (is_put_aside l) items) }
+aside_of l items = record { name = l.name; role = l.role; items = map waiting_aside l.waiting ++ map item_aside (filter (is_put_aside l) items) }
 
 abbrev pub put_aside : View → LinkView → Suspended
 put_aside v l = aside_of l (held_as v l.role)

@@ -9,6 +9,8 @@ use Rattle.amqp_performatives.specs.declared.bodies.Role.TheVariants.{Sender, Re
 use Rattle.amqp_events.specs.Event.{Item}
 use Rattle.amqp_events.specs.Joined.{Delivery}
 use Rattle.amqp_events.specs.Told.{Telling, SentItem}
+use Rattle.amqp_waiting.specs.Waiting.{WaitingItem}
+use Rattle.amqp_waiting.specs.declared.peer.Unsettled.{Unsettled}
 use Rattle.amqp_rules.specs.declared.config.Config.{Config}
 
 -- How far the session has begun and ended (part 2, 2.5.5): by these four the phases are told apart.
@@ -56,6 +58,10 @@ pub record LinkView : Type 0 where
   pub ready : List Delivery
   -- what was told of our deliveries and not learnt, in order
   pub told : List Telling
+  -- the deliveries that wait to be resumed, in order (part 2, 2.6.13)
+  pub waiting : List WaitingItem
+  -- what the attach of the peer told of its unsettled deliveries, until ours is sent
+  pub offer : Unsettled
 
 pub record View : Type 0 where
   -- how many were accepted
@@ -221,6 +227,10 @@ abbrev pub remove_first : {A : Type 0} → (A → Bool) → List A → List A
 remove_first test [] = []
 remove_first test (l ∷ links) = cond (test l) links (l ∷ remove_first test links)
 
+-- no unsettled delivery was told, and there are no others
+abbrev pub none_told : Unsettled
+none_told = record { told = []; incomplete = false }
+
 -- a link that no attach has spoken of
 abbrev pub new_link : ℕ → Role → List ℕ → LinkView
 new_link k role name =
@@ -237,6 +247,8 @@ new_link k role name =
       receiving = None;
       ready = [];
       told = [];
+      waiting = [];
+      offer = none_told;
     }
 
 abbrev pub not_begun : SessionView

@@ -1,6 +1,6 @@
 //! What an endpoint of AMQP 1.0 answers to each step, and what each step leaves: the types of steps and replies, and the definitions. A step
 //! is an operation of the application, or a frame that is heard of the peer. The definitions are in `specs/`, one file for each kind of step:
-//! a table of refusals or violations in the order of their numbers, the answer, and the change of the view (`specs/View`).
+//! a table of refusals or violations in the order in which they are tested, the answer, and the change of the view (`specs/View`).
 //!
 //! | module | what it has |
 //! |---|---|
@@ -41,8 +41,8 @@
 //!                           +------------------------+-------> gone <-------+
 //! ```
 //!
-//! An attach meets the link of its name and role that waits for it, or else makes one. An end of the session, by either end, takes all links
-//! away.
+//! `Rejoin` does what `Attach` does, and the deliveries that it brings in wait on the link. An attach meets the link of its name and role that waits for
+//! it, or else makes one. An end of the session, by either end, takes all links away.
 //!
 //! # The kinds of step
 //!
@@ -60,6 +60,8 @@
 //! | `Take` | receiver | | `Taken` |
 //! | `Detach` | mapped, attached | detach | |
 //! | `Suspend` | mapped, attached | detach that is not closed | `Suspended` |
+//! | `Rejoin` | mapped | attach that tells what waits | `Link` |
+//! | `Resume` | mapped, attached sender | transfer, unless the peer does not know the delivery | `Resumed` |
 //! | `End` | mapped | end | |
 //! | `Beat` | any | empty frame | |
 //!

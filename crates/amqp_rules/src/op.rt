@@ -4,10 +4,31 @@ ghost use Rattle.std.specs.Prelude.{◌≡◌};
 use amqp_frames::{AmqpError, DeliveryState, Role};
 use amqp_performatives::copying::{copy_error, copy_state, copy_value};
 use amqp_types::{Boxed, Tag, Text, Value};
+use amqp_waiting::Brought;
 use bytes::Bytes;
 use std::alloc::AllocError;
 
-/// An operation of the application.
+/// What a `Rejoin` asks for: what an `Attach` does, and the deliveries that it brings in.
+#[derive(Debug, PartialEq, Eq, Drop)]
+pub struct Rejoin {
+    pub name: Text,
+    /// Our end of it.
+    pub role: Role,
+    /// The sender's settle mode, as in `Attach`.
+    pub snd: u8,
+    /// The receiver's settle mode, as in `Attach`.
+    pub rcv: u8,
+    pub source: Option<Boxed<Value>>,
+    pub target: Option<Boxed<Value>>,
+    /// A sender's first delivery-count; a receiver does not tell it.
+    pub count: u32,
+    /// The longest message that we take, in octets; no limit where it is 0.
+    pub max_message: u64,
+    /// The deliveries that wait on the link from then on, in this order; no two of one tag.
+    pub items: Brought,
+}
+
+/// An operation of the application. What is wide stands behind a pointer, since each entry of a journal has room for the widest.
 #[derive(Debug, PartialEq, Eq, Drop)]
 pub enum Op {
     /// Begins the session, or answers the peer's begin (part 2, 2.5.1).
@@ -96,12 +117,44 @@ pub enum Op {
     Suspend {
         link: u32,
     },
+    /// Attaches a link as `Attach` does, and tells the peer the deliveries that were put aside: they wait on the link to be resumed (part 2, 2.6.3
+    /// and 2.6.13).
+    Rejoin(Boxed<Rejoin>),
+    /// Resumes the delivery with this tag, which waits on a link on which we send, by one transfer without payload (part 2, 2.6.13). One that the
+    /// peer does not know is done with, and nothing is sent; one that it has in part is aborted; another may be settled.
+    Resume {
+        link: u32,
+        tag: Tag,
+        settled: bool,
+    },
     /// Ends the session (part 2, 2.5.2).
     End {
         error: Option<Boxed<AmqpError>>,
     },
     /// Sends an empty frame, so that the peer does not take us for gone (part 2, 2.4.5).
     Beat,
+}
+
+impl Clone for Rejoin {
+    ghost is_clone = { λ a b. b ≡ a };
+
+    fn clone(&self) -> Result<Rejoin, AllocError> {
+        let name = self.name.clone()?;
+        let source = copy_value(&self.source)?;
+        let target = copy_value(&self.target)?;
+        let items = self.items.clone()?;
+        Ok(Rejoin {
+            name,
+            role: self.role,
+            snd: self.snd,
+            rcv: self.rcv,
+            source,
+            target,
+            count: self.count,
+            max_message: self.max_message,
+            items,
+        })
+    }
 }
 
 impl Clone for Op {
@@ -191,6 +244,12 @@ impl Clone for Op {
                 error: copy_error(error)?,
             }),
             Op::Suspend { link } => Ok(Op::Suspend { link: *link }),
+            Op::Rejoin(rejoin) => Ok(Op::Rejoin(rejoin.clone()?)),
+            Op::Resume { link, tag, settled } => Ok(Op::Resume {
+                link: *link,
+                tag: *tag,
+                settled: *settled,
+            }),
             Op::End { error } => Ok(Op::End {
                 error: copy_error(error)?,
             }),

@@ -4,7 +4,9 @@ ghost use Rattle.amqp_rules.specs.RefusalNumbers.{refusal_number};
 
 use thiserror::Error;
 
-/// Why an operation is refused. Where several hold, the one with the lowest number is told; a refused operation has changed nothing.
+/// Why an operation is refused. Where several hold, the one is told that comes first in the table of its operation: the one with the lowest number, but
+/// that `NotWaiting` and `Unclear` come directly after `InDelivery`, and `TagTwice` directly after `HandleLimit`. A refused operation has changed
+/// nothing.
 #[derive(Clone, Copy, Debug, PartialEq, Eq, Error)]
 pub enum Refusal {
     #[error("the connection is not running")]
@@ -63,10 +65,16 @@ pub enum Refusal {
     FrameTooBig,
     #[error("out of memory")]
     NoMemory,
+    #[error("no delivery with the tag waits on the link")]
+    NotWaiting,
+    #[error("the peer has not told whether it knows the delivery")]
+    Unclear,
+    #[error("two of the deliveries have one tag")]
+    TagTwice,
 }
 
 impl Refusal {
-    /// The number by which programs tell it: 1 to 28.
+    /// The number by which programs tell it: 1 to 31.
     pub fn number(&self) -> u8
         ensures { result ≡ refusal_number self.now }
     {
@@ -99,6 +107,9 @@ impl Refusal {
             Refusal::NotWritable => 26,
             Refusal::FrameTooBig => 27,
             Refusal::NoMemory => 28,
+            Refusal::NotWaiting => 29,
+            Refusal::Unclear => 30,
+            Refusal::TagTwice => 31,
         }
     }
 }

@@ -4,7 +4,7 @@ ghost use Rattle.std.specs.Prelude.{◌≡◌, IfOk};
 use amqp_frames::{DeliveryState, Frame, Role};
 use amqp_performatives::copying::copy_state;
 use amqp_types::{Boxed, Items, Tag, Text};
-use amqp_waiting::SuspendedItem;
+use amqp_waiting::{SuspendedItem, Verdict};
 use bytes::Bytes;
 use std::alloc::AllocError;
 
@@ -41,13 +41,23 @@ pub struct Learned {
     pub settled: bool,
 }
 
-/// A link that was put aside: what is unsettled on it, in order. On a link on which we receive, only what was taken.
+/// A link that was put aside: first what waits on it, then what is unsettled, each in order. On a link on which we receive, only what was taken.
 #[derive(Debug, PartialEq, Eq, Drop)]
 pub struct Suspended {
     pub name: Text,
     /// Our end of it.
     pub role: Role,
     pub items: Items<SuspendedItem>,
+}
+
+/// What becomes of a delivery that was resumed.
+#[derive(Debug, PartialEq, Eq, Drop)]
+pub struct Resumed {
+    pub verdict: Verdict,
+    /// The id that it has from then on; None where nothing was sent.
+    pub id: Option<u32>,
+    /// The outcome that the peer told, where it did.
+    pub state: Option<DeliveryState>,
 }
 
 /// What a step tells the application. What is wide stands behind a pointer, since each entry of a journal has room for the widest.
@@ -72,6 +82,8 @@ pub enum Given {
     Suspended(Boxed<Suspended>),
     /// The peer has put this link aside, and it is gone.
     Parted(u32, Boxed<Suspended>),
+    /// A delivery that waited was resumed.
+    Resumed(Boxed<Resumed>),
 }
 
 /// What a step gives: the frames to send, the deliveries that it ended by role and id, and what it tells.
@@ -140,6 +152,19 @@ impl Clone for Suspended {
     }
 }
 
+impl Clone for Resumed {
+    ghost is_clone = { λ a b. b ≡ a };
+
+    fn clone(&self) -> Result<Resumed, AllocError> {
+        let state = copy_state(&self.state)?;
+        Ok(Resumed {
+            verdict: self.verdict,
+            id: self.id,
+            state,
+        })
+    }
+}
+
 impl Clone for Given {
     ghost is_clone = { λ a b. b ≡ a };
 
@@ -156,6 +181,7 @@ impl Clone for Given {
             Given::Learned(learned) => Ok(Given::Learned(learned.clone()?)),
             Given::Suspended(aside) => Ok(Given::Suspended(aside.clone()?)),
             Given::Parted(link, aside) => Ok(Given::Parted(*link, aside.clone()?)),
+            Given::Resumed(resumed) => Ok(Given::Resumed(resumed.clone()?)),
         }
     }
 }

@@ -4,12 +4,12 @@ ghost use Rattle.std.specs.Prelude.{◌≤◌, length};
 use amqp_deliveries::HeldItem;
 use amqp_endpoint::endpoint::Endpoint;
 use amqp_endpoint::refusal::Refusal;
-use amqp_endpoint::reply::{Given, Learned, Reply, Sent, Suspended, Taken};
+use amqp_endpoint::reply::{Given, Learned, Reply, Resumed, Sent, Suspended, Taken};
 use amqp_endpoint::status::{LinkPhase, LinkStatus, WindowView};
 use amqp_endpoint::violation::ViolationKind;
 use amqp_frames::{DeliveryState, Role};
-use amqp_types::Items;
-use amqp_waiting::SuspendedItem;
+use amqp_types::{Items, Tag};
+use amqp_waiting::{SuspendedItem, Verdict};
 use std::fmt;
 use std::fmt::{Formatter, Write};
 
@@ -25,6 +25,8 @@ pub enum Answer<'a> {
     Link(u32, Option<LinkStatus>),
     /// The unsettled deliveries of this role of ours.
     Held(&'a Endpoint, Role),
+    /// The deliveries that wait on the link with this number.
+    Waiting(&'a Endpoint, u32),
     BadLine,
 }
 
@@ -38,6 +40,7 @@ impl fmt::Display for Answer<'_> {
             Answer::Link(link, None) => write!(f, "link {link} none"),
             Answer::Link(link, Some(status)) => write_link(*link, status, f),
             Answer::Held(endpoint, role) => write_held(endpoint, *role, f),
+            Answer::Waiting(endpoint, link) => write_waiting(endpoint, *link, f),
             Answer::BadLine => f.write_str("bad line"),
         }
     }
@@ -72,6 +75,7 @@ pub fn write_given<W: Write>(given: &Given, f: &mut Formatter<W>) -> fmt::Result
             write!(f, "parted:{link}:")?;
             write_aside(aside.get(), f)
         }
+        Given::Resumed(resumed) => write_resumed(resumed.get(), f),
     }
 }
 
@@ -105,6 +109,17 @@ fn write_aside<W: Write>(aside: &Suspended, f: &mut Formatter<W>) -> fmt::Result
 fn write_item_aside<W: Write>(item: &SuspendedItem, f: &mut Formatter<W>) -> fmt::Result {
     write_octets(item.tag.octets(), f)?;
     let state = state_word(&item.state);
+    write!(f, ":{state}")
+}
+
+/// What became of a delivery that was resumed, its id and the outcome that the peer told.
+fn write_resumed<W: Write>(resumed: &Resumed, f: &mut Formatter<W>) -> fmt::Result {
+    write!(f, "resumed:{}:", verdict_word(resumed.verdict))?;
+    match resumed.id {
+        Some(id) => write!(f, "{id}")?,
+        None => f.write_str("-")?,
+    }
+    let state = state_word(&resumed.state);
     write!(f, ":{state}")
 }
 
@@ -219,6 +234,28 @@ fn write_held<W: Write>(endpoint: &Endpoint, role: Role, f: &mut Formatter<W>) -
     Ok(())
 }
 
+/// The tag of each delivery that waits, and what becomes of it, in order.
+fn write_waiting<W: Write>(endpoint: &Endpoint, link: u32, f: &mut Formatter<W>) -> fmt::Result {
+    let Some((tag, verdict)) = endpoint.waiting_at(link, 0) else {
+        return f.write_str("waiting -");
+    };
+    f.write_str("waiting ")?;
+    write_verdict(tag, verdict, f)?;
+    for place in 1..usize::MAX {
+        let Some((tag, verdict)) = endpoint.waiting_at(link, place) else {
+            return Ok(());
+        };
+        f.write_str(",")?;
+        write_verdict(tag, verdict, f)?;
+    }
+    Ok(())
+}
+
+fn write_verdict<W: Write>(tag: &Tag, verdict: Verdict, f: &mut Formatter<W>) -> fmt::Result {
+    write_octets(tag.octets(), f)?;
+    write!(f, ":{}", verdict_word(verdict))
+}
+
 fn write_item<W: Write>(item: &HeldItem, f: &mut Formatter<W>) -> fmt::Result {
     let ours = state_word(&item.local);
     let heard = state_word(&item.remote);
@@ -234,6 +271,16 @@ fn state_word(state: &Option<DeliveryState>) -> &'static str {
         Some(DeliveryState::Released) => "released",
         Some(DeliveryState::Modified { .. }) => "modified",
         Some(DeliveryState::Other(_)) => "other",
+    }
+}
+
+fn verdict_word(verdict: Verdict) -> &'static str {
+    match verdict {
+        Verdict::Unclear => "unclear",
+        Verdict::Absent => "absent",
+        Verdict::Partial => "partial",
+        Verdict::Held => "held",
+        Verdict::Outcome => "outcome",
     }
 }
 

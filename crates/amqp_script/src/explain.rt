@@ -80,6 +80,9 @@ pub fn find_refusal(number: u32) -> Option<Refusal>
         26 => Some(Refusal::NotWritable),
         27 => Some(Refusal::FrameTooBig),
         28 => Some(Refusal::NoMemory),
+        29 => Some(Refusal::NotWaiting),
+        30 => Some(Refusal::Unclear),
+        31 => Some(Refusal::TagTwice),
         _ => None,
     }
 }
@@ -149,6 +152,9 @@ fn refusal_section(refusal: Refusal) -> Section {
         Refusal::OutcomeFixed => Some("part 3, 3.4"),
         Refusal::NotWritable => Some("part 2, 2.7"),
         Refusal::FrameTooBig => Some("part 2, 2.7.1"),
+        Refusal::NotWaiting => Some("part 2, 2.6.13"),
+        Refusal::Unclear => Some("part 2, 2.7.3"),
+        Refusal::TagTwice => Some("part 2, 2.6.12"),
         Refusal::JournalFull => None,
         Refusal::NoLink => None,
         Refusal::Nothing => None,

@@ -5,8 +5,10 @@ ghost use Rattle.amqp_script.specs.declared.line.LineFault.TheVariants.{NoMemory
 use crate::answer::Answer;
 use crate::words::{Words, text};
 use amqp_endpoint::endpoint::Endpoint;
-use amqp_endpoint::op::Op;
+use amqp_endpoint::op::{Op, Rejoin};
 use amqp_frames::{Frame, FrameFault, Framer, Role};
+use amqp_types::Boxed;
+use amqp_waiting::Brought;
 use bytes::Bytes;
 use std::alloc::{AllocError, AllocFailed, Global};
 use thiserror::Error;
@@ -35,6 +37,8 @@ pub enum Question {
     Link(u32),
     /// The unsettled deliveries of this role of ours: `held ROLE`.
     Held(Role),
+    /// The deliveries that wait on the link with this number: `waiting LINK`.
+    Waiting(u32),
 }
 
 impl Question {
@@ -44,6 +48,7 @@ impl Question {
             Question::Windows => Answer::Windows(endpoint.windows()),
             Question::Link(link) => Answer::Link(link, endpoint.status(link)),
             Question::Held(role) => Answer::Held(endpoint, role),
+            Question::Waiting(link) => Answer::Waiting(endpoint, link),
         }
     }
 }
@@ -88,6 +93,7 @@ impl Line {
             b"windows" => ended(words, Line::Ask(Question::Windows)),
             b"link" => read_link(words),
             b"held" => read_held(words),
+            b"waiting" => read_waiting(words),
             word => read_session(alloc, word, words),
         }
     }
@@ -105,6 +111,8 @@ fn read_session(alloc: Global, first: &[u8], words: Words<'_>) -> Result<Line, L
         b"refresh" => read_refresh(words),
         b"detach" => read_detach(words),
         b"suspend" => read_suspend(words),
+        b"rejoin" => read_rejoin(alloc, words),
+        b"resume" => read_resume(words),
         b"end" => ended(words, Line::Own(Op::End { error: None })),
         b"beat" => ended(words, Line::Own(Op::Beat)),
         _ => Err(LineFault::Bad),
@@ -265,6 +273,45 @@ fn read_detach(mut words: Words<'_>) -> Result<Line, LineFault> {
 fn read_suspend(mut words: Words<'_>) -> Result<Line, LineFault> {
     let link = words.number()?;
     ended(words, Line::Own(Op::Suspend { link }))
+}
+
+/// `ROLE NAME SND RCV COUNT MAX ITEMS`, without source and target
+fn read_rejoin(alloc: Global, mut words: Words<'_>) -> Result<Line, LineFault> {
+    let role = words.role()?;
+    let name = words.word()?;
+    let snd = words.octet()?;
+    let rcv = words.octet()?;
+    let count = words.number()?;
+    let max_message = words.long()?;
+    let items = Brought::new(alloc, words.items(alloc)?)?;
+    words.end()?;
+    let name = text(alloc, name)?;
+    let rejoin = Rejoin {
+        name,
+        role,
+        snd,
+        rcv,
+        source: None,
+        target: None,
+        count,
+        max_message,
+        items,
+    };
+    Ok(Line::Own(Op::Rejoin(Boxed::new(alloc, rejoin)?)))
+}
+
+/// `LINK TAG SETTLED`
+fn read_resume(mut words: Words<'_>) -> Result<Line, LineFault> {
+    let link = words.number()?;
+    let tag = words.tag()?;
+    let settled = words.truth()?;
+    ended(words, Line::Own(Op::Resume { link, tag, settled }))
+}
+
+/// `LINK`
+fn read_waiting(mut words: Words<'_>) -> Result<Line, LineFault> {
+    let link = words.number()?;
+    ended(words, Line::Ask(Question::Waiting(link)))
 }
 
 /// `LINK`

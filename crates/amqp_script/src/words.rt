@@ -5,7 +5,8 @@ ghost use Rattle.amqp_script.specs.Words.{words, octets_of, truth_of};
 
 use crate::line::LineFault;
 use amqp_frames::{DeliveryState, Role};
-use amqp_types::{Tag, Text};
+use amqp_types::{Items, Tag, Text};
+use amqp_waiting::SuspendedItem;
 use std::alloc::Global;
 
 /// The words of a line that were not taken yet. One space stands between two words, so two spaces have an empty word
@@ -65,6 +66,11 @@ impl<'a> Words<'a> {
     /// A tag in hexadecimal, or `-` for the one without octets.
     pub fn tag(&mut self) -> Result<Tag, LineFault> {
         tag(self.word()?).ok_or(LineFault::Bad)
+    }
+
+    /// Deliveries that were put aside, as `TAG:STATE` joined by commas, or `-` for none.
+    pub fn items(&mut self, alloc: Global) -> Result<Items<SuspendedItem>, LineFault> {
+        items(alloc, self.word()?)
     }
 
     /// Octets in hexadecimal, or `-` for none.
@@ -209,6 +215,29 @@ fn tag(word: &[u8]) -> Option<Tag> {
             Tag::new(held)
         }
     }
+}
+
+/// Each `TAG:STATE` between commas; `-` for none.
+fn items(alloc: Global, word: &[u8]) -> Result<Items<SuspendedItem>, LineFault> {
+    let mut items = Items::new(alloc);
+    if word == b"-".as_slice() {
+        return Ok(items);
+    }
+    for part in word.split(|octet| *octet == b',') {
+        items.push(item(part)?)?;
+    }
+    Ok(items)
+}
+
+/// `TAG:STATE`
+fn item(part: &[u8]) -> Result<SuspendedItem, LineFault> {
+    let colon = part.iter().position(|octet| *octet == b':');
+    let Some(colon) = colon else {
+        return Err(LineFault::Bad);
+    };
+    let tag = tag(&part[..colon]).ok_or(LineFault::Bad)?;
+    let state = state(&part[colon + 1..])?;
+    Ok(SuspendedItem { tag, state })
 }
 
 fn octets(alloc: Global, word: &[u8]) -> Result<Vec<u8>, LineFault>

@@ -182,7 +182,7 @@ fn numbers_are_explained(rt: HostRuntime) -> Result<(), Fail> {
 #[test]
 fn each_number_is_found(rt: HostRuntime) -> Result<(), Fail> {
     for number in 0..40 {
-        assert_eq!(rt; find_refusal(number).is_some(), 1 <= number && number <= 28);
+        assert_eq!(rt; find_refusal(number).is_some(), 1 <= number && number <= 31);
         assert_eq!(rt;
             find_violation(number).is_some(),
             1 <= number && number <= 15

@@ -65,9 +65,18 @@ use Rattle.amqp_frames.specs.contracts.frame.Frame as frame
 use Rattle.amqp_rules.specs.contracts.reply.Sent as sent
 use Rattle.amqp_rules.specs.contracts.reply.Learned as learned
 use Rattle.amqp_waiting.specs.contracts.item.SuspendedItem as suspended_item
+use Rattle.indexmap.proofs.map.IndexMap.TheSendSync as index_map
+use Rattle.amqp_waiting.proofs.key.Key.TheSendSync as key
+use Rattle.amqp_waiting.specs.contracts.item.Standing as standing
+use Rattle.amqp_waiting.specs.contracts.waiting.Waiting as resumable
+use Rattle.amqp_waiting.specs.contracts.peer.Told as told
+use Rattle.amqp_waiting.specs.contracts.peer.Unsettled as unsettled
 use Rattle.amqp_rules.specs.contracts.reply.Suspended as suspended
+use Rattle.amqp_rules.specs.contracts.reply.Resumed as resumed
 use Rattle.amqp_rules.specs.contracts.reply.Given as given
 use Rattle.amqp_rules.specs.contracts.reply.Reply as reply
+use Rattle.amqp_waiting.specs.contracts.brought.Brought as brought
+use Rattle.amqp_rules.specs.contracts.op.Rejoin as rejoin
 use Rattle.amqp_rules.specs.contracts.op.Op as op
 use Rattle.amqp_laws.specs.contracts.entry.Step as step
 use Rattle.amqp_laws.specs.contracts.entry.Entry as entry
@@ -76,6 +85,8 @@ use Rattle.amqp_deliveries.specs.contracts.item.Entry as held_entry
 use Rattle.amqp_deliveries.specs.contracts.held.Held as held
 use Rattle.amqp_deliveries.specs.contracts.disposition.Telling as telling
 use Rattle.amqp_deliveries.specs.contracts.tables.Tables as tables
+use Rattle.amqp_links.specs.contracts.resuming.Kept as kept
+use Rattle.amqp_links.specs.contracts.resuming.Resuming as resuming
 use Rattle.amqp_links.specs.contracts.link.Link as link
 use Rattle.amqp_links.specs.contracts.links.Links as links
 use Rattle.amqp_endpoint.specs.contracts.stores.Stores as stores
@@ -149,14 +160,23 @@ suspended_item_send = search (sendable, crosses, tag.the_send, delivery_state_se
 pub suspended_send : IsSend (suspended.the_field).row
 suspended_send = search (sendable, crosses, text.the_send, items_crosses.the_send, suspended_item_send) depth 40 fits 20000
 
+pub resumed_send : IsSend (resumed.the_field).row
+resumed_send = search (sendable, crosses, delivery_state_send) depth 40 fits 20000
+
 pub given_send : IsSend (given.the_field).row
-given_send = search (sendable, crosses, taken_crosses.the_send, learned_send, suspended_send, bytes_send, tag.the_send) depth 40 fits 20000
+given_send = search (sendable, crosses, taken_crosses.the_send, learned_send, suspended_send, resumed_send, bytes_send, tag.the_send) depth 40 fits 20000
 
 pub reply_send : IsSend (reply.the_field).row
 reply_send = search (sendable, crosses, items_crosses.the_send, sent_send, given_send) depth 40 fits 20000
 
+pub brought_send : IsSend (brought.the_field).row
+brought_send = search (sendable, crosses, items_crosses.the_send, pair_send, value_send, suspended_item_send) depth 40 fits 20000
+
+pub rejoin_send : IsSend (rejoin.the_field).row
+rejoin_send = search (sendable, crosses, text.the_send, boxed.the_send, value_send, brought_send) depth 40 fits 20000
+
 pub op_send : IsSend (op.the_field).row
-op_send = search (sendable, crosses, text.the_send, tag.the_send, bytes_send, boxed.the_send, value_send, delivery_state_send, amqp_error_send) depth 40 fits 20000
+op_send = search (sendable, crosses, text.the_send, tag.the_send, bytes_send, boxed.the_send, value_send, delivery_state_send, amqp_error_send, rejoin_send) depth 40 fits 20000
 
 pub step_send : IsSend (step.the_field).row
 step_send = search (sendable, crosses, op_send, frame_send) depth 40 fits 20000
@@ -179,8 +199,26 @@ telling_send = search (sendable, crosses, tag.the_send, delivery_state_send, hel
 pub tables_send : IsSend (tables.the_field).row
 tables_send = search (sendable, crosses, held_send) depth 40 fits 20000
 
+pub standing_send : IsSend (standing.the_field).row
+standing_send = search (sendable, crosses, delivery_state_send) depth 40 fits 20000
+
+pub resumable_send : IsSend (resumable.the_field).row
+resumable_send = search (sendable, crosses, index_map.the_send, key.the_send, standing_send, heap.the_send, frees) depth 40 fits 20000
+
+pub told_send : IsSend (told.the_field).row
+told_send = search (sendable, crosses, tag.the_send, delivery_state_send) depth 40 fits 20000
+
+pub unsettled_send : IsSend (unsettled.the_field).row
+unsettled_send = search (sendable, crosses, items_crosses.the_send, told_send) depth 40 fits 20000
+
+pub kept_send : IsSend (kept.the_field).row
+kept_send = search (sendable, crosses, resumable_send, unsettled_send) depth 40 fits 20000
+
+pub resuming_send : IsSend (resuming.the_field).row
+resuming_send = search (sendable, crosses, kept_send) depth 40 fits 20000
+
 pub link_send : IsSend (link.the_field).row
-link_send = search (sendable, crosses, text.the_send, end_crosses.the_send, credit_crosses.the_send, sending_crosses.the_send, unfinished_crosses.the_send, waiting_crosses.the_send, telling_send) depth 40 fits 20000
+link_send = search (sendable, crosses, text.the_send, end_crosses.the_send, credit_crosses.the_send, sending_crosses.the_send, unfinished_crosses.the_send, waiting_crosses.the_send, telling_send, resuming_send) depth 40 fits 20000
 
 pub links_send : IsSend (links.the_field).row
 links_send = search (sendable, crosses, link_send, slab_crosses.the_send, btree_crosses.the_send, heap.the_send, heap.the_sync) depth 40 fits 20000

@@ -82,6 +82,8 @@ fits (op.Drained link) k l gives h = tt
 fits (op.Refresh echo) k l gives h = tt
 fits (op.Detach link error) k l gives h = tt
 fits (op.Suspend link) k l gives h = tt
+fits (op.Rejoin r) k l gives h = tt
+fits (op.Resume link tag settled) k l gives h = tt
 fits (op.End error) k l gives h = tt
 fits op.Beat k l gives h = tt
 

@@ -62,6 +62,7 @@ Fits (op.Take link) (given.Ready k id) = ⊥
 Fits (op.Take link) (given.Learned t) = ⊥
 Fits (op.Take link) (given.Suspended s) = ⊥
 Fits (op.Take link) (given.Parted k s) = ⊥
+Fits (op.Take link) (given.Resumed r) = ⊥
 Fits o gives = Unit {0}
 
 -- what is told where a call does not wait on

@@ -66,11 +66,14 @@ pub use amqp_conn::{
 pub use amqp_frames::{AmqpError, CloseBody, DeliveryState, Frame, OpenBody, Role};
 pub use amqp_journal::receipt::Receipt;
 pub use amqp_journal::unit::Unit;
-pub use amqp_rules::op::Op;
+pub use amqp_links::end::End as LinkEnd;
+pub use amqp_links::link::Link;
+pub use amqp_rules::op::{Op, Rejoin};
 pub use amqp_rules::refusal::Refusal;
-pub use amqp_rules::reply::{Given, Learned, Taken};
+pub use amqp_rules::reply::{Given, Learned, Resumed, Suspended, Taken};
 pub use amqp_rules::violation::{Violation, ViolationKind};
 pub use amqp_types::{Boxed, Tag, Text};
+pub use amqp_waiting::{Brought, SuspendedItem, Verdict};
 pub use bytes::Bytes;
 pub use close::{Closed, NotClosed};
 pub use consumers::{Consumed, Work, run_consumers, run_consumers_with};

@@ -145,7 +145,9 @@ pub(crate) fn brought_by(op: &Op) -> Change
         Op::Detach { .. } | Op::Suspend { .. } | Op::End { .. } => Change::Ends,
         Op::Begin
         | Op::Attach { .. }
+        | Op::Rejoin(_)
         | Op::Start { .. }
+        | Op::Resume { .. }
         | Op::Carry { .. }
         | Op::Abort { .. }
         | Op::Dispose { .. }
@@ -219,6 +221,7 @@ fn by_step(step: &Step, given: &Given) -> Change
         | Given::Learned(_)
         | Given::Suspended(_)
         | Given::Parted(_, _)
+        | Given::Resumed(_)
         | Given::Nothing => in_step(step),
     }
 }

@@ -59,7 +59,7 @@ split_there : (es : List (Key × Standing)) (n : ℕ) (e : Key × Standing) → 
 split_there es n e h =
     sym (take-append-drop n es) ∙ ap (λ l. take n es ++ l) (drop-cons es n e (slice_get_within es n e h) ∙ ap (λ x. x ∷ drop (suc n) es) (get_or_from_slice_get es n e e h))
 
-more : (es : List (Key × Standing)) (n : ℕ) (e : Key × Standing) → slice_get es n ≡ Some e → take (n + 1) es ≡ take n es ++ e ∷ []
+pub more : (es : List (Key × Standing)) (n : ℕ) (e : Key × Standing) → slice_get es n ≡ Some e → take (n + 1) es ≡ take n es ++ e ∷ []
 more es n e h = take_more es n e (slice_get_within es n e h) ∙ ap (λ x. take n es ++ x ∷ []) (get_or_from_slice_get es n e e h)
 
 with_one : (role : Role) (u : Unsettled) (es : List (Key × Standing)) (n : ℕ) (e : Key × Standing) (o : Option (Key × Standing)) → slice_get es n ≡ Some e → met_entry role u e ≡ o

@@ -11,7 +11,7 @@ use Rattle.amqp_waiting.specs.declared.item.Verdict.TheVariants.{Held}
 use Rattle.amqp_waiting.specs.declared.peer.Told.{Told}
 use Rattle.amqp_waiting.specs.declared.item.SuspendedItem.{SuspendedItem}
 use Rattle.amqp_waiting.specs.declared.peer.Unsettled.{Unsettled}
-use Rattle.amqp_waiting.specs.Waiting.{WaitingItem, same_tag, sender_verdict, met_item, unclear}
+use Rattle.amqp_waiting.specs.Waiting.{WaitingItem, same_tag, sender_verdict, met_item, suspended_as, unclear}
 use Rattle.amqp_waiting.specs.declared.key.Key.{Key}
 use Rattle.indexmap.specs.IndexMap.{insert_entry}
 use Rattle.amqp_waiting.specs.declared.item.Standing.{Standing}
@@ -32,6 +32,10 @@ entry_of w = (record { tag = w.tag }, record { state = w.state; verdict = w.verd
 -- the entries that stay when both attaches are there
 abbrev pub met_entry : Role → Unsettled → Key × Standing → Option (Key × Standing)
 met_entry role u e = option_map entry_of (met_item role u (shown e))
+
+-- what waits as an entry, as it is put aside again
+abbrev pub suspended_entry : Key × Standing → SuspendedItem
+suspended_entry e = suspended_as (shown e)
 
 -- what an item waits as before
 abbrev pub unclear_entry : SuspendedItem → Key × Standing

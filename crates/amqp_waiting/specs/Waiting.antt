@@ -78,3 +78,7 @@ met role u ws = filter_map (met_item role u) ws
 -- the delivery with the tag waits no longer
 abbrev pub without : List ℕ → List WaitingItem → List WaitingItem
 without tag ws = filter (λ w. not (waits_as tag w)) ws
+
+-- as it is put aside again
+abbrev pub suspended_as : WaitingItem → SuspendedItem
+suspended_as w = record { tag = w.tag; state = w.state }

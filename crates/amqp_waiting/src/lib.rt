@@ -6,7 +6,7 @@
 //! | `peer` | what the peer's attach tells of its own unsettled deliveries |
 //! | `waiting`, `key`, `places` | the list of those that wait on one link, found by tag; where the peer told each tag |
 //! | `heard` | the peer's map of unsettled deliveries, read from its values |
-//! | `sent` | the map that an attach of ours tells |
+//! | `sent`, `brought` | the map that an attach of ours tells, and the deliveries that it brings in |
 //! | `laws` | what holds of both maps |
 //!
 //! A link that is brought back has [`Waiting::new`] of its items, which go into its attach by [`map_of`]. The peer's attach tells what the peer has
@@ -24,6 +24,7 @@
 //! A call that is refused memory changes nothing.
 #![tactic(auto)]
 
+mod brought;
 mod heard;
 mod item;
 mod key;
@@ -33,6 +34,7 @@ mod places;
 mod sent;
 mod waiting;
 
+pub use brought::Brought;
 pub use heard::unsettled_of;
 pub use item::{Standing, SuspendedItem, Verdict, has_twice};
 pub use laws::told_is_read;

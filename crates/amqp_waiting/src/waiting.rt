@@ -1,7 +1,7 @@
 //! The deliveries that wait on a link.
 ghost use Rattle.std.specs.Prelude.{◌≡◌, [], false, find, map, IfOk, OnOk, OnErr, MatchOption, filter_map, None, Some, length, slice_get, option_copied, option_map, ◌<◌};
-ghost use Rattle.amqp_waiting.specs.Waiting.{WaitingItem, waits_as, waits, without, told_of, met_item, met, unclear, has_twice};
-ghost use Rattle.amqp_waiting.specs.Kept.{standing_of, same_key, met_entry, put_where};
+ghost use Rattle.amqp_waiting.specs.Waiting.{WaitingItem, waits_as, waits, without, told_of, met_item, met, suspended_as, unclear, has_twice};
+ghost use Rattle.amqp_waiting.specs.Kept.{standing_of, same_key, met_entry, put_where, suspended_entry};
 ghost use Rattle.indexmap.specs.IndexMap.{insert_entry, IsUnique};
 
 use crate::item::{Standing, SuspendedItem, Verdict};
@@ -119,6 +119,32 @@ fn met_entries(
     Ok(entries)
 }
 
+/// What waits under this key, as it is put aside.
+fn put_aside(key: &Key, standing: &Standing) -> Result<SuspendedItem, AllocError>
+    ensures { IfOk result (λ s. s ≡ suspended_as (standing_of key.now.tag standing.now)) }
+{
+    let state = copy_state(&standing.state)?;
+    Ok(SuspendedItem {
+        tag: key.tag,
+        state,
+    })
+}
+
+/// All of them, as they are put aside.
+fn suspended_entries(items: &IndexMap<Key, Standing>) -> Result<Vec<SuspendedItem>, AllocError>
+    ensures { IfOk result (λ v. v.items ≡ map suspended_entry items.now.entries) }
+{
+    let mut aside = Vec::new(*items.allocator());
+    let all = items.as_slice();
+    let mut place = 0;
+    while let Some((key, standing)) = all.get_index(place) {
+        let item = put_aside(key, standing)?;
+        aside.push(item)?;
+        place += 1;
+    }
+    Ok(aside)
+}
+
 impl Waiting {
     /// None. It allocates nothing.
     pub fn empty(alloc: Global) -> Waiting
@@ -150,8 +176,16 @@ impl Waiting {
         Ok(Waiting { items: entries })
     }
 
-    /// Both attaches are there: each item gets its verdict and the peer's state, by what the peer's attach tells. Of deliveries that were received
-    /// those that the peer did not tell wait no longer, unless it did not tell all. Where memory is refused nothing has changed.
+    /// What waits once both attaches are there: each item with its verdict and the peer's state, by what the peer's attach tells. Of deliveries that
+    /// were received those that the peer did not tell wait no longer, unless it did not tell all.
+    pub fn met(&self, role: Role, unsettled: &Unsettled) -> Result<Waiting, AllocError>
+        ensures { IfOk result (λ w. w ≡ met role unsettled.now self.now) }
+    {
+        let items = met_entries(&self.items, role, unsettled)?;
+        Ok(Waiting { items })
+    }
+
+    /// Both attaches are there: it becomes what [`Waiting::met`] tells. Where memory is refused nothing has changed.
     pub fn meet(&mut self, role: Role, unsettled: &Unsettled) -> Result<(), AllocError>
         ensures met { OnOk result (self.new ≡ met role unsettled.now self.old) }
         ensures err { OnErr result (self.new ≡ self.old) }
@@ -159,6 +193,13 @@ impl Waiting {
         let entries = met_entries(&self.items, role, unsettled)?;
         self.items = entries;
         Ok(())
+    }
+
+    /// Those that wait, as they are put aside: in their order, each with our state.
+    pub fn suspended(&self) -> Result<Vec<SuspendedItem>, AllocError>
+        ensures { IfOk result (λ v. v.items ≡ map suspended_as self.now) }
+    {
+        suspended_entries(&self.items)
     }
 
     /// The delivery with this tag waits no longer.

@@ -11,7 +11,7 @@ use Rattle.amqp_performatives.specs.declared.performative.Performative.TheVarian
 use Rattle.amqp_frames.specs.declared.frame.Frame.{Frame}
 use Rattle.amqp_rules.specs.declared.config.Config.{Config}
 use Rattle.amqp_rules.specs.declared.op.Op.{Op}
-use Rattle.amqp_rules.specs.declared.op.Op.TheVariants.{Dispose}
+use Rattle.amqp_rules.specs.declared.op.Op.TheVariants.{Dispose, Rejoin, Resume}
 use Rattle.amqp_rules.specs.declared.reply.Reply.{Reply}
 use Rattle.amqp_rules.specs.declared.reply.Given.{Given}
 use Rattle.amqp_rules.specs.Limits.{IsWithinLimits}
@@ -26,9 +26,9 @@ use Rattle.amqp_laws.specs.Lawful.{Answers}
 use Rattle.amqp_journal.specs.Log.{Log, Appends, logging, own_due, heard_due}
 use Rattle.amqp_pair_laws.specs.Moves.{and_one, count, said_as}
 use Rattle.amqp_pair_laws.specs.World.{IsFair, World, hears, sends}
-use Rattle.amqp_pair_laws.specs.Premise.{KeepsToHeard, ids_heard}
+use Rattle.amqp_pair_laws.specs.Premise.{IsPlain, KeepsToHeard, ids_heard}
 use Rattle.amqp_pair_laws.proofs.Lag.{and_one-few}
-use Rattle.amqp_world.specs.Calls.{waiting}
+use Rattle.amqp_world.specs.Calls.{resumes, waiting}
 use Rattle.amqp_world.specs.declared.heard.Hearing.{Hearing}
 use Rattle.amqp_world.specs.Knowing.{Knows, Meets, having_done, having_heard, reaches_ahead, serials}
 use Rattle.amqp_world.proofs.Places.{back-one, count-stays, count-there}
@@ -47,11 +47,11 @@ pub back-logged : (l : Log) (step : Step) (reply : Reply) → past (logging l st
 back-logged l step reply = back-one l.journal (record { step = step; reply = reply })
 
 -- an entry that was appended is fair
-pub fair-there : (l : Log) (step : Step) (reply : Reply) → IsWithinLimits l.config → length l.journal < l.config.journal_limit → Answers (at l.config (past l.journal)) step reply → KeepsToHeard step (past l.journal)
+pub fair-there : (l : Log) (step : Step) (reply : Reply) → IsWithinLimits l.config → length l.journal < l.config.journal_limit → Answers (at l.config (past l.journal)) step reply → KeepsToHeard step (past l.journal) → IsPlain step
     → IsFair l.config (record { step = step; reply = reply }) (past l.journal)
-fair-there l step reply limits room answers told =
+fair-there l step reply limits room answers told plain =
     let same : length (past l.journal) ≡ length l.journal = length-reverse l.journal in
-    record { limits = limits; room = omega (arith, same, room); answers = answers; told = told }
+    record { limits = limits; room = omega (arith, same, room); answers = answers; told = told; plain = plain }
 
 -- # What the other end hears
 
@@ -65,6 +65,7 @@ pub record Goes (mine theirs : Log) (step : Step) (reply : Reply) : Type 0 where
   pub room : length mine.journal < mine.config.journal_limit
   pub answers : Answers (at mine.config (past mine.journal)) step reply
   pub told : KeepsToHeard step (past mine.journal)
+  pub plain : IsPlain step
   pub next : HearsNext step mine theirs
 
 -- the move, at the end that hears
@@ -74,8 +75,8 @@ world-hears mine theirs step reply moves g w =
     subst (λ (p : List Entry). World theirs.config mine.config (suc moves) (past theirs.journal) p) (sym (back-logged mine step reply)) (by step g)
   where
     by : (step : Step) → Goes mine theirs step reply → World theirs.config mine.config (suc moves) (past theirs.journal) (record { step = step; reply = reply } ∷ past mine.journal)
-    by (Heard f) g = inr (w, record { fair = fair-there mine (Heard f) reply g.limits g.room g.answers g.told; next = g.next })
-    by step g = inr (w, record { fair = fair-there mine step reply g.limits g.room g.answers g.told; next = tt })
+    by (Heard f) g = inr (w, record { fair = fair-there mine (Heard f) reply g.limits g.room g.answers g.told g.plain; next = g.next })
+    by step g = inr (w, record { fair = fair-there mine step reply g.limits g.room g.answers g.told g.plain; next = tt })
 
 -- and at the end that is heard
 world-heard : (mine theirs : Log) (step : Step) (reply : Reply) (moves : ℕ) → Goes mine theirs step reply → World mine.config theirs.config moves (past mine.journal) (past theirs.journal)
@@ -84,8 +85,8 @@ world-heard mine theirs step reply moves g w =
     subst (λ (p : List Entry). World mine.config theirs.config (suc moves) p (past theirs.journal)) (sym (back-logged mine step reply)) (by step g)
   where
     by : (step : Step) → Goes mine theirs step reply → World mine.config theirs.config (suc moves) (record { step = step; reply = reply } ∷ past mine.journal) (past theirs.journal)
-    by (Heard f) g = inl (w, record { fair = fair-there mine (Heard f) reply g.limits g.room g.answers g.told; next = g.next })
-    by step g = inl (w, record { fair = fair-there mine step reply g.limits g.room g.answers g.told; next = tt })
+    by (Heard f) g = inl (w, record { fair = fair-there mine (Heard f) reply g.limits g.room g.answers g.told g.plain; next = g.next })
+    by step g = inl (w, record { fair = fair-there mine step reply g.limits g.room g.answers g.told g.plain; next = tt })
 
 -- the other end meets it as before
 pub met : (h : Hearing) (mine theirs : Log) (step : Step) (reply : Reply) → Goes mine theirs step reply → Meets h theirs mine → Meets h theirs (logging mine step reply)
@@ -207,10 +208,15 @@ knows-heard ca cb n a h mine f reply k first w waits fair =
 
 -- # Calls
 
+is-plain : (op : Op) → resumes op ≡ false → IsPlain (Own op)
+is-plain (Rejoin r) h = absurd (cc (h))
+is-plain (Resume link tag settled) h = absurd (cc (h))
+is-plain _ h = tt
+
 -- an operation that keeps to what was heard
 goes-own : (h : Hearing) (mine theirs : Log) (op : Op) (reply : Reply) → IsWithinLimits mine.config → length mine.journal < mine.config.journal_limit → Answers (at mine.config (past mine.journal)) (Own op) reply
-    → KeepsToHeard (Own op) (past mine.journal) → Goes mine theirs (Own op) reply
-goes-own h mine theirs op reply limits room answers told = record { limits = limits; room = room; answers = answers; told = told; next = tt }
+    → KeepsToHeard (Own op) (past mine.journal) → resumes op ≡ false → Goes mine theirs (Own op) reply
+goes-own h mine theirs op reply limits room answers told plain = record { limits = limits; room = room; answers = answers; told = told; plain = is-plain op plain; next = tt }
 
 done-meets : (h : Hearing) (mine theirs : Log) (op : Op) (reply : Reply) → Goes mine theirs (Own op) reply → Meets h mine theirs → Meets (having_done op h) (logging mine (Own op) reply) theirs
 done-meets h mine theirs op reply g m =
@@ -226,21 +232,21 @@ done-meets h mine theirs op reply g m =
       all = m.all ∙ sym (ap (λ (p : List Entry). count hears p) (back-logged mine (Own op) reply));
     }
 
-pub own-meets : (h : Hearing) (mine new theirs : Log) (op : Op) (given : Given) → KeepsToHeard (Own op) (past mine.journal) → Appends mine (Own op) (own_due mine op) given new → Meets h mine theirs
+pub own-meets : (h : Hearing) (mine new theirs : Log) (op : Op) (given : Given) → KeepsToHeard (Own op) (past mine.journal) → resumes op ≡ false → Appends mine (Own op) (own_due mine op) given new → Meets h mine theirs
     → Meets (having_done op h) new theirs
-own-meets h mine new theirs op given told h' m =
+own-meets h mine new theirs op given told plain h' m =
     let a = own-appended mine new op given h' in
-    subst (λ (l : Log). Meets (having_done op h) l theirs) (sym a.is) (done-meets h mine theirs op a.reply (goes-own h mine theirs op a.reply m.limits a.room a.answers told) m)
+    subst (λ (l : Log). Meets (having_done op h) l theirs) (sym a.is) (done-meets h mine theirs op a.reply (goes-own h mine theirs op a.reply m.limits a.room a.answers told plain) m)
 
-pub own-met : (h : Hearing) (mine new theirs : Log) (op : Op) (given : Given) → KeepsToHeard (Own op) (past mine.journal) → Appends mine (Own op) (own_due mine op) given new → Meets h theirs mine
+pub own-met : (h : Hearing) (mine new theirs : Log) (op : Op) (given : Given) → KeepsToHeard (Own op) (past mine.journal) → resumes op ≡ false → Appends mine (Own op) (own_due mine op) given new → Meets h theirs mine
     → Meets h theirs new
-own-met h mine new theirs op given told h' m =
+own-met h mine new theirs op given told plain h' m =
     let a = own-appended mine new op given h' in
-    subst (λ (l : Log). Meets h theirs l) (sym a.is) (met h mine theirs (Own op) a.reply (goes-own h mine theirs op a.reply m.their_limits a.room a.answers told) m)
+    subst (λ (l : Log). Meets h theirs l) (sym a.is) (met h mine theirs (Own op) a.reply (goes-own h mine theirs op a.reply m.their_limits a.room a.answers told plain) m)
 
 goes-heard : (mine theirs : Log) (f : Frame) (reply : Reply) → IsWithinLimits mine.config → length mine.journal < mine.config.journal_limit → Answers (at mine.config (past mine.journal)) (Heard f) reply
     → waiting mine theirs ≡ Some f → Goes mine theirs (Heard f) reply
-goes-heard mine theirs f reply limits room answers waits = record { limits = limits; room = room; answers = answers; told = tt; next = waits }
+goes-heard mine theirs f reply limits room answers waits = record { limits = limits; room = room; answers = answers; told = tt; plain = tt; next = waits }
 
 -- the place of the frame's entry was found
 pub record IsThere (h : Hearing) (theirs : Log) (f : Frame) : Type 0 where
@@ -259,7 +265,7 @@ heard-by h mine theirs f reply g there m =
       world = world-hears mine theirs (Heard f) reply m.moves g m.world;
       knows =
           subst (λ (p : List Entry). Knows (having_heard f h) p) (sym (back-logged mine (Heard f) reply))
-          (knows-heard theirs.config mine.config m.moves (past theirs.journal) h (past mine.journal) f reply m.knows m.first m.world g.next (fair-there mine (Heard f) reply g.limits g.room g.answers g.told));
+          (knows-heard theirs.config mine.config m.moves (past theirs.journal) h (past mine.journal) f reply m.knows m.first m.world g.next (fair-there mine (Heard f) reply g.limits g.room g.answers g.told g.plain));
       first = m.first;
       within = omega (arith, inside);
       all =

@@ -30,7 +30,7 @@ use Rattle.amqp_world.specs.Promises.{AreReached, HasHeardAll, HasWhatItSaid, He
 -- # The start
 
 fair-open : (c : Config) (max_frame : ℕ) → IsWithinLimits c → IsFair c (record { step = Opened max_frame; reply = no_reply }) []
-fair-open c max_frame limits = record { limits = limits; room = (let some : 1 ≤ c.journal_limit = limits.some in omega (arith, some)); answers = refl; told = tt }
+fair-open c max_frame limits = record { limits = limits; room = (let some : 1 ≤ c.journal_limit = limits.some in omega (arith, some)); answers = refl; told = tt; plain = tt }
 
 pub start-meets : (mine theirs : Config) (max_frame their_max : ℕ) → IsWithinLimits mine → IsWithinLimits theirs → Meets (unheard theirs.first_id) (opened mine max_frame) (opened theirs their_max)
 start-meets mine theirs max_frame their_max limits their_limits =

@@ -1,5 +1,5 @@
 -- The ids of the first transfers that were sent, and of those that were heard: the serial numbers from the sender's first one on.
-use Rattle.std.proofs.Common.{suc, ◌≡◌, ℕ, ◌+◌, ◌&&◌, Bool, true, false, cond, Option, Some, None, Ok, List, [], ◌∷◌, add-one, refl, sym, ap}
+use Rattle.std.proofs.Common.{suc, ◌≡◌, ℕ, ◌+◌, ◌&&◌, Bool, true, false, cond, Option, Some, None, List, [], ◌∷◌, add-one, refl, sym, ap, ◌∙◌}
 use Rattle.std.specs.Option.{option_and_then}
 use Rattle.std.specs.List.{cons_option}
 use Rattle.amqp_flow.specs.Serial.{wire}
@@ -13,7 +13,6 @@ use Rattle.amqp_rules.specs.declared.reply.Given.TheVariants as given
 use Rattle.amqp_rules.specs.View.{View, handle_of, next_delivery}
 use Rattle.amqp_rules.specs.Sending.{sends as sends'}
 use Rattle.amqp_rules.specs.Start.{start_body, start_refusals}
-use Rattle.amqp_rules.specs.Answer.{own_answer}
 use Rattle.amqp_rules.proofs.Accepted.{on-link-ok, sends-ok}
 use Rattle.amqp_laws.specs.declared.entry.Entry.{Entry}
 use Rattle.amqp_laws.specs.declared.entry.Step.{Step}
@@ -22,17 +21,18 @@ use Rattle.amqp_laws.specs.Past.{some_entry}
 use Rattle.amqp_laws.specs.Said.{body_heard, ends, hears_no_end, is_start, own_in, starts, transfer_among, transfer_sent}
 use Rattle.amqp_laws.specs.Live.{live}
 use Rattle.amqp_laws.specs.At.{at, started}
-use Rattle.amqp_laws.specs.Lawful.{Answers, next}
+use Rattle.amqp_laws.specs.Lawful.{next}
 use Rattle.amqp_pair_laws.specs.Premise.{ids_sent}
 use Rattle.amqp_pair_laws.proofs.Sends.{Sending, begins, flows, others, silent, step-sending, transfers}
 use Rattle.amqp_pair_laws.proofs.SlotActs.{AllFair}
 use Rattle.amqp_pair_laws.proofs.Ids.{none-sent}
+use Rattle.amqp_pair_laws.proofs.Plain.{Answers, OwnAnswers, due, no-start, starts-alone}
 use Rattle.amqp_world.specs.Knowing.{serials}
 
 abbrev id_in : Option (TransferBody × List ℕ) → Option ℕ
 id_in o = option_and_then (λ t. t.0.delivery_id) o
 
-start-sent : (v : View) (op : Op) (reply : Reply) → own_answer v op ≡ Ok reply → is_start (Some op) ≡ true → id_in (transfer_among reply.sent) ≡ Some (next_delivery v)
+start-sent : (v : View) (op : Op) (reply : Reply) → OwnAnswers v op reply → is_start (Some op) ≡ true → id_in (transfer_among reply.sent) ≡ Some (next_delivery v)
 start-sent v (own.Start number tag format settled payload more) reply h is =
     let id = next_delivery v in
     let o = on-link-ok v number (λ l. sends' v.max_frame (start_refusals v l tag settled payload) (start_body (handle_of l.ours) id tag format settled more) payload (given.Delivery id)) reply h in
@@ -40,9 +40,9 @@ start-sent v (own.Start number tag format settled payload more) reply h is =
     ap (λ (r : Reply). id_in (transfer_among r.sent)) (sym k.replies)
 start-sent v _ reply h is = absurd (cc (is))
 
-starts-sent : (v : View) (step : Step) (reply : Reply) → Answers v step reply → is_start (own_in step) ≡ true → id_in (transfer_among reply.sent) ≡ Some (next_delivery v)
+starts-sent : (v : View) (step : Step) (reply : Reply) → Answers v step reply → starts (record { step = step; reply = reply }) ≡ true → id_in (transfer_among reply.sent) ≡ Some (next_delivery v)
 starts-sent v (Opened told) reply h is = absurd (cc (is))
-starts-sent v (Own op) reply h is = start-sent v op reply h is
+starts-sent v (Own op) reply h is = start-sent v op reply h (sym (starts-alone v (Own op) reply h) ∙ is)
 starts-sent v (Heard f) reply h is = absurd (cc (is))
 
 others-sent : (v after : View) (heard : Option Performative) (op : Option Op) (reply : Reply) → Sending v after heard op reply → is_start op ≡ false → id_in (transfer_among reply.sent) ≡ None
@@ -62,11 +62,11 @@ sent-serials c (e ∷ past) fair = by (sent-serials c past fair.0) (some_entry e
 
     on : ids_sent p ≡ serials c.first_id (started p) → (s : Bool) → starts e ≡ s → cons_option (id_in (transfer_sent e)) (ids_sent p) ≡ serials c.first_id (started (e ∷ p))
     on before true s =
-        let named = starts-sent (at c past) e.step e.reply fair.1.answers s in
+        let named = starts-sent (at c past) e.step e.reply (due fair.1) s in
         let one : started (e ∷ p) ≡ suc (started p) = rw s (add-one (started p)) in
         rw (named, one) (ap (λ (ids : List ℕ). wire (c.first_id + started p) ∷ ids) before)
     on before false s =
-        let none = others-sent (at c past) (next (at c past) e.step) (body_heard e.step) (own_in e.step) e.reply (step-sending (at c past) e.step e.reply fair.1.answers) s in
+        let none = others-sent (at c past) (next (at c past) e.step) (body_heard e.step) (own_in e.step) e.reply (step-sending (at c past) e.step e.reply (due fair.1)) (no-start e s) in
         let same : started (e ∷ p) ≡ started p = rw s refl in
         rw (none, same) before
 

@@ -1,7 +1,8 @@
 -- What calls on one of two ends answer, and what they make of its journal.
-use Rattle.std.specs.Prelude.{◌≡◌, ◌≤◌, ◌<◌, Option, None, Some, length, IsSome}
+use Rattle.std.specs.Prelude.{◌≡◌, ◌≤◌, ◌<◌, Bool, true, false, Option, None, Some, length, IsSome}
 use Rattle.amqp_frames.specs.declared.frame.Frame.{Frame}
 use Rattle.amqp_rules.specs.declared.op.Op.{Op}
+use Rattle.amqp_rules.specs.declared.op.Op.TheVariants.{Suspend, Rejoin, Resume}
 use Rattle.amqp_rules.specs.declared.reply.Given.{Given}
 use Rattle.amqp_rules.specs.declared.refusal.Refusal.TheVariants.{NoMemory}
 use Rattle.amqp_laws.specs.declared.entry.Step.TheVariants.{Own, Heard}
@@ -11,7 +12,7 @@ use Rattle.amqp_pair_laws.specs.Moves.{count, said_as}
 use Rattle.amqp_pair_laws.specs.World.{hears, sends}
 use Rattle.amqp_pair_laws.specs.Premise.{KeepsToHeard}
 use Rattle.amqp_world.specs.declared.refusal.WorldRefusal.{WorldRefusal}
-use Rattle.amqp_world.specs.declared.refusal.WorldRefusal.TheVariants.{ReachesAhead, Refused}
+use Rattle.amqp_world.specs.declared.refusal.WorldRefusal.TheVariants.{ReachesAhead, Resuming, Refused}
 use Rattle.amqp_world.specs.declared.refusal.HearRefusal.{HearRefusal}
 use Rattle.amqp_world.specs.declared.refusal.HearRefusal.TheVariants as heard
 
@@ -21,13 +22,21 @@ use Rattle.amqp_world.specs.declared.refusal.HearRefusal.TheVariants as heard
 abbrev pub Keeps : Log → Op → Type 0
 Keeps mine op = KeepsToHeard (Own op) (past mine.journal)
 
+-- it puts a link aside, brings one back or resumes a delivery
+abbrev pub resumes : Op → Bool
+resumes (Suspend link) = true
+resumes (Rejoin rejoin) = true
+resumes (Resume link tag settled) = true
+resumes _ = false
+
 -- one entry more, with the reply that is due
 abbrev pub Does : Log → Op → Given → Log → Type 0
-Does mine op given new = Keeps mine op × Appends mine (Own op) (own_due mine op) given new
+Does mine op given new = Keeps mine op × (resumes op ≡ false) × Appends mine (Own op) (own_due mine op) given new
 
 abbrev pub IsRefused : Log → Op → WorldRefusal → Type 0
 IsRefused mine op ReachesAhead = ¬ (Keeps mine op)
-IsRefused mine op (Refused refusal) = Keeps mine op × IsRefusal NoMemory (own_due mine op) refusal
+IsRefused mine op Resuming = Keeps mine op × (resumes op ≡ true)
+IsRefused mine op (Refused refusal) = Keeps mine op × (resumes op ≡ false) × IsRefusal NoMemory (own_due mine op) refusal
 
 -- # Hearing
 

@@ -14,14 +14,15 @@
 //! what comes out of one end went into the other (`World::laws`).
 //!
 //! That is said of ends with settings within their limits, each short of its journal limit, which hear all frames of the other in order. Where a journal
-//! is full, or memory is refused, nothing changes, and the frame still waits. A link that is put aside is left; no operation brings one back. Nothing is
-//! said of a connection that is lost, nor that a frame is ever heard.
+//! is full, or memory is refused, nothing changes, and the frame still waits. No link is put aside or brought back:
+//! a `World` refuses that as `Resuming`. Nothing is said of a connection that is lost, nor that a frame is ever heard.
 #![tactic(auto)]
 
 mod ahead;
 pub mod heard;
 mod next;
 pub mod refusal;
+mod resuming;
 pub mod settings;
 pub mod side;
 pub mod world;

@@ -9,6 +9,9 @@ pub enum WorldRefusal {
     /// A disposition of received deliveries has an id in its range that is of no delivery whose first transfer this end has heard.
     #[error("a delivery in the range has not come yet")]
     ReachesAhead,
+    /// It puts a link aside, brings one back or resumes a delivery.
+    #[error("two ends that lose nothing put no link aside")]
+    Resuming,
     /// The session refuses it.
     #[error("{0}")]
     Refused(Refusal),

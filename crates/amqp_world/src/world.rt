@@ -19,6 +19,7 @@ use crate::ahead::reaches_ahead;
 use crate::heard::{Heard, Hearing};
 use crate::next::{next_frame, whole};
 use crate::refusal::{HearRefusal, WorldRefusal};
+use crate::resuming::resumes;
 use crate::settings::Settings;
 use crate::side::Side;
 use amqp_journal::logged::Logged;
@@ -75,7 +76,7 @@ impl World {
     ///
     /// # Errors
     ///
-    /// `ReachesAhead` is told first, then what the session refuses.
+    /// `ReachesAhead` is told first, then `Resuming`, then what the session refuses.
     pub fn own(&mut self, side: Side, op: &Op) -> Result<Given, WorldRefusal>
         ensures given { IfOk result (λ given. Does (of side self.old) op.now given (of side self.new)) }
         ensures other { of (other side) self.new ≡ of (other side) self.old }
@@ -172,7 +173,7 @@ fn open(alloc: Global, settings: &Settings, other: &Settings) -> Result<Logged, 
     }
 }
 
-/// Does an operation, unless it reaches ahead.
+/// Does an operation, unless it reaches ahead or resumes.
 fn own_by(mine: &mut Logged, hearing: &mut Hearing, op: &Op) -> Result<Given, WorldRefusal>
     requires { Knows hearing.old (past mine.old.journal) }
     ensures given { IfOk result (λ given. Does mine.old op.now given mine.new) }
@@ -183,6 +184,9 @@ fn own_by(mine: &mut Logged, hearing: &mut Hearing, op: &Op) -> Result<Given, Wo
 {
     if reaches_ahead(op, hearing) {
         return Err(WorldRefusal::ReachesAhead);
+    }
+    if resumes(op) {
+        return Err(WorldRefusal::Resuming);
     }
     match mine.apply(op) {
         Ok(given) => {

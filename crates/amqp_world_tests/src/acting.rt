@@ -37,6 +37,7 @@ fn acts(world: &mut World, notes: &mut Notes, side: Side) -> bool {
         27..=46 => dispose(world, notes, side),
         47..=54 => refresh(world, notes, side),
         55 => reach_ahead(world, notes, side),
+        56 => put_aside(world, notes, side),
         _ => on_link(world, notes, side),
     }
 }
@@ -110,14 +111,19 @@ fn attach_at_once(world: &mut World, notes: &mut Notes) -> bool {
     a || b
 }
 
-/// Detaches a link for good, or puts it aside.
+/// Detaches a link for good.
 fn detach(world: &mut World, notes: &mut Notes, side: Side, link: u32) -> bool {
-    let op = if notes.dice.one_in(4) {
-        Op::Suspend { link }
-    } else {
-        Op::Detach { link, error: None }
+    does(world, notes, side, Op::Detach { link, error: None })
+}
+
+/// Puts a link aside. It is wrong that this is not refused.
+fn put_aside(world: &mut World, notes: &mut Notes, side: Side) -> bool {
+    let Some((link, _)) = attached(world, notes, side) else {
+        return false;
     };
-    does(world, notes, side, op)
+    let done = does(world, notes, side, Op::Suspend { link });
+    notes.tally.judge(!done);
+    done
 }
 
 fn leave(world: &mut World, notes: &mut Notes, side: Side) -> bool {

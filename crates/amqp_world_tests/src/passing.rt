@@ -3,16 +3,17 @@
 use crate::calls::{Notes, does, hears};
 use amqp_frames::{DeliveryState, Role};
 use amqp_rules::config::Config;
-use amqp_rules::op::Op;
+use amqp_rules::op::{Op, Rejoin};
 use amqp_rules::reply::{Given, Learned};
 use amqp_types::{Boxed, Tag, Text};
+use amqp_waiting::Brought;
 use amqp_world::heard::Heard;
 use amqp_world::refusal::WorldRefusal;
 use amqp_world::settings::Settings;
 use amqp_world::side::Side;
 use amqp_world::world::World;
 use bytes::Bytes;
-use std::alloc::Global;
+use std::alloc::{AllocError, Global};
 
 const FIRST: u32 = 4294967295;
 
@@ -40,8 +41,8 @@ struct Course {
     learnt: [Option<u32>; 2],
     /// A has something to hear then.
     more: bool,
-    /// B puts the link aside.
-    aside: bool,
+    /// B is told, as it puts the link aside, brings one back and resumes a delivery, that it resumes.
+    resuming: [bool; 3],
 }
 
 #[derive(Clone, Copy, PartialEq, Eq)]
@@ -168,6 +169,57 @@ fn ended(world: &World) -> usize {
     }
 }
 
+/// B is told that its operation resumes.
+fn is_resuming(world: &mut World, op: Op) -> bool {
+    let told = match world.own(Side::B, &op) {
+        Ok(given) => {
+            drop(given);
+            false
+        }
+        Err(refusal) => refusal == WorldRefusal::Resuming,
+    };
+    drop(op);
+    told
+}
+
+/// B is told so where it brings a link back, with nothing.
+fn rejoins(world: &mut World, alloc: Global) -> bool {
+    match rejoin(alloc) {
+        Ok(op) => is_resuming(world, op),
+        Err(_) => false,
+    }
+}
+
+fn rejoin(alloc: Global) -> Result<Op, AllocError> {
+    let rejoin = Rejoin {
+        name: Text::new(alloc, "q")?,
+        role: Role::Receiver,
+        snd: 2,
+        rcv: 0,
+        source: None,
+        target: None,
+        count: 0,
+        max_message: 0,
+        items: Brought::none(alloc),
+    };
+    Ok(Op::Rejoin(Boxed::new(alloc, rejoin)?))
+}
+
+/// B is told so where it resumes a delivery, which only waits where a link was brought back.
+fn resumes(world: &mut World) -> bool {
+    match Tag::new(&[1]) {
+        Some(tag) => is_resuming(
+            world,
+            Op::Resume {
+                link: 0,
+                tag,
+                settled: false,
+            },
+        ),
+        None => false,
+    }
+}
+
 fn pass(world: &mut World, notes: &mut Notes) -> Course {
     let before = disposes(world);
     hears(world, notes, Side::B);
@@ -187,7 +239,11 @@ fn pass(world: &mut World, notes: &mut Notes) -> Course {
         ended,
         learnt: [one, other],
         more: hears(world, notes, Side::A),
-        aside: does(world, notes, Side::B, Op::Suspend { link: 0 }),
+        resuming: [
+            is_resuming(world, Op::Suspend { link: 0 }),
+            rejoins(world, notes.alloc),
+            resumes(world),
+        ],
     }
 }
 
@@ -228,7 +284,7 @@ fn a_disposition_waits_for_what_it_disposes(rt: HostRuntime) {
         ended: 2,
         learnt: [Some(FIRST), Some(0)],
         more: false,
-        aside: true,
+        resuming: [true; 3],
     };
     assert!(rt; passed(rt.alloc()) == Some(want));
 }

@@ -4,7 +4,7 @@ ghost use Rattle.amqp_rules.specs.Answer.{own_answer, next_own, body_answer, nex
 ghost use Rattle.amqp_rules.specs.Opened.{no_reply};
 ghost use Rattle.amqp_rules.specs.Refusing.{no_memory};
 ghost use Rattle.amqp_endpoint.specs.Doing.{Does, DoesOnce, is_planned, is_transfer};
-ghost use Rattle.amqp_endpoint.specs.Plan.{IsRefused, IsSound, octets_sent, plan_reply, planned};
+ghost use Rattle.amqp_endpoint.specs.Plan.{IsRefused, IsSound, KeepsApart, octets_sent, plan_reply, planned};
 
 use crate::done::{Done, quiet_done};
 use crate::endpoint::Endpoint;
@@ -23,6 +23,7 @@ impl Endpoint {
     fn follow(&mut self, plan: Plan) -> Result<Done, AllocError>
         requires steps { self.old.steps < 2 ^ 30 }
         requires sound { IsSound self.old plan }
+        requires apart { KeepsApart self.old (planned self.old plan) }
         ensures reply { IfOk result (λ d. d.reply ≡ plan_reply plan self.old) }
         ensures octets { IfOk result (λ d. d.octets ≡ octets_sent plan.sent) }
         ensures given { IfOk result (λ d. d.given ≡ plan.given) }

@@ -18,11 +18,14 @@ use amqp_frames::{AttachBody, Role};
 use amqp_links::credit::{Credit, opposite};
 use amqp_links::end::End;
 use amqp_links::fate::Fate;
+use amqp_links::link::Link;
 use amqp_links::marks::Marks;
+use amqp_links::resuming::Resuming;
 
-/// A link that an attach answers: where it is, its number, and its marks after the attach.
+/// A link that an attach answers: it, where it is, its number, and its marks after the attach.
 #[derive(Clone, Copy)]
-pub(crate) struct Answered {
+pub(crate) struct Answered<'a> {
+    pub(crate) link: &'a Link,
     pub(crate) key: usize,
     pub(crate) number: u32,
     pub(crate) marks: Marks,
@@ -82,7 +85,7 @@ impl Endpoint {
     }
 
     /// The link that the attach answers.
-    fn answered_link(&self, b: &AttachBody) -> Option<Answered>
+    fn answered_link(&self, b: &AttachBody) -> Option<Answered<'_>>
         ensures { MatchOption result (find (is_asked_as (opposite b.now.role) b.now.name) self.now.links ≡ None) (IsAnswered self.now b.now) }
     {
         let Some(found) = self.stores.links.asked_as(opposite(b.role), &b.name) else {
@@ -91,6 +94,7 @@ impl Endpoint {
         let mut marks = found.link.marks();
         marks.credit = counted(b, &marks.credit);
         Some(Answered {
+            link: found.link,
             key: found.key,
             number: found.link.number(),
             marks,
@@ -104,7 +108,8 @@ impl Endpoint {
         self.stores.links.made()
     }
 
-    /// The peer's attach: it answers ours, or offers a link. O(log n) for n links.
+    /// The peer's attach: it answers ours, or offers a link. O(log n + k) for n links, where k deliveries wait, or the
+    /// peer tells as many.
     pub(crate) fn plan_peer_attach(&self, b: &AttachBody) -> Result<Plan, Violation>
         ensures { Plans no_memory self.now (attach_heard_answer self.now b.now) (next_attach_heard self.now b.now) result }
     {
@@ -114,16 +119,24 @@ impl Endpoint {
         let end = end_of(b);
         match self.answered_link(b) {
             Some(on) => {
+                let Ok(resuming) = on.link.resuming_by_peer(b) else {
+                    return Err(Violation::unlinked(ViolationKind::NoMemory));
+                };
                 let fate = Fate::Theirs {
                     key: on.key,
                     number: on.number,
                     end,
                     marks: on.marks,
+                    resuming,
                 };
                 Ok(plan_quiet(self.session, fate, Change::Stay, Given::Attached(on.number)))
             }
             None => {
+                let Ok(resuming) = Resuming::offered(self.alloc, b) else {
+                    return Err(Violation::unlinked(ViolationKind::NoMemory));
+                };
                 let Ok(name) = b.name.clone() else {
+                    drop(resuming);
                     return Err(Violation::unlinked(ViolationKind::NoMemory));
                 };
                 let marks = Marks {
@@ -132,7 +145,12 @@ impl Endpoint {
                     available: 0,
                     sending: None,
                 };
-                let fate = Fate::Offered { name, end, marks };
+                let fate = Fate::Offered {
+                    name,
+                    end,
+                    marks,
+                    resuming,
+                };
                 Ok(plan_quiet(
                     self.session,
                     fate,

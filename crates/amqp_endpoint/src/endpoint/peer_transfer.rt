@@ -1,12 +1,15 @@
 //! A transfer that is heard (part 2, 2.6.12, 2.6.14 and 2.7.5): what it violates, or how it comes.
-ghost use Rattle.std.specs.Prelude.{◌≡◌, ◌<◌, ◌&&◌, ◌^◌, ◌==◌, List, ℕ, false, is_none, unwrap_or, IfOk, OnErr};
+ghost use Rattle.std.specs.Prelude.{◌≡◌, ◌<◌, ◌&&◌, ◌||◌, ◌^◌, ◌==◌, ◌++◌, List, [], ℕ, false, is_none, length, not, unwrap_or, IfOk, OnErr};
+ghost use Rattle.std.specs.List.{list_any};
+ghost use Rattle.amqp_events.specs.Tags.{is_tagged};
+ghost use Rattle.amqp_waiting.specs.Waiting.{waits};
 ghost use Rattle.std.specs.Result.{result_err};
 ghost use Rattle.amqp_endpoint.specs.Arriving.{arrival_plan};
 ghost use Rattle.amqp_endpoint.specs.Doing.{Does, Foretells};
 ghost use Rattle.amqp_endpoint.specs.Plan.{Checks};
 ghost use Rattle.amqp_endpoint.specs.Transferring.{breaks_snd, later_rows, first_rows, delivery_rows};
-ghost use Rattle.amqp_events.specs.Joined.{next_delivery};
-ghost use Rattle.amqp_links.specs.Arrivals.{size_told};
+ghost use Rattle.amqp_events.specs.Joined.{Delivery, next_delivery, unless_resumed};
+ghost use Rattle.amqp_links.specs.Arrivals.{IsProgressOf, size_told};
 ghost use Rattle.amqp_rules.specs.Deliveries.{transferred};
 ghost use Rattle.amqp_rules.specs.PeerTransfer.{breaks_mode, breaks_rcv_mode, breaks_size, delivery_violations, is_nameless, is_other, is_unexpected, name_violations, next_transfer, receives, transfer_answer, transfer_violations};
 ghost use Rattle.amqp_rules.specs.Refusing.{first_refusal, no_memory};
@@ -17,9 +20,12 @@ use crate::endpoint::arriving::{Arrival, tag_of};
 use crate::endpoint::start::is_too_long;
 use crate::reply::{Given, Reply};
 use crate::violation::{Violation, ViolationKind};
+use amqp_deliveries::Tables;
 use amqp_frames::{Role, TransferBody};
+use amqp_links::arrival::Progress;
 use amqp_links::credit::same_role;
 use amqp_links::link::Link;
+use amqp_types::Tag;
 use bytes::Bytes;
 
 impl Endpoint {
@@ -86,7 +92,7 @@ impl Endpoint {
             return Ok(Arrival::Passed(self.make_passed(b, l, payload)));
         }
         let arriving = match l.progress() {
-            Some(progress) => self.make_later(b, found.key, l, progress.id, payload),
+            Some(progress) => self.make_later(b, found.key, l, progress, payload),
             None => self.make_first(b, found.key, l, payload),
         };
         Ok(Arrival::Comes(arriving))
@@ -124,13 +130,13 @@ impl Endpoint {
     {
         match l.progress() {
             Some(progress) => later_violation(b, progress.id),
-            None => self.first_violation(l.number(), b),
+            None => self.first_violation(l, b),
         }
     }
 
     /// What a first transfer violates by its names.
-    fn first_violation(&self, link: u32, b: &TransferBody) -> Option<Violation>
-        ensures { result ≡ first_refusal (first_rows self.now b.now link) }
+    fn first_violation(&self, l: &Link, b: &TransferBody) -> Option<Violation>
+        ensures { result ≡ first_refusal (first_rows self.now b.now l.now) }
     {
         if is_nameless(b) {
             return Some(Violation::unlinked(ViolationKind::MissingField));
@@ -138,11 +144,26 @@ impl Endpoint {
         if is_unexpected(self.session.expected, b) {
             return Some(Violation::unlinked(ViolationKind::IdOrder));
         }
-        if self.stores.tables.has_tag(Role::Receiver, link, &tag_of(b)) {
+        if takes_tag(&self.stores.tables, l, b) {
             return Some(Violation::unlinked(ViolationKind::TagHeld));
         }
         None
     }
+}
+
+/// An unsettled delivery that we received on the link has the tag.
+fn holds_tag(tables: &Tables, link: u32, tag: &Tag) -> bool
+    ensures { result ≡ list_any (is_tagged link tag.now) tables.now.received }
+{
+    tables.has_tag(Role::Receiver, link, tag)
+}
+
+/// The tag is in use on the link: an unsettled delivery has it, or one that waits and is not brought in by this transfer.
+fn takes_tag(tables: &Tables, l: &Link, b: &TransferBody) -> bool
+    ensures { result ≡ (list_any (is_tagged l.now.number (unwrap_or b.now.delivery_tag [])) tables.now.received || not (unwrap_or b.now.resume false) && waits (unwrap_or b.now.delivery_tag []) l.now.waiting) }
+{
+    let tag = tag_of(b);
+    holds_tag(tables, l.number(), &tag) || !b.resume.unwrap_or(false) && l.waits(&tag)
 }
 
 /// We receive on the link, and our attach was sent.
@@ -228,14 +249,25 @@ fn breaks_mode(l: &Link, b: &TransferBody) -> bool
     breaks_snd(l.snd_mode(), settled_now(l, b), more, aborted) || breaks_rcv_mode(l.rcv_mode(), b)
 }
 
-/// How long the payloads are together.
-fn size_after(l: &Link, payload: &Bytes) -> u128
-    ensures { (mode : ℕ) (b : TransferBody) → unwrap_or b.aborted false ≡ false → result ≡ size_told (next_delivery (transferred mode b payload.now) l.now.receiving).payload }
+/// How long the payloads of the unfinished delivery are with so many octets more.
+fn size_with(progress: Progress, len: u128) -> u128
+    ensures { (d : Delivery) (payload : List ℕ) → IsProgressOf d progress → len ≡ length payload → result ≡ size_told (d.payload ++ unless_resumed d.resumed payload) }
+{
+    if progress.resumed {
+        progress.size
+    } else {
+        progress.size.saturating_add(len)
+    }
+}
+
+/// How long the payloads are together; that of a delivery that is brought in counts for nothing.
+fn size_after(l: &Link, b: &TransferBody, payload: &Bytes) -> u128
+    ensures { (mode : ℕ) → unwrap_or b.now.aborted false ≡ false → result ≡ size_told (next_delivery (transferred mode b.now payload.now) l.now.receiving).payload }
 {
     let len = payload.len() as u128;
     match l.progress() {
-        Some(progress) => progress.size.saturating_add(len),
-        None => len,
+        Some(progress) => size_with(progress, len),
+        None => if b.resume.unwrap_or(false) { 0 } else { len },
     }
 }
 
@@ -246,7 +278,7 @@ fn breaks_size(l: &Link, b: &TransferBody, payload: &Bytes) -> bool
     if b.aborted.unwrap_or(false) {
         return false;
     }
-    is_too_long(l.longest_ours(), size_after(l, payload))
+    is_too_long(l.longest_ours(), size_after(l, b, payload))
 }
 
 /// A first transfer meets no credit.

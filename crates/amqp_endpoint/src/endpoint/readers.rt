@@ -1,13 +1,17 @@
 //! What an endpoint is asked: it takes no memory, and changes nothing.
-ghost use Rattle.std.specs.Prelude.{◌≡◌, length, option_map, slice_get};
+ghost use Rattle.std.specs.Prelude.{◌≡◌, find, length, option_map, slice_get};
 ghost use Rattle.amqp_deliveries.specs.Change.{held_items};
-ghost use Rattle.amqp_rules.specs.Status.{status_of, windows_of};
+ghost use Rattle.amqp_rules.specs.Status.{status_of, waiting_shown, windows_of};
+ghost use Rattle.amqp_rules.specs.View.{has_number};
 ghost use Rattle.amqp_endpoint.specs.Plan.{tables_in};
 
 use crate::endpoint::Endpoint;
 use crate::status::{LinkStatus, WindowView};
 use amqp_deliveries::HeldItem;
 use amqp_frames::Role;
+use amqp_links::link::Link;
+use amqp_types::Tag;
+use amqp_waiting::Verdict;
 
 impl Endpoint {
     /// How many steps it has accepted.
@@ -45,6 +49,29 @@ impl Endpoint {
     {
         match self.stores.links.by_number(link) {
             Some(found) => Some(found.link.status()),
+            None => None,
+        }
+    }
+
+    /// The link with this number, and with it what both attaches told that stays: handles, settle modes, the greatest messages (part 2, 2.7.3); none where
+    /// there is none. O(log n) for n links.
+    pub fn link_of(&self, link: u32) -> Option<&Link>
+        ensures { option_map (λ l. l.now) result ≡ find (has_number link) self.now.links }
+    {
+        match self.stores.links.by_number(link) {
+            Some(found) => Some(found.link),
+            None => None,
+        }
+    }
+
+    /// The delivery that waits at this place on the link with this number to be resumed: its tag, and what becomes of it (part 2, 2.6.13). None past
+    /// the last, or where there is no such link. O(log n) for n links.
+    pub fn waiting_at(&self, link: u32, i: usize) -> Option<(&Tag, Verdict)>
+        ensures tag { option_map (λ p. p.0.now) result ≡ option_map (λ p. p.0) (waiting_shown self.now link i) }
+        ensures verdict { option_map (λ p. p.1) result ≡ option_map (λ p. p.1) (waiting_shown self.now link i) }
+    {
+        match self.stores.links.by_number(link) {
+            Some(found) => found.link.waiting_at(i),
             None => None,
         }
     }

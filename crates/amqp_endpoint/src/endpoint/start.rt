@@ -1,5 +1,5 @@
 //! Start: a delivery begins, with its first transfer.
-ghost use Rattle.std.specs.Prelude.{◌≡◌, ◌<◌, ◌+◌, ◌^◌, ◌∷◌, [], Err, Some, ℕ, IfOk, MatchResult, OnErr, length, find};
+ghost use Rattle.std.specs.Prelude.{◌≡◌, ◌<◌, ◌+◌, ◌^◌, ◌∷◌, ◌||◌, [], Err, Some, ℕ, IfOk, MatchResult, OnErr, length, find};
 ghost use Rattle.amqp_flow.specs.Credit.{delivery_begun};
 ghost use Rattle.amqp_flow.specs.Windows.{windows_sent};
 ghost use Rattle.amqp_endpoint.specs.Doing.{Does, Foretells};
@@ -13,6 +13,7 @@ ghost use Rattle.amqp_links.specs.Credits.{credit_in, role_of};
 ghost use Rattle.amqp_links.specs.Marks.{with_marks};
 ghost use Rattle.amqp_rules.specs.Refusing.{first_refusal};
 ghost use Rattle.amqp_rules.specs.Start.{begin_delivery, mode_forbids, sending_after, start_body, start_refusals, start_answer, next_start};
+ghost use Rattle.amqp_waiting.specs.Waiting.{waits};
 ghost use Rattle.amqp_rules.specs.View.{has_number, is_too_long, next_delivery};
 
 use crate::done::Done;
@@ -102,7 +103,7 @@ fn marks_begun(l: &Link, id: u32, size: u128, more: bool) -> Marks
 }
 
 /// The session once a transfer is sent that begins a delivery.
-fn started(mut session: Session) -> Session
+pub(crate) fn started(mut session: Session) -> Session
     requires window { 0 < session.windows.remote_incoming }
     requires sent { session.windows.sent < 2 ^ 30 }
     requires deliveries { session.deliveries < 2 ^ 30 }
@@ -114,7 +115,7 @@ fn started(mut session: Session) -> Session
 }
 
 /// The mode settled (1) takes settled deliveries alone, unsettled (0) none.
-fn mode_forbids(mode: u8, settled: bool) -> bool
+pub(crate) fn mode_forbids(mode: u8, settled: bool) -> bool
     ensures { result ≡ mode_forbids mode settled }
 {
     if settled { mode == 0 } else { mode == 1 }
@@ -144,6 +145,13 @@ fn holds_tag(tables: &Tables, link: u32, tag: &Tag) -> bool
     tables.has_tag(Role::Sender, link, tag)
 }
 
+/// The tag is in use on the link: an unsettled delivery has it, or one that waits to be resumed.
+fn uses_tag(tables: &Tables, l: &Link, tag: &Tag) -> bool
+    ensures { result ≡ (list_any (λ s. is_tagged l.now.number tag.now s.item) tables.now.sent || waits tag.now l.now.waiting) }
+{
+    holds_tag(tables, l.number(), tag) || l.waits(tag)
+}
+
 impl Endpoint {
     /// The refusal that a delivery meets on this link.
     fn start_refusal(&self, l: &Link, tag: &Tag, settled: bool, payload: &Bytes) -> Option<Refusal>
@@ -158,7 +166,7 @@ impl Endpoint {
         if l.sending().is_some() {
             return Some(Refusal::InDelivery);
         }
-        if holds_tag(&self.stores.tables, l.number(), tag) {
+        if uses_tag(&self.stores.tables, l, tag) {
             return Some(Refusal::TagHeld);
         }
         if mode_forbids(l.snd_mode(), settled) {

@@ -7,7 +7,7 @@ ghost use Rattle.amqp_endpoint.specs.Doing.{is_planned, is_transfer};
 ghost use Rattle.amqp_endpoint.specs.Plan.{Plans};
 
 use crate::endpoint::Endpoint;
-use crate::endpoint::attach::Wanted;
+use crate::endpoint::attach::{Wanted, rejoined};
 use crate::endpoint::dispose::Said;
 use crate::op::Op;
 use crate::plan::Plan;
@@ -51,6 +51,7 @@ impl Endpoint {
                 target,
                 count: *count,
                 max_message: *max_message,
+                brought: None,
             }),
             Op::Start {
                 link,
@@ -97,6 +98,8 @@ impl Endpoint {
             Op::Take { link } => self.check_take(*link).err(),
             Op::Detach { link, error } => self.check_detach(*link, error).err(),
             Op::Suspend { link } => self.check_suspend(*link).err(),
+            Op::Rejoin(rejoin) => self.refuse_attach(&rejoined(rejoin.get())),
+            Op::Resume { link, tag, settled } => self.refuse_resume(*link, tag, *settled),
             Op::End { error } => self.refuse_end(error),
             Op::Beat => self.refuse_draft(self.draft_beat(), &[]),
         }
@@ -155,6 +158,7 @@ impl Endpoint {
                 target,
                 count: *count,
                 max_message: *max_message,
+                brought: None,
             }),
             Op::Carry {
                 link,
@@ -194,6 +198,8 @@ impl Endpoint {
             Op::Refresh { echo } => self.plan_draft(self.draft_refresh(*echo), &Bytes::new()),
             Op::Detach { link, error } => self.plan_detach(*link, error),
             Op::Suspend { link } => self.plan_suspend(*link),
+            Op::Rejoin(rejoin) => self.plan_attach(&rejoined(rejoin.get())),
+            Op::Resume { link, tag, settled } => self.plan_resume(*link, tag, *settled),
             Op::End { error } => self.plan_end(error),
             Op::Beat => self.plan_draft(self.draft_beat(), &Bytes::new()),
             Op::Start { .. } | Op::Learn { .. } | Op::Take { .. } => unreachable!(),

@@ -1,5 +1,6 @@
 //! Suspend: we put a link aside (part 2, 2.6.4 and 2.6.6). What is unsettled on it is given.
 ghost use Rattle.std.specs.Prelude.{◌≡◌, None, Err, [], IfOk, MatchResult};
+ghost use Rattle.amqp_links.specs.Rejoining.{all_aside};
 ghost use Rattle.amqp_rules.specs.Detach.{detach_body};
 ghost use Rattle.amqp_rules.specs.Sending.{frame_refused};
 ghost use Rattle.amqp_rules.specs.Suspend.{next_suspend, put_aside, suspend_answer};
@@ -12,7 +13,7 @@ use crate::refusal::Refusal;
 use crate::reply::{Given, Suspended};
 use crate::sending::{measured_refusal, write};
 use amqp_deliveries::Change;
-use amqp_frames::{DetachBody, Performative, measure_detach};
+use amqp_frames::{DetachBody, Performative, Role, measure_detach};
 use amqp_links::fate::Fate;
 use amqp_links::found::Found;
 use amqp_links::link::Link;
@@ -86,5 +87,15 @@ impl Endpoint {
             sent: Some(sent),
             given: Given::Suspended(aside),
         })
+    }
+
+    /// All links of the role that can be rejoined, as each would be put aside, in order: for a connection that was lost (part 2, 2.6.13). O(n · u) for
+    /// n links and u unsettled deliveries of the role.
+    pub fn links_aside(&self, role: Role) -> Result<Vec<Suspended>, AllocError>
+        ensures { IfOk result (λ v. v.items ≡ all_aside self.now role) }
+    {
+        self.stores
+            .links
+            .put_aside(role, self.stores.tables.of(role))
     }
 }

@@ -25,7 +25,7 @@ fn command_lines(rt: HostRuntime) -> Result<(), Fail> {
         &["amqp_peer", "conn", "--window", "0"],
         &["amqp_peer", "script", "first-path.script"],
         &["amqp_peer", "explain"],
-        &["amqp_peer", "explain", "29"],
+        &["amqp_peer", "explain", "32"],
         &["amqp_peer", "explain", "--violation", "16"],
         &["amqp_peer", "explain", "--fault", "0"],
         &["amqp_peer", "explain", "--fault", "--violation", "1"],

@@ -5,7 +5,7 @@ use Rattle.amqp_laws.proofs.IdLaw.{sends_serials}
 use Rattle.amqp_laws.proofs.Twice.{never_twice}
 use Rattle.amqp_laws.proofs.Kept.{kept}
 use Rattle.amqp_laws.specs.Past.{past}
-use Rattle.amqp_laws.proofs.Sound.{at-first, at-is-sound, at-unfinished, goes_on_by_steps}
+use Rattle.amqp_laws.proofs.Sound.{at-apart, at-first, at-is-sound, at-unfinished, goes_on_by_steps}
 use Rattle.amqp_rules.proofs.Free.{free-handle_is-lowest}
 use Rattle.amqp_laws.proofs.Since.{incoming-since}
 use Rattle.amqp_laws.proofs.LeftOver.{are_left}
@@ -45,6 +45,9 @@ returns-clause-left t = λ c journal limit h. are_left c journal h.replayed (let
 
 pub returns-clause-unfinished : goal.returns-clause-unfinished
 returns-clause-unfinished t = λ c journal limit h. at-unfinished c (past journal) h.replayed (let few = limit.few in let short = h.short in omega (arith, few, short))
+
+pub returns-clause-waiting : goal.returns-clause-waiting
+returns-clause-waiting t = λ c journal limit h. at-apart c (past journal) h.replayed (let few = limit.few in let short = h.short in omega (arith, few, short))
 
 pub returns-clause-written : goal.returns-clause-written
 returns-clause-written t =

@@ -10,7 +10,7 @@ arrive_first-requires c =
     let may = rw (← c.self.view_is) at c.requires.may in
     rw (c.piece_of-piece.ensures, c.item_of-item.ensures, c.in_ok-payload.ensures.cases, c.in_ok-state.ensures)
     record {
-      met = rw (begun-so c.args.b.now c.args.arriving.now c.requires.begins c.requires.unsettled) at
+      met = rw (begun-so v c.args.b.now c.args.arriving.now c.requires.begins c.requires.fresh) at
           (met-after c.self.inside.steps c.self.inside.session c.self.inside.stores (arriving_plan v c.args.b.now c.args.payload.now c.args.arriving.now) may.steps c.self.invariant may.sound);
     }
 
@@ -19,5 +19,5 @@ invariant_of-self-2 c =
     let v = view_of c.self.inside.steps c.self.inside.session c.self.inside.stores in
     let may = rw (← c.self.view_is) at c.requires.may in
     rw (c.session_heard-self-inside.ensures, c.in-Ok.ensures.ok, c.piece_of-piece.ensures, c.item_of-item.ensures, c.in_ok-payload.ensures.cases, c.in_ok-state.ensures)
-    (rw (begun-so c.args.b.now c.args.arriving.now c.requires.begins c.requires.unsettled) at
-    (kept-after c.self.inside.steps c.self.inside.session c.self.inside.stores (arriving_plan v c.args.b.now c.args.payload.now c.args.arriving.now) may.steps c.self.invariant may.sound))
+    (rw (begun-so v c.args.b.now c.args.arriving.now c.requires.begins c.requires.fresh) at
+    (kept-after c.self.inside.steps c.self.inside.session c.self.inside.stores (arriving_plan v c.args.b.now c.args.payload.now c.args.arriving.now) may.steps c.self.invariant may.sound may.apart))

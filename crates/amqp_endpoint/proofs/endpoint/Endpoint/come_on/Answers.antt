@@ -1,6 +1,7 @@
 use Rattle.amqp_endpoint.specs.Arriving.{arriving_plan}
 use Rattle.amqp_endpoint.specs.Plan.{view_of}
 use Rattle.amqp_endpoint.proofs.Kept.{kept-after, met-after}
+use Rattle.amqp_endpoint.proofs.Transfers.{on-so}
 use Rattle.amqp_endpoint.proofs.endpoint.Endpoint.come_on.Goals as goal
 
 pub arrive-requires-clause-met : goal.arrive-requires-clause-met
@@ -8,11 +9,11 @@ arrive-requires-clause-met c =
     let v = view_of c.self.inside.steps c.self.inside.session c.self.inside.stores in
     let may = rw (← c.self.view_is) at c.requires.may in
     rw (c.in-Ok.ensures.piece, c.in_ok-change.ensures)
-    (met-after c.self.inside.steps c.self.inside.session c.self.inside.stores (arriving_plan v c.args.b.now c.args.payload.now c.args.arriving.now) may.steps c.self.invariant may.sound)
+    (rw (on-so v c.args.b.now c.args.arriving.now c.requires.none) at (met-after c.self.inside.steps c.self.inside.session c.self.inside.stores (arriving_plan v c.args.b.now c.args.payload.now c.args.arriving.now) may.steps c.self.invariant may.sound))
 
 pub invariant_of-self-2 : goal.invariant_of-self-2
 invariant_of-self-2 c =
     let v = view_of c.self.inside.steps c.self.inside.session c.self.inside.stores in
     let may = rw (← c.self.view_is) at c.requires.may in
     rw (c.session_heard-self-inside.ensures, c.in-Ok-arrive.ensures.ok, c.in-Ok.ensures.piece, c.in_ok-change.ensures)
-    (kept-after c.self.inside.steps c.self.inside.session c.self.inside.stores (arriving_plan v c.args.b.now c.args.payload.now c.args.arriving.now) may.steps c.self.invariant may.sound)
+    (rw (on-so v c.args.b.now c.args.arriving.now c.requires.none) at (kept-after c.self.inside.steps c.self.inside.session c.self.inside.stores (arriving_plan v c.args.b.now c.args.payload.now c.args.arriving.now) may.steps c.self.invariant may.sound may.apart))

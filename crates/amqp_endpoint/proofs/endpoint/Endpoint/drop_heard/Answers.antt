@@ -2,8 +2,9 @@ use Rattle.std.proofs.Common.{refl}
 use Rattle.amqp_links.specs.declared.fate.Fate.TheVariants as fate
 use Rattle.amqp_deliveries.specs.declared.change.Change.TheVariants.{Stay}
 use Rattle.amqp_rules.specs.declared.reply.Given.TheVariants.{Nothing}
-use Rattle.amqp_endpoint.specs.Plan.{quiet_plan}
+use Rattle.amqp_endpoint.specs.Plan.{quiet_plan, view_of}
 use Rattle.amqp_endpoint.proofs.Kept.{kept-after}
+use Rattle.amqp_endpoint.proofs.Parted.{quiet-keeps}
 use Rattle.amqp_endpoint.proofs.Plans.{counted-still}
 use Rattle.amqp_endpoint.proofs.endpoint.Endpoint.drop_heard.Goals as goal
 
@@ -16,3 +17,4 @@ invariant_of-self c =
       counted = counted-still c.self.inside.steps c.self.inside.session c.self.inside.session c.self.inside.stores Stay tt c.self.invariant refl refl refl refl;
       alone = tt;
     })
+    (quiet-keeps (view_of c.self.inside.steps c.self.inside.session c.self.inside.stores) c.self.inside.session.max_frame Nothing)

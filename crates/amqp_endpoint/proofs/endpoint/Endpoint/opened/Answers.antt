@@ -3,8 +3,9 @@ use Rattle.amqp_links.specs.declared.fate.Fate.TheVariants as fate
 use Rattle.amqp_deliveries.specs.declared.change.Change.TheVariants.{Stay}
 use Rattle.amqp_rules.specs.declared.reply.Given.TheVariants.{Nothing}
 use Rattle.amqp_endpoint.specs.declared.plan.Session.{Session}
-use Rattle.amqp_endpoint.specs.Plan.{quiet_plan}
+use Rattle.amqp_endpoint.specs.Plan.{quiet_plan, view_of}
 use Rattle.amqp_endpoint.proofs.Kept.{kept-after}
+use Rattle.amqp_endpoint.proofs.Parted.{quiet-keeps}
 use Rattle.amqp_endpoint.proofs.Plans.{counted-still}
 use Rattle.amqp_endpoint.proofs.endpoint.Endpoint.opened.Goals as goal
 
@@ -18,3 +19,4 @@ invariant_of-self c =
       counted = counted-still c.self.inside.steps c.self.inside.session told c.self.inside.stores Stay tt c.self.invariant refl refl refl refl;
       alone = tt;
     })
+    (quiet-keeps (view_of c.self.inside.steps c.self.inside.session c.self.inside.stores) c.max-self-inside.result Nothing)

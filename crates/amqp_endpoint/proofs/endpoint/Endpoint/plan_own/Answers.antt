@@ -1,3 +1,8 @@
+use Rattle.std.proofs.Common.{◌∙◌, ap, subst}
+use Rattle.amqp_rules.specs.declared.refusal.Refusal.TheVariants.{NoMemory}
+use Rattle.amqp_rules.specs.Attach.{Wanted, attach_answer, next_attach}
+use Rattle.amqp_rules.specs.Rejoin.{rejoined}
+use Rattle.amqp_endpoint.specs.Plan.{Plans}
 use Rattle.amqp_endpoint.proofs.endpoint.Endpoint.plan_own.Goals as goal
 
 pub returns-in-Attach : goal.returns-in-Attach
@@ -26,3 +31,11 @@ returns-in-Refresh c = rw c.in-Refresh.is ((rw c.new-in-Refresh.ensures at c.pla
 
 pub returns-in-Beat : goal.returns-in-Beat
 returns-in-Beat c = rw c.in-Beat.is ((rw c.new-in-Beat.ensures at c.plan_draft-in-Beat-2.ensures) _ _ c.draft_beat.ensures)
+
+pub returns-in-Rejoin : goal.returns-in-Rejoin
+returns-in-Rejoin c =
+    rw c.in-Rejoin.is
+    (subst
+    (λ (w : Wanted). Plans NoMemory c.args.self.now (attach_answer c.args.self.now w) (next_attach c.args.self.now w) c.plan_attach-in-Rejoin.result)
+    (c.rejoined.ensures ∙ ap rejoined c.get.ensures)
+    c.plan_attach-in-Rejoin.ensures)

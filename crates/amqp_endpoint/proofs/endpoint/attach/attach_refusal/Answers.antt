@@ -7,4 +7,4 @@ use Rattle.amqp_endpoint.proofs.endpoint.attach.attach_refusal.Goals as goal
 pub returns : goal.returns
 returns c =
     c.measured_refusal.ensures c.args.max (Some (Attach (own_attach (wanted_of c.args.wanted.now) c.args.handle)))
-    (rw (c.as_str.ensures, c.count_told.ensures, c.size_told.ensures) at (c.measure_attach.ensures 0))
+    (rw (c.as_str.ensures, c.count_told.ensures, c.size_told.ensures, c.told_in.ensures) at (c.measure_attach.ensures 0))

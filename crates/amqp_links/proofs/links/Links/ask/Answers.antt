@@ -10,7 +10,7 @@ invariant_of-self-in-Ok c =
     let fit = rw (← c.self.view_is) at c.requires.fit in
     rw c.in-Ok.ensures.next
     (asked-indexed c.self.inside.names c.put.new.self c.reserve.new.self c.take.new.self c.self.inside.store
-    (with_ours c.args.end c.args.marks.now (new_link c.self.inside.store.made (role_of c.args.marks.now.credit) c.args.name)) c.args.end
+    (with_ours c.args.end c.args.marks.now c.args.resuming (new_link c.self.inside.store.made (role_of c.args.marks.now.credit) c.args.name)) c.args.end
     (reserved-indexed c.self.inside.names c.self.inside.handles c.reserve.new.self c.self.inside.store c.self.invariant c.in_ok-reserve.ensures.handled c.in_ok-reserve.ensures.next)
     c.rising.ensures refl fit (rw c.made-number.ensures at c.in_ok-put.ensures.ok) c.take.ensures.handled c.take.ensures.low)
 

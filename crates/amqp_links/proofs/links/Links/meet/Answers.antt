@@ -7,7 +7,7 @@ use Rattle.amqp_links.proofs.links.Links.meet.Goals as goal
 pub invariant_of-self : goal.invariant_of-self
 invariant_of-self c =
     either-indexed c.answer.result c.self.inside.names c.self.inside.handles c.self.inside.store _ c.answer.new.self c.self.invariant
-    (one-alike c.in-Theirs.number (with_theirs c.in-Theirs.end c.in-Theirs.marks) (λ l. refl) c.self.inside.store) c.answer.ensures.next c.answer.ensures.err
+    (one-alike c.in-Theirs.number (with_theirs c.in-Theirs.end c.in-Theirs.marks c.in-Theirs.resuming) (λ l. refl) c.self.inside.store) c.answer.ensures.next c.answer.ensures.err
 
 pub invariant_of-self-in-Left : goal.invariant_of-self-in-Left
 invariant_of-self-in-Left c =

@@ -9,7 +9,7 @@ pub invariant_of-self-in-Ok : goal.invariant_of-self-in-Ok
 invariant_of-self-in-Ok c =
     rw c.in-Ok.ensures.next
     (offered-indexed c.self.inside.names c.put.new.self c.self.inside.handles c.self.inside.store
-    (with_theirs c.args.end c.args.marks.now (new_link c.self.inside.store.made (role_of c.args.marks.now.credit) c.args.name)) c.self.invariant refl
+    (with_theirs c.args.end c.args.marks.now c.args.resuming (new_link c.self.inside.store.made (role_of c.args.marks.now.credit) c.args.name)) c.self.invariant refl
     (rw c.made-number.ensures at c.in_ok-put.ensures.ok))
 
 pub invariant_of-self-in-Err : goal.invariant_of-self-in-Err

@@ -5,7 +5,7 @@ use Rattle.amqp_links.proofs.store.Store.attach.Goals as goal
 
 pub returns-in_default : goal.returns-in_default
 returns-in_default c =
-    rw (← c.self.view_is, unchanged c.self.inside.slab c.self.inside.numbers c.self.inside.peers c.self.inside.made c.args.number (with_ours c.args.end c.args.marks.now) c.self.invariant (rw (← c.key_of.ensures) c.in_default.is)) refl
+    rw (← c.self.view_is, unchanged c.self.inside.slab c.self.inside.numbers c.self.inside.peers c.self.inside.made c.args.number (with_ours c.args.end c.args.marks.now c.args.resuming) c.self.invariant (rw (← c.key_of.ensures) c.in_default.is)) refl
 
 pub index_mut-link-requires : goal.index_mut-link-requires
 index_mut-link-requires c =
@@ -21,6 +21,6 @@ returns c =
       ← c.self.view_is,
       c.set_ours.ensures,
       write-changes c.self.inside.slab c.self.inside.numbers c.self.inside.peers c.self.inside.made c.in-Some.key c.args.number c.index_mut-link.result.now
-          (with_ours c.args.end c.args.marks.now c.index_mut-link.result.now) (with_ours c.args.end c.args.marks.now)
+          (with_ours c.args.end c.args.marks.now c.args.resuming c.index_mut-link.result.now) (with_ours c.args.end c.args.marks.now c.args.resuming)
           c.self.invariant (rw (← c.key_of.ensures) c.in-Some.is) c.index_mut-link.ensures.value refl refl refl,
     ) refl

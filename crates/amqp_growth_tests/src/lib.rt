@@ -1,0 +1,27 @@
+//! Each growth refused in turn, of the calls of a session, of its journal and of a connection, as those of the crates below stand in `amqp_codec_tests`.
+//! From outside, `rt try --test --fail-alloc N -- every_growth_refused` refuses the Nth of each test; where none is refused, they are tests like any other.
+//!
+//! | module | what goes |
+//! |---|---|
+//! | `session`, `aside` | a session with its journal; links that are put aside and rejoined |
+//! | `conn` | a connection, and a pump over one |
+//! | `reading` | what takes no memory |
+//! | `steps`, `act`, `said`, `octets` | how a session goes through a table of steps, and what tables are written with |
+#![tactic(auto)]
+
+#[cfg(test)]
+mod act;
+#[cfg(test)]
+mod aside;
+#[cfg(test)]
+mod conn;
+#[cfg(test)]
+mod octets;
+#[cfg(test)]
+mod reading;
+#[cfg(test)]
+mod said;
+#[cfg(test)]
+mod session;
+#[cfg(test)]
+mod steps;

@@ -1,0 +1,6 @@
+pub mod Cursor
+pub mod Onward
+pub mod Gathering
+pub mod Keeping
+pub mod Slots
+pub mod Spans

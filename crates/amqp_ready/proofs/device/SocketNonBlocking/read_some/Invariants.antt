@@ -1,0 +1,5 @@
+use Rattle.std.proofs.Common.{◌≡◌}
+use Rattle.amqp_ready.proofs.device.SocketNonBlocking.read_some.Given as goal
+
+abbrev pub invariant-loop : goal.invariant-loop
+invariant-loop l = l.self.has_failed ≡ l.fn.self.has_failed

@@ -1,0 +1,17 @@
+use Rattle.std.proofs.Common.{Some}
+use Rattle.amqp_ready.specs.declared.fault.SlotFault.TheVariants as fault
+use Rattle.amqp_ready.proofs.Slots.{serves-sent, serves-other}
+use Rattle.amqp_ready.proofs.slot.Slot.flush.Goals as goal
+
+pub returns-in-Ok-clause-serves : goal.returns-in-Ok-clause-serves
+returns-in-Ok-clause-serves g c =
+    let s = c.args.self.now in
+    serves-sent (g.S.NonBlocking.remaining s.stream) (g.S.NonBlocking.remaining c.flush.new.stream) (g.S.NonBlocking.written s.stream) (g.S.NonBlocking.written c.flush.new.stream) s.lent.conn
+    c.flush.new.conn s.unfed s.outbox c.flush.new.outbox (g.H.Handler.told s.handler) c.flush.ensures.remaining c.flush.ensures.sent c.flush.ensures.only
+
+pub returns-in-Err-clause-serves : goal.returns-in-Err-clause-serves
+returns-in-Err-clause-serves g c =
+    let s = c.args.self.now in
+    serves-other (Some fault.Write) _ _ tt
+    (serves-sent (g.S.NonBlocking.remaining s.stream) (g.S.NonBlocking.remaining c.flush.new.stream) (g.S.NonBlocking.written s.stream) (g.S.NonBlocking.written c.flush.new.stream) s.lent.conn
+    c.flush.new.conn s.unfed s.outbox c.flush.new.outbox (g.H.Handler.told s.handler) c.flush.ensures.remaining c.flush.ensures.sent c.flush.ensures.only)

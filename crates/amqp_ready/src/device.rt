@@ -1,0 +1,181 @@
+//! Streams that never wait.
+ghost use Rattle.std.specs.Prelude.{◌≡◌, ◌≤◌, ◌<◌, ◌++◌, [], true, false, length, IfOk, OnOk, OnErr};
+ghost use Rattle.amqp_ready.specs.Moving.{count, Reads, Writes, MovesSome};
+ghost use Rattle.amqp_ready.specs.Tried.{IsTried, TriesSome, MovesNone};
+
+use amqp_conn::Failed;
+use mio::net::TcpStream;
+use std::io;
+use std::io::{ErrorKind, IoSlice, Read, Write};
+
+/// What a call of a stream came to that did not fail.
+#[derive(Clone, Copy, Debug, PartialEq, Eq)]
+pub enum Moved {
+    /// So many octets were moved.
+    Octets(usize),
+    /// None: the call would have waited.
+    Waits,
+}
+
+/// A stream whose calls never wait: each moves some octets, or tells that it would have waited.
+pub trait NonBlocking {
+    ghost use Rattle.std.specs.Prelude.{ℕ, List, Option, Bool};
+
+    /// The octets that reads will give from here on, where they are known.
+    ghost remaining: { Self → Option (List ℕ) };
+
+    /// The octets that were written, where they are known.
+    ghost written: { Self → Option (List ℕ) };
+
+    /// Whether a call failed.
+    ghost failed: { Self → Bool };
+
+    /// Reads some octets into the front of the buffer; `Octets(0)` is the end of the input, where the buffer has room.
+    fn read_some(&mut self, buffer: &mut [u8]) -> Result<Moved, Failed>
+        ensures bound { IfOk result (λ moved. count moved ≤ length buffer.new) }
+        ensures octets { Reads (remaining self.old) (remaining self.new) result buffer.new }
+        ensures written { written self.new ≡ written self.old }
+        ensures ok { OnOk result (failed self.new ≡ failed self.old) }
+        ensures err { OnErr result (failed self.new ≡ true) };
+
+    /// Writes a front of the octets; of those that are not empty, one at least, unless it would wait.
+    fn write_some(&mut self, octets: &[u8]) -> Result<Moved, Failed>
+        ensures bound { IfOk result (λ moved. count moved ≤ length octets.now) }
+        ensures some { IfOk result (MovesSome octets.now) }
+        ensures octets { Writes (written self.old) (written self.new) result octets.now }
+        ensures remaining { remaining self.new ≡ remaining self.old }
+        ensures ok { OnOk result (failed self.new ≡ failed self.old) }
+        ensures err { OnErr result (failed self.new ≡ true) };
+
+    /// As `write_some` of both, one behind the other; in one call where the stream has one.
+    fn write_two(&mut self, first: &[u8], second: &[u8]) -> Result<Moved, Failed>
+        ensures bound { IfOk result (λ moved. count moved ≤ length (first.now ++ second.now)) }
+        ensures some { IfOk result (MovesSome (first.now ++ second.now)) }
+        ensures octets { Writes (written self.old) (written self.new) result (first.now ++ second.now) }
+        ensures remaining { remaining self.new ≡ remaining self.old }
+        ensures ok { OnOk result (failed self.new ≡ failed self.old) }
+        ensures err { OnErr result (failed self.new ≡ true) }
+    {
+        if first.is_empty() {
+            return self.write_some(second);
+        }
+        self.write_some(first)
+    }
+}
+
+/// A stream of mio's, with whether a call failed.
+#[derive(Drop)]
+pub struct Socket {
+    stream: TcpStream,
+    has_failed: bool,
+}
+
+impl Socket {
+    /// Over the stream, none of whose calls has failed yet.
+    pub fn new(stream: TcpStream) -> Socket
+        ensures { result ≡ record { stream = stream; has_failed = false } }
+    {
+        Socket {
+            stream,
+            has_failed: false,
+        }
+    }
+
+    fn fail(&mut self) -> Failed
+        ensures { self.new ≡ record self.old { has_failed = true } }
+    {
+        self.has_failed = true;
+        Failed
+    }
+}
+
+/// What one call of the system's came to.
+#[derive(Clone, Copy)]
+enum Tried {
+    Moved(Moved),
+    Interrupted,
+    Failed,
+}
+
+/// Why it moved nothing.
+fn failure(error: io::Error) -> Tried
+    ensures { MovesNone result }
+{
+    match error.kind() {
+        ErrorKind::WouldBlock => Tried::Moved(Moved::Waits),
+        ErrorKind::Interrupted => Tried::Interrupted,
+        _ => Tried::Failed,
+    }
+}
+
+fn read_once(stream: &mut TcpStream, buffer: &mut [u8]) -> Tried
+    ensures { IsTried (length buffer.new) result }
+{
+    match stream.read(buffer) {
+        Ok(count) => Tried::Moved(Moved::Octets(count)),
+        Err(error) => failure(error),
+    }
+}
+
+/// One call for both, where neither is empty. That none were taken is a failure: none of mio's calls does so of octets that are not empty.
+fn write_once(stream: &mut TcpStream, first: &[u8], second: &[u8]) -> Tried
+    ensures tried { IsTried (length (first.now ++ second.now)) result }
+    ensures some { TriesSome (first.now ++ second.now) result }
+{
+    if first.is_empty() && second.is_empty() {
+        return Tried::Moved(Moved::Octets(0));
+    }
+    match write_both(stream, first, second) {
+        Ok(0) => Tried::Failed,
+        Ok(count) => Tried::Moved(Moved::Octets(count)),
+        Err(error) => failure(error),
+    }
+}
+
+fn write_both(stream: &mut TcpStream, first: &[u8], second: &[u8]) -> io::Result<usize>
+    ensures { IfOk result (λ n. n ≤ length (first.now ++ second.now)) }
+{
+    if second.is_empty() {
+        return stream.write(first);
+    }
+    if first.is_empty() {
+        return stream.write(second);
+    }
+    TcpStream::write_vectored(stream, &[IoSlice::new(first), IoSlice::new(second)])
+}
+
+impl NonBlocking for Socket {
+    ghost use Rattle.std.specs.Prelude.{None};
+
+    ghost remaining = { λ s. None };
+
+    ghost written = { λ s. None };
+
+    ghost failed = { λ s. s.has_failed };
+
+    fn read_some(&mut self, buffer: &mut [u8]) -> Result<Moved, Failed> {
+        for _ in 0..u64::MAX {
+            match read_once(&mut self.stream, buffer) {
+                Tried::Moved(moved) => return Ok(moved),
+                Tried::Interrupted => {}
+                Tried::Failed => return Err(self.fail()),
+            }
+        }
+        Err(self.fail())
+    }
+
+    fn write_some(&mut self, octets: &[u8]) -> Result<Moved, Failed> {
+        self.write_two(octets, &[])
+    }
+
+    fn write_two(&mut self, first: &[u8], second: &[u8]) -> Result<Moved, Failed> {
+        for _ in 0..u64::MAX {
+            match write_once(&mut self.stream, first, second) {
+                Tried::Moved(moved) => return Ok(moved),
+                Tried::Interrupted => {}
+                Tried::Failed => return Err(self.fail()),
+            }
+        }
+        Err(self.fail())
+    }
+}

@@ -1,0 +1,86 @@
+//! What was read is fed.
+ghost use Rattle.std.specs.Prelude.{◌≡◌, ◌⊎◌, [], Ok};
+ghost use Rattle.std.specs.Bool.{OnTrue, OnFalse};
+ghost use Rattle.amqp_conn.specs.Pumping.{Adds};
+ghost use Rattle.amqp_ready.specs.Gathering.{gone};
+ghost use Rattle.amqp_ready.specs.Lending.{kept};
+ghost use Rattle.amqp_ready.specs.Serving.{fault_in, FeedsOn, IsNoFeeds};
+
+use crate::fault::SlotFault;
+use crate::handler::{Handler, Next};
+use crate::inbox::Unfed;
+use crate::lent::{Lent, recall};
+use amqp_conn::{Conn, Fed, Phase};
+
+/// Hands on what a feed gave, where it added an entry to the journal.
+fn hand_on<H: Handler>(lent: &mut Lent, handler: &mut H, fed: Fed) -> Result<Next, SlotFault>
+    ensures kept { kept lent.new.conn ≡ kept lent.old.conn }
+    ensures tells { OnTrue fed.stepped (Adds (H.told handler.old) (H.told handler.new) fed.given) }
+    ensures still { OnFalse fed.stepped (H.told handler.new ≡ H.told handler.old) }
+    ensures refused { IsNoFeeds (fault_in result) }
+{
+    let Fed { stepped, given, .. } = fed;
+    if !stepped {
+        return Ok(Next::Feed);
+    }
+    match handler.take(lent, given) {
+        Ok(next) => Ok(next),
+        Err(refusal) => Err(SlotFault::Refused(refusal)),
+    }
+}
+
+/// Nothing is left, or the connection has ended.
+fn is_over(conn: &Conn, unfed: &Unfed) -> bool
+    ensures { OnTrue result ((unfed.now ≡ []) ⊎ (conn.now.core.phase ≡ Phase.Closed)) }
+{
+    if unfed.is_empty() {
+        return true;
+    }
+    conn.phase() == Phase::Closed
+}
+
+/// One feed from the front on.
+fn feed_once<H: Handler>(
+    lent: &mut Lent,
+    handler: &mut H,
+    unfed: &mut Unfed,
+) -> Result<Next, SlotFault>
+    ensures feeds { FeedsOn (fault_in result) lent.old.conn unfed.old (H.told handler.old) lent.new.conn unfed.new (H.told handler.new) }
+    ensures gone { gone lent.new.conn ≡ gone lent.old.conn }
+{
+    recall(&lent.conn);
+    match lent.conn.feed(unfed.octets()) {
+        Ok(fed) => {
+            unfed.skip(fed.used);
+            hand_on(lent, handler, fed)
+        }
+        Err(fault) => Err(SlotFault::Conn(fault)),
+    }
+}
+
+/// Feeds what was read, to its end or that of the connection; or until the handler would have written what waits (`Next::Write`).
+///
+/// # Errors
+///
+/// The fault that a feed told, or the refusal that the handler hands on. What was not fed is left.
+pub(crate) fn feed<H: Handler>(
+    lent: &mut Lent,
+    handler: &mut H,
+    unfed: &mut Unfed,
+) -> Result<Next, SlotFault>
+    ensures feeds { FeedsOn (fault_in result) lent.old.conn unfed.old (H.told handler.old) lent.new.conn unfed.new (H.told handler.new) }
+    ensures gone { gone lent.new.conn ≡ gone lent.old.conn }
+    ensures all { result ≡ Ok Next.Feed → (unfed.new ≡ []) ⊎ (lent.new.conn.core.phase ≡ Phase.Closed) }
+{
+    for _ in 0..u64::MAX {
+        if is_over(&lent.conn, unfed) {
+            return Ok(Next::Feed);
+        }
+        match feed_once(lent, handler, unfed) {
+            Ok(Next::Feed) => {}
+            Ok(Next::Write) => return Ok(Next::Write),
+            Err(fault) => return Err(fault),
+        }
+    }
+    Ok(Next::Write)
+}

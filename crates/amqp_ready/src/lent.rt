@@ -1,0 +1,73 @@
+//! A connection, as a handler has it.
+ghost use Rattle.std.specs.Prelude.{◌≡◌, ◌≤◌, length, IfOk, OnErr};
+ghost use Rattle.amqp_journal.specs.Units.{units, PutWithin};
+ghost use Rattle.amqp_conn.specs.Calling.{Does, Closes, forgotten};
+ghost use Rattle.amqp_ready.specs.Lending.{kept};
+
+use amqp_conn::{AmqpError, Boxed, CloseRefusal, Conn, Given, Op, Refusal};
+
+/// A connection that is lent to a handler: for operations, its close and what is read of it. What it has not read, what went out of it and the frames that it
+/// heard stay, whatever the handler does.
+#[derive(Drop)]
+pub struct Lent {
+    pub(crate) conn: Conn,
+}
+
+/// What always holds of a connection; it does nothing.
+pub(crate) fn recall(conn: &Conn)
+    ensures within { PutWithin (length conn.now.core.log.journal) conn.now.core.log.put }
+    ensures some { conn.now.core.log.popped ≤ length (units conn.now.core.log) }
+{
+    let _ = conn.logged().put_out();
+}
+
+impl Lent {
+    pub(crate) fn new(conn: Conn) -> Lent
+        ensures { result ≡ record { conn = conn } }
+    {
+        Lent { conn }
+    }
+
+    /// The connection, to be read.
+    pub fn conn(&self) -> &Conn
+        ensures { result.now ≡ self.now.conn }
+    {
+        &self.conn
+    }
+
+    /// Does an operation, as `Conn::apply`.
+    ///
+    /// # Errors
+    ///
+    /// Those of `Conn::apply`: a refused operation has changed nothing.
+    pub fn perform(&mut self, op: Op) -> Result<Given, Refusal>
+        ensures does { Does self.old.conn.core op result self.new.conn.core }
+        ensures kept { kept self.new.conn ≡ kept self.old.conn }
+    {
+        recall(&self.conn);
+        let answer = self.conn.apply(&op);
+        drop(op);
+        answer
+    }
+
+    /// Closes the connection, as `Conn::close`.
+    ///
+    /// # Errors
+    ///
+    /// Those of `Conn::close`: nothing has changed then.
+    pub fn close(&mut self, error: Option<Boxed<AmqpError>>) -> Result<(), CloseRefusal>
+        ensures closes { Closes self.old.conn.core error result self.new.conn.core }
+        ensures kept { kept self.new.conn ≡ kept self.old.conn }
+    {
+        recall(&self.conn);
+        self.conn.close(error)
+    }
+
+    /// Lets the journal's entries so far go, as `Conn::forget`.
+    pub fn forget(&mut self)
+        ensures forgets { self.new.conn ≡ forgotten self.old.conn }
+        ensures kept { kept self.new.conn ≡ kept self.old.conn }
+    {
+        self.conn.forget();
+    }
+}

@@ -1,0 +1,66 @@
+//! What a connection put out is written.
+ghost use Rattle.std.specs.Prelude.{◌≡◌, [], Ok, true, OnErr, OnOk};
+ghost use Rattle.amqp_conn.specs.Pumping.{AllWent, OnlyWrote};
+ghost use Rattle.amqp_ready.specs.Slotting.{Sent};
+
+use crate::device::NonBlocking;
+use crate::outbox::Outbox;
+use amqp_conn::{Conn, Failed};
+
+/// How far what was put out is written.
+#[derive(Clone, Copy, Debug, PartialEq, Eq)]
+pub enum Flushed {
+    /// The stream would wait.
+    Behind,
+    /// All of it, and no unit waits.
+    All,
+    /// There is more to be written.
+    More,
+}
+
+/// Takes units that wait, and writes what is left.
+fn flush_once<S: NonBlocking>(
+    outbox: &mut Outbox,
+    conn: &mut Conn,
+    stream: &mut S,
+) -> Result<Flushed, Failed>
+    ensures sent { Sent conn.old conn.new outbox.old outbox.new (S.written stream.old) (S.written stream.new) }
+    ensures only { OnlyWrote conn.old conn.new }
+    ensures went { result ≡ Ok Flushed.All → AllWent conn.new }
+    ensures empty { result ≡ Ok Flushed.All → outbox.new ≡ [] }
+    ensures remaining { S.remaining stream.new ≡ S.remaining stream.old }
+{
+    let all = outbox.gather(conn);
+    match outbox.write(stream) {
+        Ok(true) => {}
+        Ok(false) => return Ok(Flushed::Behind),
+        Err(failed) => return Err(failed),
+    }
+    if all {
+        return Ok(Flushed::All);
+    }
+    Ok(Flushed::More)
+}
+
+/// Writes what waits, or as much as the stream takes.
+pub(crate) fn flush<S: NonBlocking>(
+    outbox: &mut Outbox,
+    conn: &mut Conn,
+    stream: &mut S,
+) -> Result<Flushed, Failed>
+    ensures sent { Sent conn.old conn.new outbox.old outbox.new (S.written stream.old) (S.written stream.new) }
+    ensures only { OnlyWrote conn.old conn.new }
+    ensures went { result ≡ Ok Flushed.All → AllWent conn.new }
+    ensures empty { result ≡ Ok Flushed.All → outbox.new ≡ [] }
+    ensures remaining { S.remaining stream.new ≡ S.remaining stream.old }
+{
+    for _ in 0..u64::MAX {
+        match flush_once(outbox, conn, stream) {
+            Ok(Flushed::More) => {}
+            Ok(Flushed::Behind) => return Ok(Flushed::Behind),
+            Ok(Flushed::All) => return Ok(Flushed::All),
+            Err(failed) => return Err(failed),
+        }
+    }
+    Ok(Flushed::More)
+}

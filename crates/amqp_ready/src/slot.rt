@@ -1,0 +1,346 @@
+//! A connection with its stream.
+ghost use Rattle.std.specs.Prelude.{◌≡◌, ◌≢◌, ◌≤◌, ◌<◌, ◌⊎◌, [], Ok, length};
+ghost use Rattle.std.specs.Bool.{OnFalse};
+ghost use Rattle.amqp_conn.specs.Pumping.{AllWent, OnlyWrote};
+ghost use Rattle.amqp_ready.specs.Serving.{fault_in, IsNoFeeds};
+ghost use Rattle.amqp_ready.specs.Slotting.{parts, Sent, Serves};
+
+use crate::device::{Moved, NonBlocking};
+use crate::fault::SlotFault;
+use crate::feeding::feed;
+use crate::handler::{Handler, Next};
+use crate::inbox::{Inbox, ReadFault, Unfed};
+use crate::lent::Lent;
+use crate::outbox::{GATHERED, Outbox};
+use crate::sending::{Flushed, flush};
+use amqp_conn::{Conn, Phase};
+use std::alloc::Global;
+
+/// What a read came to that did not fail.
+#[derive(Clone, Copy, Debug, PartialEq, Eq)]
+pub enum Brought {
+    Octets(usize),
+    /// The input has ended.
+    End,
+    /// It would wait.
+    Waits,
+    /// Nothing was read: octets are unfed, or many are left to be written.
+    Held,
+    /// Nothing was read: there was no room to read to.
+    NoRoom,
+}
+
+/// What a turn of a slot came to.
+#[derive(Clone, Copy, Debug, PartialEq, Eq)]
+pub enum Served {
+    /// The stream tells when it goes on.
+    Waits,
+    /// There is more to be done at once.
+    Again,
+    /// Memory was refused: nothing is lost, and a later turn goes on.
+    NoRoom,
+    /// The connection has ended, and all is written.
+    Ended,
+}
+
+/// A connection with its stream and the application's part. It has at most one room of octets that were read and not fed, and reads no more while 65536
+/// octets or more are left to be written.
+#[derive(Drop)]
+pub struct Slot<S, H> {
+    stream: S,
+    lent: Lent,
+    handler: H,
+    outbox: Outbox,
+    unfed: Unfed,
+}
+
+/// What a read came to, for a slot.
+fn as_brought(answer: Result<Moved, ReadFault>) -> Result<Brought, SlotFault>
+    ensures { IsNoFeeds (fault_in result) }
+{
+    match answer {
+        Ok(Moved::Octets(0)) => Ok(Brought::End),
+        Ok(Moved::Octets(count)) => Ok(Brought::Octets(count)),
+        Ok(Moved::Waits) => Ok(Brought::Waits),
+        Err(ReadFault::NoMemory) => Ok(Brought::NoRoom),
+        Err(ReadFault::Failed) => Err(SlotFault::Read),
+    }
+}
+
+impl<S: NonBlocking, H: Handler> Slot<S, H> {
+    /// Nothing was read, and nothing is written yet.
+    pub fn new(alloc: Global, stream: S, conn: Conn, handler: H) -> Slot<S, H>
+        ensures unfed { result.unfed ≡ [] }
+        ensures outbox { result.outbox ≡ [] }
+        ensures conn { result.lent ≡ record { conn = conn } }
+        ensures stream { result.stream ≡ stream }
+        ensures handler { result.handler ≡ handler }
+    {
+        Slot {
+            stream,
+            lent: Lent::new(conn),
+            handler,
+            outbox: Outbox::new(alloc),
+            unfed: Unfed::new(alloc),
+        }
+    }
+
+    /// The connection, to be read.
+    pub fn conn(&self) -> &Conn
+        ensures { result.now ≡ self.now.lent.conn }
+    {
+        self.lent.conn()
+    }
+
+    /// The application's part, to be read.
+    pub fn handler(&self) -> &H
+        ensures { result.now ≡ self.now.handler }
+    {
+        &self.handler
+    }
+
+    /// The stream, to be read.
+    pub fn stream(&self) -> &S
+        ensures { result.now ≡ self.now.stream }
+    {
+        &self.stream
+    }
+
+    /// How many octets were read and not fed.
+    pub fn unfed(&self) -> usize
+        ensures { result ≡ length self.now.unfed }
+    {
+        self.unfed.octets().len()
+    }
+
+    /// Writes what was put out, or as much as the stream takes.
+    ///
+    /// # Errors
+    ///
+    /// `Write` where the stream failed.
+    pub fn flush(&mut self) -> Result<Flushed, SlotFault>
+        ensures serves { Serves (fault_in result) (parts (S.remaining self.old.stream) self.old.unfed self.old.lent.conn (H.told self.old.handler) self.old.outbox (S.written self.old.stream)) (parts (S.remaining self.new.stream) self.new.unfed self.new.lent.conn (H.told self.new.handler) self.new.outbox (S.written self.new.stream)) }
+        ensures went { result ≡ Ok Flushed.All → AllWent self.new.lent.conn }
+        ensures empty { result ≡ Ok Flushed.All → self.new.outbox ≡ [] }
+        ensures kept { self.new.unfed ≡ self.old.unfed }
+    {
+        match flush(&mut self.outbox, &mut self.lent.conn, &mut self.stream) {
+            Ok(flushed) => Ok(flushed),
+            Err(_) => Err(SlotFault::Write),
+        }
+    }
+
+    /// Feeds what is unfed.
+    fn feed(&mut self) -> Result<Next, SlotFault>
+        ensures { Serves (fault_in result) (parts (S.remaining self.old.stream) self.old.unfed self.old.lent.conn (H.told self.old.handler) self.old.outbox (S.written self.old.stream)) (parts (S.remaining self.new.stream) self.new.unfed self.new.lent.conn (H.told self.new.handler) self.new.outbox (S.written self.new.stream)) }
+    {
+        feed(&mut self.lent, &mut self.handler, &mut self.unfed)
+    }
+
+    /// Nothing is to be read now.
+    fn is_held(&self) -> bool
+        ensures none { OnFalse result (self.now.unfed ≡ []) }
+        ensures few { OnFalse result (length self.now.outbox < 65536) }
+    {
+        if !self.unfed.is_empty() {
+            return true;
+        }
+        self.outbox.len() >= GATHERED
+    }
+
+    /// Reads once, where all is fed and few octets are left to be written.
+    ///
+    /// # Errors
+    ///
+    /// `Read` where the stream failed.
+    pub fn read(&mut self, inbox: &mut Inbox) -> Result<Brought, SlotFault>
+        ensures serves { Serves (fault_in result) (parts (S.remaining self.old.stream) self.old.unfed self.old.lent.conn (H.told self.old.handler) self.old.outbox (S.written self.old.stream)) (parts (S.remaining self.new.stream) self.new.unfed self.new.lent.conn (H.told self.new.handler) self.new.outbox (S.written self.new.stream)) }
+        ensures limit { 65536 ≤ length self.old.outbox → self.new ≡ self.old }
+        ensures rest { self.old.unfed ≢ [] → self.new ≡ self.old }
+        ensures fault { IsNoFeeds (fault_in result) }
+    {
+        if self.is_held() {
+            return Ok(Brought::Held);
+        }
+        as_brought(self.unfed.read(inbox, &mut self.stream))
+    }
+
+    /// What was put out is written, and what is unfed is fed.
+    fn begin(&mut self) -> Result<Next, SlotFault>
+        ensures { Serves (fault_in result) (parts (S.remaining self.old.stream) self.old.unfed self.old.lent.conn (H.told self.old.handler) self.old.outbox (S.written self.old.stream)) (parts (S.remaining self.new.stream) self.new.unfed self.new.lent.conn (H.told self.new.handler) self.new.outbox (S.written self.new.stream)) }
+    {
+        match self.flush() {
+            Ok(_) => self.feed(),
+            Err(fault) => Err(fault),
+        }
+    }
+
+    /// The input has ended: it may where the connection has.
+    fn at_end(&self) -> Result<Brought, SlotFault>
+        ensures { IsNoFeeds (fault_in result) }
+    {
+        if self.lent.conn.phase() == Phase::Closed {
+            return Ok(Brought::End);
+        }
+        Err(SlotFault::EndOfInput)
+    }
+
+    /// So many octets were read, which are fed.
+    fn feed_those(&mut self, count: usize) -> Result<Brought, SlotFault>
+        ensures { Serves (fault_in result) (parts (S.remaining self.old.stream) self.old.unfed self.old.lent.conn (H.told self.old.handler) self.old.outbox (S.written self.old.stream)) (parts (S.remaining self.new.stream) self.new.unfed self.new.lent.conn (H.told self.new.handler) self.new.outbox (S.written self.new.stream)) }
+    {
+        match self.feed() {
+            Ok(_) => Ok(Brought::Octets(count)),
+            Err(fault) => Err(fault),
+        }
+    }
+
+    /// Octets are read once, and fed.
+    fn bring(&mut self, inbox: &mut Inbox) -> Result<Brought, SlotFault>
+        ensures { Serves (fault_in result) (parts (S.remaining self.old.stream) self.old.unfed self.old.lent.conn (H.told self.old.handler) self.old.outbox (S.written self.old.stream)) (parts (S.remaining self.new.stream) self.new.unfed self.new.lent.conn (H.told self.new.handler) self.new.outbox (S.written self.new.stream)) }
+    {
+        match self.read(inbox) {
+            Ok(Brought::Octets(count)) => self.feed_those(count),
+            Ok(Brought::End) => self.at_end(),
+            Ok(Brought::Waits) => Ok(Brought::Waits),
+            Ok(Brought::Held) => Ok(Brought::Held),
+            Ok(Brought::NoRoom) => Ok(Brought::NoRoom),
+            Err(fault) => Err(fault),
+        }
+    }
+
+    /// What is unfed is fed, and octets are read and fed, unless the handler would have written first.
+    fn work(&mut self, inbox: &mut Inbox) -> Result<Brought, SlotFault>
+        ensures { Serves (fault_in result) (parts (S.remaining self.old.stream) self.old.unfed self.old.lent.conn (H.told self.old.handler) self.old.outbox (S.written self.old.stream)) (parts (S.remaining self.new.stream) self.new.unfed self.new.lent.conn (H.told self.new.handler) self.new.outbox (S.written self.new.stream)) }
+    {
+        match self.begin() {
+            Ok(Next::Feed) => self.bring(inbox),
+            Ok(Next::Write) => Ok(Brought::Held),
+            Err(fault) => Err(fault),
+        }
+    }
+
+    /// All that was put out is written: what comes next.
+    fn next(&self, more: bool) -> Served
+        ensures { result ≡ Served.Ended → self.now.lent.conn.core.phase ≡ Phase.Closed }
+    {
+        if self.lent.conn.phase() == Phase::Closed {
+            return Served::Ended;
+        }
+        if more || !self.unfed.is_empty() {
+            return Served::Again;
+        }
+        Served::Waits
+    }
+
+    /// What was put out is written; the handler would go on, or not.
+    fn write_out(&mut self, more: bool) -> Result<Served, SlotFault>
+        ensures serves { Serves (fault_in result) (parts (S.remaining self.old.stream) self.old.unfed self.old.lent.conn (H.told self.old.handler) self.old.outbox (S.written self.old.stream)) (parts (S.remaining self.new.stream) self.new.unfed self.new.lent.conn (H.told self.new.handler) self.new.outbox (S.written self.new.stream)) }
+        ensures ended { result ≡ Ok Served.Ended → (self.new.lent.conn.core.phase ≡ Phase.Closed) × AllWent self.new.lent.conn × (self.new.outbox ≡ []) }
+    {
+        match self.flush() {
+            Ok(Flushed::All) => Ok(self.next(more)),
+            Ok(Flushed::Behind) => Ok(Served::Waits),
+            Ok(Flushed::More) => Ok(Served::Again),
+            Err(fault) => Err(fault),
+        }
+    }
+
+    /// The handler goes on, and what was put out is written.
+    fn finish(&mut self) -> Result<Served, SlotFault>
+        ensures serves { Serves (fault_in result) (parts (S.remaining self.old.stream) self.old.unfed self.old.lent.conn (H.told self.old.handler) self.old.outbox (S.written self.old.stream)) (parts (S.remaining self.new.stream) self.new.unfed self.new.lent.conn (H.told self.new.handler) self.new.outbox (S.written self.new.stream)) }
+        ensures ended { result ≡ Ok Served.Ended → (self.new.lent.conn.core.phase ≡ Phase.Closed) × AllWent self.new.lent.conn × (self.new.outbox ≡ []) }
+    {
+        match self.handler.go_on(&mut self.lent) {
+            Ok(more) => self.write_out(more),
+            Err(refusal) => Err(SlotFault::Refused(refusal)),
+        }
+    }
+
+    fn turn(&mut self, inbox: &mut Inbox) -> Result<Served, SlotFault>
+        ensures serves { Serves (fault_in result) (parts (S.remaining self.old.stream) self.old.unfed self.old.lent.conn (H.told self.old.handler) self.old.outbox (S.written self.old.stream)) (parts (S.remaining self.new.stream) self.new.unfed self.new.lent.conn (H.told self.new.handler) self.new.outbox (S.written self.new.stream)) }
+        ensures ended { result ≡ Ok Served.Ended → (self.new.lent.conn.core.phase ≡ Phase.Closed) × AllWent self.new.lent.conn × (self.new.outbox ≡ []) }
+    {
+        match self.work(inbox) {
+            Ok(brought) => self.finish_after(brought),
+            Err(fault) => Err(fault),
+        }
+    }
+
+    fn finish_after(&mut self, brought: Brought) -> Result<Served, SlotFault>
+        ensures serves { Serves (fault_in result) (parts (S.remaining self.old.stream) self.old.unfed self.old.lent.conn (H.told self.old.handler) self.old.outbox (S.written self.old.stream)) (parts (S.remaining self.new.stream) self.new.unfed self.new.lent.conn (H.told self.new.handler) self.new.outbox (S.written self.new.stream)) }
+        ensures ended { result ≡ Ok Served.Ended → (self.new.lent.conn.core.phase ≡ Phase.Closed) × AllWent self.new.lent.conn × (self.new.outbox ≡ []) }
+    {
+        match self.finish() {
+            Ok(served) => Ok(after(served, brought)),
+            Err(fault) => Err(fault),
+        }
+    }
+
+    /// One turn: what was put out is written, what is unfed is fed, octets are read once and fed, the handler goes on, and what that puts out is written, as
+    /// far as the stream takes it.
+    ///
+    /// # Errors
+    ///
+    /// Why the slot ends. What was put out was written then, the last close among it, as far as the stream takes it: `flush` goes on with the rest.
+    /// `Conn(NoMemory)` has lost nothing: the same call goes on.
+    pub fn serve(&mut self, inbox: &mut Inbox) -> Result<Served, SlotFault>
+        ensures serves { Serves (fault_in result) (parts (S.remaining self.old.stream) self.old.unfed self.old.lent.conn (H.told self.old.handler) self.old.outbox (S.written self.old.stream)) (parts (S.remaining self.new.stream) self.new.unfed self.new.lent.conn (H.told self.new.handler) self.new.outbox (S.written self.new.stream)) }
+        ensures ended { result ≡ Ok Served.Ended → (self.new.lent.conn.core.phase ≡ Phase.Closed) × AllWent self.new.lent.conn × (self.new.outbox ≡ []) }
+    {
+        match self.turn(inbox) {
+            Ok(served) => Ok(served),
+            Err(fault) => Err(self.last_words(fault)),
+        }
+    }
+
+    /// Behind the fault what was put out is written.
+    fn last_words(&mut self, fault: SlotFault) -> SlotFault
+        ensures same { result ≡ fault }
+        ensures sent { Sent self.old.lent.conn self.new.lent.conn self.old.outbox self.new.outbox (S.written self.old.stream) (S.written self.new.stream) }
+        ensures only { OnlyWrote self.old.lent.conn self.new.lent.conn }
+        ensures remaining { S.remaining self.new.stream ≡ S.remaining self.old.stream }
+        ensures unfed { self.new.unfed ≡ self.old.unfed }
+        ensures handler { self.new.handler ≡ self.old.handler }
+    {
+        let _ = flush(&mut self.outbox, &mut self.lent.conn, &mut self.stream);
+        fault
+    }
+
+    /// Takes it apart: the stream, the connection and the application's part.
+    pub fn into_parts(self) -> (S, Conn, H)
+        ensures stream { result.0 ≡ self.stream }
+        ensures conn { result.1 ≡ self.lent.conn }
+        ensures handler { result.2 ≡ self.handler }
+    {
+        let Slot {
+            stream,
+            lent,
+            handler,
+            ..
+        } = self;
+        let Lent { conn } = lent;
+        (stream, conn, handler)
+    }
+
+    /// Gives the room back, where all was fed.
+    pub fn rest_room(&mut self, inbox: &mut Inbox)
+        ensures { self.new ≡ self.old }
+    {
+        inbox.take_back(&mut self.unfed);
+    }
+}
+
+/// What a turn came to that brought this.
+fn after(served: Served, brought: Brought) -> Served
+    ensures { result ≡ Served.Ended → served ≡ Served.Ended }
+{
+    match (served, brought) {
+        (Served::Waits, Brought::Octets(_)) => Served::Again,
+        (Served::Waits | Served::Again, Brought::NoRoom) => Served::NoRoom,
+        _ => served,
+    }
+}
+
+// What clauses speak of.
+const _: () = prove!(GATHERED == 65536);

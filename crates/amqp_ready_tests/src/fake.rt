@@ -1,0 +1,83 @@
+//! A stream of a test's, and a handler.
+ghost use Rattle.std.specs.Prelude.{◌≡◌};
+
+use amqp_conn::{Failed, Given, Refusal};
+use amqp_ready::{Handler, Lent, Moved, Next, NonBlocking};
+
+/// Gives octets of a peer's a part at a time, and takes octets a part at a time. Of two calls of a kind the first would wait.
+#[derive(Drop)]
+pub(crate) struct Fake<'a> {
+    pub says: &'a [u8],
+    /// The most octets that are moved at once.
+    pub part: usize,
+    pub took: Vec<u8>,
+    /// So many octets are taken yet; behind them each write would wait.
+    pub room: usize,
+    pub reads: u32,
+    pub writes: u32,
+    pub has_failed: bool,
+}
+
+impl NonBlocking for Fake<'_> {
+    ghost use Rattle.std.specs.Prelude.{None, Some};
+
+    ghost remaining = { λ f. None };
+
+    ghost written = { λ f. Some f.took.items };
+
+    ghost failed = { λ f. f.has_failed };
+
+    fn read_some(&mut self, buffer: &mut [u8]) -> Result<Moved, Failed> {
+        self.reads = self.reads.wrapping_add(1);
+        if self.reads % 2 == 1 {
+            return Ok(Moved::Waits);
+        }
+        let count = self.says.len().min(self.part).min(buffer.len());
+        let (said, rest) = self.says.split_at(count);
+        buffer[..count].copy_from_slice(said);
+        self.says = rest;
+        Ok(Moved::Octets(count))
+    }
+
+    fn write_some(&mut self, octets: &[u8]) -> Result<Moved, Failed> {
+        self.writes = self.writes.wrapping_add(1);
+        let count = octets.len().min(self.part).min(self.room);
+        if self.writes % 2 == 1 || count == 0 {
+            return Ok(Moved::Waits);
+        }
+        if self.took.extend_from_slice(&octets[..count]).is_err() {
+            self.has_failed = true;
+            return Err(Failed);
+        }
+        self.room -= count;
+        Ok(Moved::Octets(count))
+    }
+}
+
+/// Counts what it is told; it would have written first, where it says so.
+#[derive(Drop)]
+pub(crate) struct Counts {
+    pub told: u32,
+    pub next: Next,
+    /// The refusal that ends its slot, where there is one.
+    pub refuses: Option<Refusal>,
+}
+
+impl Handler for Counts {
+    ghost use Rattle.std.specs.Prelude.{None};
+
+    ghost told = { λ c. None };
+
+    fn take(&mut self, _conn: &mut Lent, given: Given) -> Result<Next, Refusal> {
+        drop(given);
+        self.told = self.told.wrapping_add(1);
+        match self.refuses {
+            Some(refusal) => Err(refusal),
+            None => Ok(self.next),
+        }
+    }
+
+    fn go_on(&mut self, _conn: &mut Lent) -> Result<bool, Refusal> {
+        Ok(false)
+    }
+}
