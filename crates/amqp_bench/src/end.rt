@@ -55,7 +55,7 @@ pub struct End {
     alloc: Global,
     logged: Logged,
     /// How many of the journal's entries are kept at most.
-    keep: Option<u32>,
+    most: usize,
     framer: Framer,
     /// The place for the frame that is heard next.
     heard: Boxed<Frame>,
@@ -79,7 +79,7 @@ impl End {
         Ok(End {
             alloc,
             logged: Logged::new(alloc, &config),
-            keep,
+            most: keep.map_or(usize::MAX, |most| most as usize),
             framer: Framer::new(alloc, MAX_FRAME),
             heard: place(alloc)?,
             begun: 0,
@@ -113,11 +113,10 @@ impl End {
     }
 
     /// Forgets the journal's entries where as many stand as are kept.
+    #[inline(always)]
     fn make_room(&mut self) {
-        if let Some(most) = self.keep {
-            if self.logged.journal().len() >= most as usize {
-                self.logged.forget();
-            }
+        if self.logged.journal().len() >= self.most {
+            self.logged.forget();
         }
     }
 

@@ -48,6 +48,7 @@ fn make_place(alloc: Global, bytes: &Bytes) -> Result<(Vec<Sent>, Bytes), AllocE
 }
 
 /// The frame with its octets moves to where it stays.
+#[inline(always)]
 fn keep_frame(alloc: Global, frame: Frame, bytes: Bytes) -> Result<Written, AllocError>
     ensures { IfOk result (λ w. w ≡ record { frame = frame; bytes = bytes }) }
 {

@@ -65,8 +65,8 @@ session sent l =
 abbrev sender : ℕ → ℕ → LinkView
 sender mode credit =
     record (new_link 1 Sender (113 ∷ [])) {
-      ours = Some (record { handle = 0; snd_mode = mode; rcv_mode = 0; max_message = 0 });
-      theirs = Some (record { handle = 0; snd_mode = 2; rcv_mode = 0; max_message = 0 });
+      ours = Some (record { handle = 0; snd_mode = mode; rcv_mode = 0; max_message = 0; source = None; target = None });
+      theirs = Some (record { handle = 0; snd_mode = 2; rcv_mode = 0; max_message = 0; source = None; target = None });
       credit = record { first_count = 0; passed = 0; credit = credit; drain = false };
       waiting =
           record { tag = 1 ∷ []; state = None; verdict = Absent; theirs = None }
@@ -155,8 +155,8 @@ held_tag = refl
 abbrev receiver : LinkView
 receiver =
     record (new_link 0 Receiver (113 ∷ [])) {
-      ours = Some (record { handle = 0; snd_mode = 2; rcv_mode = 0; max_message = 4 });
-      theirs = Some (record { handle = 0; snd_mode = 2; rcv_mode = 0; max_message = 0 });
+      ours = Some (record { handle = 0; snd_mode = 2; rcv_mode = 0; max_message = 4; source = None; target = None });
+      theirs = Some (record { handle = 0; snd_mode = 2; rcv_mode = 0; max_message = 0; source = None; target = None });
       credit = record { first_count = 0; passed = 0; credit = 2; drain = false };
       waiting = record { tag = 1 ∷ []; state = Some state.Accepted; verdict = Held; theirs = None } ∷ [];
     }
@@ -207,7 +207,7 @@ abbrev offered : View
 offered =
     session 0 (
     record (new_link 1 Receiver (113 ∷ [])) {
-      theirs = Some (record { handle = 0; snd_mode = 2; rcv_mode = 0; max_message = 0 });
+      theirs = Some (record { handle = 0; snd_mode = 2; rcv_mode = 0; max_message = 0; source = None; target = None });
       offer = record { told = record { tag = 1 ∷ []; state = None } ∷ []; incomplete = false };
     })
 

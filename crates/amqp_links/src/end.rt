@@ -1,10 +1,11 @@
 //! What the attach of one end tells that stays with the link.
 ghost use Rattle.std.specs.Prelude.{◌≡◌};
 
+use amqp_types::{Boxed, Value};
 use std::marker::Model;
 
 /// What the attach of one end tells that stays with the link (part 2, 2.7.3).
-#[derive(Clone, Copy, Debug)]
+#[derive(Debug, Drop)]
 pub struct End {
     pub handle: u32,
     /// 0 unsettled, 1 settled, 2 mixed.
@@ -13,16 +14,22 @@ pub struct End {
     pub rcv_mode: u8,
     /// In octets; 0: no limit.
     pub max_message: u64,
+    /// Where its messages come from (part 3, 3.5.3), as the attach has it.
+    pub source: Option<Boxed<Value>>,
+    /// Where its messages go to (part 3, 3.5.4), as the attach has it.
+    pub target: Option<Boxed<Value>>,
 }
 
 impl Model for End {
+    ghost use Rattle.std.specs.Coded.{codes};
+    ghost use Rattle.amqp_types.specs.contracts.value.Value as value;
     ghost use Rattle.amqp_rules.specs.View.{EndView};
 
     ghost Value = { EndView };
 
-    ghost view = { λ e. record { handle = e.handle; snd_mode = e.snd_mode; rcv_mode = e.rcv_mode; max_message = e.max_message } };
+    ghost coded = { Prim.hlevel (codes, value.the_row.coded) };
 
-    ghost inverse = { λ e. record { handle = e.handle; snd_mode = e.snd_mode; rcv_mode = e.rcv_mode; max_message = e.max_message } };
+    ghost view = { λ e. record { handle = e.handle; snd_mode = e.snd_mode; rcv_mode = e.rcv_mode; max_message = e.max_message; source = e.source; target = e.target } };
 }
 
 impl End {

@@ -188,7 +188,7 @@ impl Link {
         requires { has_twice items.now ≡ false }
         ensures { IfOk result (λ r. r ≡ resuming_by_us items.now self.now) }
     {
-        match self.theirs {
+        match &self.theirs {
             Some(_) => self
                 .resuming
                 .met_by_us(self.alloc, self.credit.role(), items),
@@ -206,6 +206,7 @@ impl Link {
     }
 
     /// Whether a delivery with this tag waits on it to be resumed.
+    #[inline(always)]
     pub fn waits(&self, tag: &Tag) -> bool
         ensures { result ≡ waits tag.now self.now.waiting }
     {
@@ -287,7 +288,7 @@ impl Link {
     pub fn our_handle(&self) -> u32
         ensures { result ≡ handle_of self.now.ours }
     {
-        match self.ours {
+        match &self.ours {
             Some(end) => end.handle,
             None => 0,
         }
@@ -297,7 +298,7 @@ impl Link {
     pub fn peer_handle(&self) -> Option<u32>
         ensures { result ≡ option_map (λ e. e.handle) self.now.theirs }
     {
-        match self.theirs {
+        match &self.theirs {
             Some(end) => Some(end.handle()),
             None => None,
         }

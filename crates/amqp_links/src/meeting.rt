@@ -29,6 +29,7 @@ impl Links {
     {
         self.store.rising();
         let Some(found) = self.store.by_number(number) else {
+            drop(end);
             drop(resuming);
             return Ok(());
         };

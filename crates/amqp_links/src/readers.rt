@@ -1,5 +1,5 @@
 //! What a link is asked.
-ghost use Rattle.std.specs.Prelude.{◌≡◌, is_some, length};
+ghost use Rattle.std.specs.Prelude.{◌≡◌, is_some, length, option_map};
 ghost use Rattle.amqp_rules.specs.Status.{drain_of, link_status, phase_of};
 ghost use Rattle.amqp_rules.specs.View.{is_offered_as, is_ours, max_of, rcv_mode, rcv_of, snd_mode, snd_of};
 ghost use Rattle.amqp_links.specs.Credits.{role_of, credit_in};
@@ -136,18 +136,18 @@ impl Link {
         }
     }
 
-    /// What our attach told that stays with it (part 2, 2.7.3). None until it was sent.
-    pub fn ours(&self) -> Option<End>
-        ensures { result ≡ self.now.ours }
+    /// What our attach told that stays with it, source and target among it (part 2, 2.7.3). None until it was sent.
+    pub fn ours(&self) -> Option<&End>
+        ensures { option_map (λ e. e.now) result ≡ self.now.ours }
     {
-        self.ours
+        self.ours.as_ref()
     }
 
-    /// What the peer's attach told that stays with it (part 2, 2.7.3). None until it was heard.
-    pub fn theirs(&self) -> Option<End>
-        ensures { result ≡ self.now.theirs }
+    /// What the peer's attach told that stays with it, source and target among it (part 2, 2.7.3). None until it was heard.
+    pub fn theirs(&self) -> Option<&End>
+        ensures { option_map (λ e. e.now) result ≡ self.now.theirs }
     {
-        self.theirs
+        self.theirs.as_ref()
     }
 
     /// The link as it stands.

@@ -182,6 +182,7 @@ impl Resuming {
     }
 
     /// Whether a delivery with this tag waits.
+    #[inline(always)]
     pub(crate) fn waits(&self, tag: &Tag) -> bool
         ensures { result ≡ waits tag.now self.now.waiting }
     {

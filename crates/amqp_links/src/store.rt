@@ -150,6 +150,7 @@ impl Store {
         ensures { self.new ≡ changed number (with_ours end marks.now resuming) self.old }
     {
         let Some(key) = key_of(&self.slab, &self.numbers, key, number) else {
+            drop(end);
             drop(resuming);
             return;
         };
@@ -182,6 +183,7 @@ impl Store {
         ensures err { OnErr result (self.new ≡ self.old) }
     {
         let Some(key) = key_of(&self.slab, &self.numbers, key, number) else {
+            drop(end);
             drop(resuming);
             return Ok(());
         };
@@ -189,6 +191,7 @@ impl Store {
         match self.peers.insert(handle, key) {
             Ok(_) => {}
             Err(_) => {
+                drop(end);
                 drop(resuming);
                 return Err(AllocError);
             }
@@ -213,6 +216,7 @@ impl Store {
         ensures name { IfErr result (λ n. n ≡ name) }
     {
         if self.slab.reserve(1).is_err() {
+            drop(end);
             drop(resuming);
             return Err(name);
         }
@@ -221,6 +225,7 @@ impl Store {
         match self.peers.insert(handle, key) {
             Ok(_) => {}
             Err(_) => {
+                drop(end);
                 drop(resuming);
                 return Err(name);
             }
@@ -229,6 +234,7 @@ impl Store {
             Ok(_) => {}
             Err(_) => {
                 self.peers.remove(&handle);
+                drop(end);
                 drop(resuming);
                 return Err(name);
             }
@@ -253,6 +259,7 @@ impl Store {
         ensures name { IfErr result (λ n. n ≡ name) }
     {
         if self.slab.reserve(1).is_err() {
+            drop(end);
             drop(resuming);
             return Err(name);
         }
@@ -260,6 +267,7 @@ impl Store {
         match self.numbers.insert(self.made, key) {
             Ok(_) => {}
             Err(_) => {
+                drop(end);
                 drop(resuming);
                 return Err(name);
             }

@@ -26,6 +26,8 @@ end_of b =
       snd_mode = unwrap_or b.snd_settle_mode 2;
       rcv_mode = unwrap_or b.rcv_settle_mode 0;
       max_message = unwrap_or b.max_message_size 0;
+      source = b.source;
+      target = b.target;
     }
 
 -- the delivery-count at which the link begins, as the sender's attach tells it

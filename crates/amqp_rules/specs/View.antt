@@ -1,6 +1,7 @@
 -- What a session is, as callers see it (part 2, 2.5 and 2.6).
 use Rattle.std.specs.Prelude.{zero, suc, ℕ, ◌+◌, ◌==◌, ◌&&◌, ◌||◌, not, Bool, true, false, Option, None, Some, List, [], ◌∷◌, length, find, is_some, is_none, cond, nat_eq, nat_lt}
 use Rattle.std.specs.Cmp.Lexicographic.{pointwise}
+use Rattle.amqp_types.specs.declared.value.Value.{Value}
 use Rattle.amqp_flow.specs.Serial.{wire}
 use Rattle.amqp_flow.specs.Windows.{WindowsView, unused_windows}
 use Rattle.amqp_flow.specs.Credit.{CreditView, no_credit}
@@ -31,6 +32,9 @@ pub record EndView : Type 0 where
   pub rcv_mode : ℕ
   -- in octets; 0: no limit
   pub max_message : ℕ
+  -- where its messages come from, and where they go to
+  pub source : Option Value
+  pub target : Option Value
 
 -- a delivery that we send and that is unfinished: its id, and the length of its payloads so far
 pub record SendingView : Type 0 where

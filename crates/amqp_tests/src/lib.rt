@@ -8,6 +8,7 @@
 //! | `journal` | what a connection shows that forgets its journal's entries |
 //! | `ends` | what came before an end is had once |
 //! | `said` | what the peer said of itself, and of why it ended something |
+//! | `told` | what both attaches told of a link |
 #![tactic(auto)]
 
 #[cfg(test)]
@@ -20,3 +21,5 @@ mod ends;
 mod journal;
 #[cfg(test)]
 mod said;
+#[cfg(test)]
+mod told;

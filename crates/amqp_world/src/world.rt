@@ -74,6 +74,9 @@ impl World {
 
     /// Does an operation at one end: its journal has one entry more. It costs what `Logged::apply` does.
     ///
+    /// Whatever it answers, then the frame that waits is no violation (`next`), what was taken is the front of what was sent (`sent`, `ever`), and what was
+    /// learnt is what was said (`learnt`), at either end: `laws` tells these with the rest.
+    ///
     /// # Errors
     ///
     /// `ReachesAhead` is told first, then `Resuming`, then what the session refuses.
@@ -82,15 +85,24 @@ impl World {
         ensures other { of (other side) self.new ≡ of (other side) self.old }
         ensures refusal { IfErr result (λ refusal. IsRefused (of side self.old) op.now refusal) }
         ensures err { OnErr result (self.new ≡ self.old) }
+        ensures next { (side : Side) → TakesNext (of side self.new) (of (other side) self.new) }
+        ensures sent { (side : Side) → TakesWhatWasSent (of side self.new) (of (other side) self.new) }
+        ensures ever { (side : Side) → TakesEver (of side self.new) (of (other side) self.new) }
+        ensures learnt { (side : Side) → LearnsWhatWasSaid (of side self.new) (of (other side) self.new) }
     {
-        match side {
+        let given = match side {
             Side::A => own_by(&mut self.a, &mut self.a_hears, op),
             Side::B => own_by(&mut self.b, &mut self.b_hears, op),
-        }
+        };
+        self.laws();
+        given
     }
 
     /// One end hears the next frame that the other sent: its journal has one entry more. It costs what `Logged::receive` does, and a look at the entries that
     /// sent nothing before it.
+    ///
+    /// Whatever it answers, then the frame that waits is no violation (`next`), what was taken is the front of what was sent (`sent`, `ever`), and what was
+    /// learnt is what was said (`learnt`), at either end: `laws` tells these with the rest.
     ///
     /// # Errors
     ///
@@ -100,11 +112,17 @@ impl World {
         ensures other { of (other side) self.new ≡ of (other side) self.old }
         ensures refusal { IfErr result (λ refusal. IsUnheard (of side self.old) (of (other side) self.old) refusal) }
         ensures err { OnErr result (self.new ≡ self.old) }
+        ensures next { (side : Side) → TakesNext (of side self.new) (of (other side) self.new) }
+        ensures sent { (side : Side) → TakesWhatWasSent (of side self.new) (of (other side) self.new) }
+        ensures ever { (side : Side) → TakesEver (of side self.new) (of (other side) self.new) }
+        ensures learnt { (side : Side) → LearnsWhatWasSaid (of side self.new) (of (other side) self.new) }
     {
-        match side {
+        let given = match side {
             Side::A => hear_from(&mut self.a, &self.b, &mut self.a_hears),
             Side::B => hear_from(&mut self.b, &self.a, &mut self.b_hears),
-        }
+        };
+        self.laws();
+        given
     }
 
     /// The session of one end, with its whole journal.

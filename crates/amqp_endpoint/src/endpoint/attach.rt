@@ -201,15 +201,19 @@ fn attach_body(
 }
 
 /// What our attach tells that stays with the link.
-fn our_end(wanted: &Wanted<'_>, handle: u32) -> End
-    ensures { result ≡ end_of (own_attach (wanted_of wanted.now) handle) }
+fn our_end(wanted: &Wanted<'_>, handle: u32) -> Result<End, AllocError>
+    ensures { IfOk result (λ end. end ≡ end_of (own_attach (wanted_of wanted.now) handle)) }
 {
-    End {
+    let source = copy_value(wanted.source)?;
+    let target = copy_value(wanted.target)?;
+    Ok(End {
         handle,
         snd_mode: wanted.snd,
         rcv_mode: wanted.rcv,
         max_message: size_told(wanted.max_message).unwrap_or(0),
-    }
+        source,
+        target,
+    })
 }
 
 /// What becomes of the links. The name is copied for a link that we ask for.
@@ -237,6 +241,7 @@ fn attached(
                 resuming,
             }),
             Err(e) => {
+                drop(end);
                 drop(resuming);
                 Err(e)
             }
@@ -334,8 +339,11 @@ impl Endpoint {
         ensures { Plans Refusal.NoMemory self.now (attach_answer self.now (wanted_of wanted.now)) (next_attach self.now (wanted_of wanted.now)) result }
     {
         let meeting = self.check_attach(wanted)?;
-        let end = our_end(wanted, meeting.handle);
+        let Ok(end) = our_end(wanted, meeting.handle) else {
+            return Err(Refusal::NoMemory);
+        };
         let Ok(resuming) = self.resuming(wanted) else {
+            drop(end);
             return Err(Refusal::NoMemory);
         };
         let Ok(fate) = attached(wanted.name, &meeting, end, resuming) else {

@@ -1,5 +1,5 @@
 //! An attach that is heard (part 2, 2.6.3 and 2.7.3): it answers ours, or offers a link.
-ghost use Rattle.std.specs.Prelude.{◌≡◌, MatchOption, None, cond, find};
+ghost use Rattle.std.specs.Prelude.{◌≡◌, IfOk, MatchOption, None, cond, find};
 ghost use Rattle.amqp_flow.specs.Credit.{count_given};
 ghost use Rattle.amqp_links.specs.Credits.{credit_in, role_of};
 ghost use Rattle.amqp_rules.specs.Attach.{count_of, end_of};
@@ -21,6 +21,8 @@ use amqp_links::fate::Fate;
 use amqp_links::link::Link;
 use amqp_links::marks::Marks;
 use amqp_links::resuming::Resuming;
+use amqp_performatives::copying::copy_value;
+use std::alloc::AllocError;
 
 /// A link that an attach answers: it, where it is, its number, and its marks after the attach.
 #[derive(Clone, Copy)]
@@ -32,15 +34,19 @@ pub(crate) struct Answered<'a> {
 }
 
 /// What the attach of an end tells that stays with the link.
-fn end_of(b: &AttachBody) -> End
-    ensures { result ≡ end_of b.now }
+fn end_of(b: &AttachBody) -> Result<End, AllocError>
+    ensures { IfOk result (λ end. end ≡ end_of b.now) }
 {
-    End {
+    let source = copy_value(&b.source)?;
+    let target = copy_value(&b.target)?;
+    Ok(End {
         handle: b.handle,
         snd_mode: b.snd_settle_mode.unwrap_or(2),
         rcv_mode: b.rcv_settle_mode.unwrap_or(0),
         max_message: b.max_message_size.unwrap_or(0),
-    }
+        source,
+        target,
+    })
 }
 
 /// A sender tells its first delivery-count.
@@ -116,10 +122,13 @@ impl Endpoint {
         if let Some(violation) = self.attach_violation(b) {
             return Err(violation);
         }
-        let end = end_of(b);
+        let Ok(end) = end_of(b) else {
+            return Err(Violation::unlinked(ViolationKind::NoMemory));
+        };
         match self.answered_link(b) {
             Some(on) => {
                 let Ok(resuming) = on.link.resuming_by_peer(b) else {
+                    drop(end);
                     return Err(Violation::unlinked(ViolationKind::NoMemory));
                 };
                 let fate = Fate::Theirs {
@@ -133,9 +142,11 @@ impl Endpoint {
             }
             None => {
                 let Ok(resuming) = Resuming::offered(self.alloc, b) else {
+                    drop(end);
                     return Err(Violation::unlinked(ViolationKind::NoMemory));
                 };
                 let Ok(name) = b.name.clone() else {
+                    drop(end);
                     drop(resuming);
                     return Err(Violation::unlinked(ViolationKind::NoMemory));
                 };

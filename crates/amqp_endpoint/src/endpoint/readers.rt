@@ -53,8 +53,8 @@ impl Endpoint {
         }
     }
 
-    /// The link with this number, and with it what both attaches told that stays: handles, settle modes, the greatest messages (part 2, 2.7.3); none where
-    /// there is none. O(log n) for n links.
+    /// The link with this number, and with it what both attaches told that stays: handles, settle modes, the greatest messages, sources and targets
+    /// (part 2, 2.7.3); none where there is none. O(log n) for n links.
     pub fn link_of(&self, link: u32) -> Option<&Link>
         ensures { option_map (λ l. l.now) result ≡ find (has_number link) self.now.links }
     {
