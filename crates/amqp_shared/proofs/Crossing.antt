@@ -38,7 +38,6 @@ use Rattle.amqp_types.specs.contracts.value.Value as value
 use Rattle.amqp_types.proofs.value.Value.TheLaws.TheKnot.{send-Value}
 use Rattle.amqp_rules.proofs.reply.Taken.TheSendSync as taken_crosses
 use Rattle.amqp_deliveries.proofs.tags.TagIndex.TheSendSync as tag_index_crosses
-use Rattle.amqp_links.proofs.end.End.TheSendSync as end_crosses
 use Rattle.amqp_links.proofs.credit.Credit.TheSendSync as credit_crosses
 use Rattle.amqp_links.proofs.marks.Sending.TheSendSync as sending_crosses
 use Rattle.amqp_links.proofs.arrival.Unfinished.TheSendSync as unfinished_crosses
@@ -85,6 +84,7 @@ use Rattle.amqp_deliveries.specs.contracts.item.Entry as held_entry
 use Rattle.amqp_deliveries.specs.contracts.held.Held as held
 use Rattle.amqp_deliveries.specs.contracts.disposition.Telling as telling
 use Rattle.amqp_deliveries.specs.contracts.tables.Tables as tables
+use Rattle.amqp_links.specs.contracts.end.End as link_end
 use Rattle.amqp_links.specs.contracts.resuming.Kept as kept
 use Rattle.amqp_links.specs.contracts.resuming.Resuming as resuming
 use Rattle.amqp_links.specs.contracts.link.Link as link
@@ -217,8 +217,11 @@ kept_send = search (sendable, crosses, resumable_send, unsettled_send) depth 40 
 pub resuming_send : IsSend (resuming.the_field).row
 resuming_send = search (sendable, crosses, kept_send) depth 40 fits 20000
 
+pub link_end_send : IsSend (link_end.the_field).row
+link_end_send = search (sendable, crosses, boxed.the_send, value_send) depth 40 fits 20000
+
 pub link_send : IsSend (link.the_field).row
-link_send = search (sendable, crosses, text.the_send, end_crosses.the_send, credit_crosses.the_send, sending_crosses.the_send, unfinished_crosses.the_send, waiting_crosses.the_send, telling_send, resuming_send) depth 40 fits 20000
+link_send = search (sendable, crosses, text.the_send, link_end_send, credit_crosses.the_send, sending_crosses.the_send, unfinished_crosses.the_send, waiting_crosses.the_send, telling_send, resuming_send) depth 40 fits 20000
 
 pub links_send : IsSend (links.the_field).row
 links_send = search (sendable, crosses, link_send, slab_crosses.the_send, btree_crosses.the_send, heap.the_send, heap.the_sync) depth 40 fits 20000

@@ -11,7 +11,7 @@
 //!
 //! The application of an end may do what `amqp_journal` lets it do, but for one thing: it disposes no delivery whose first transfer it has not heard.
 //! Then no frame of one end is a violation for the other, whatever both do and whenever they hear (`World::hear` has no such answer), and
-//! what comes out of one end went into the other (`World::laws`).
+//! what comes out of one end went into the other: both are clauses of `World::own` and `World::hear`, and `World::laws` has them with the rest.
 //!
 //! That is said of ends with settings within their limits, each short of its journal limit, which hear all frames of the other in order. Where a journal
 //! is full, or memory is refused, nothing changes, and the frame still waits. No link is put aside or brought back:
