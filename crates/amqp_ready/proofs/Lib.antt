@@ -3,5 +3,5 @@ pub mod Onward
 pub mod Gathering
 pub mod Keeping
 pub mod Seats
-pub mod Slots
+pub mod Turning
 pub mod Spans

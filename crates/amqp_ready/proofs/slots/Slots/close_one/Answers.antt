@@ -6,4 +6,4 @@ pub returns-in-Some-clause-lent : goal.returns-in-Some-clause-lent
 returns-in-Some-clause-lent g c =
     let seat = c.in-Some.seat.now in
     lent-at g.S.NonBlocking.remaining g.S.NonBlocking.written g.H.Handler.told c.args.self.now.seats c.args.key seat
-    record { slot = c.close.new.self; stage = seat.stage; is_due = seat.is_due; before = seat.before } c.in-Some.ensures.value refl c.close.ensures.serves
+    (record seat { slot = c.close.new.self }) c.in-Some.ensures.value refl c.close.ensures.serves
