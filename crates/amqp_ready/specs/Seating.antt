@@ -34,6 +34,16 @@ IsOver stage.Works = ⊥
 IsOver (stage.Leaves e) = ⊥
 IsOver (stage.Over why) = Unit {0}
 
+-- how far a slot is that has taken too long
+abbrev pub late : Stage → Stage
+late stage.Works = stage.Leaves fault.TimedOut
+late (stage.Leaves e) = stage.Over (Some e)
+late (stage.Over why) = stage.Over why
+
+-- the clock was looked at
+abbrev pub IsTicked : Stage → Stage → Type 0
+IsTicked s t = (t ≡ s) ⊎ (t ≡ late s)
+
 -- all is written of a connection that has ended
 abbrev pub IsDone : Parts → Type 0
 IsDone p = (p.conn.core.phase ≡ phase.Closed) × AllWent p.conn × (p.left ≡ [])
@@ -91,3 +101,8 @@ module _ {S H : Type 0} (remaining written : S → Option (List ℕ)) (told : H 
   abbrev pub LentAt : Option (Slot S H × Stage) → Option (Slot S H × Stage) → Type 0
   LentAt None new = new ≡ None
   LentAt (Some p) new = (q : Slot S H × Stage) × (new ≡ Some q) × (q.1 ≡ p.1) × Serves None (parts_of p.0) (parts_of q.0)
+
+  -- the clock was looked at for what stands under a key, if a slot stands there
+  abbrev pub TicksAt : Option (Slot S H × Stage) → Option (Slot S H × Stage) → Type 0
+  TicksAt None new = new ≡ None
+  TicksAt (Some p) new = (q : Slot S H × Stage) × (new ≡ Some q) × IsTicked p.1 q.1 × Serves None (parts_of p.0) (parts_of q.0)

@@ -3,6 +3,7 @@ use crate::device::Socket;
 use crate::handler::Handler;
 use crate::seat::Ended;
 use crate::slots::{Returned, Round, Slots};
+use crate::times::Limits;
 use amqp_conn::Conn;
 use mio::net::TcpStream;
 use mio::{Events, Interest, Poll, Token};
@@ -140,6 +141,11 @@ impl<H: Handler + Drop> Driver<H> {
     /// The slot under the key is served in the next turn, whether its stream is ready or not: its handler goes on.
     pub fn wake(&mut self, key: usize) {
         self.slots.wake(key);
+    }
+
+    /// The clock is looked at (`Slots::tick`), in milliseconds from whatever moment. It makes no turn: the next one writes what it put out.
+    pub fn tick(&mut self, limits: Limits, now: u64) {
+        self.slots.tick(limits, now);
     }
 
     /// Each connection that is open is closed. A slot ends once its peer has closed, too; what is left of those that do not end is dropped with the driver.

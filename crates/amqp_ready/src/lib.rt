@@ -13,6 +13,7 @@
 //! | `outbox` | [`Outbox`]: octets on their way out |
 //! | `seat` | a slot, and how far it is ([`Stage`]); what is left of it ([`Ended`]) |
 //! | `slots` | [`Slots`]: slots by key, and which of them are to be served |
+//! | `times` | how long slots may take ([`Limits`]), on a clock that the program hands in |
 //! | `driver` | [`Driver`]: slots over mio's poll |
 //!
 //! What becomes of a slot:
@@ -34,6 +35,7 @@ mod seat;
 mod sending;
 mod slot;
 mod slots;
+mod times;
 
 pub use device::{Moved, NonBlocking, Socket};
 pub use driver::{Driver, NotAdded};
@@ -46,3 +48,4 @@ pub use seat::{Ended, Stage, Turned};
 pub use sending::Flushed;
 pub use slot::{Brought, Served, Slot};
 pub use slots::{Returned, Round, Slots};
+pub use times::Limits;

@@ -1,7 +1,8 @@
 //! A slot of the table, and how far it is.
 ghost use Rattle.std.specs.Prelude.{◌≡◌, ◌≢◌, [], None, Some, Ok, IfSome};
-ghost use Rattle.amqp_ready.specs.Seating.{IsOver, IsTold, Turns, Worked, fault_of, lost, parts_of};
+ghost use Rattle.amqp_ready.specs.Seating.{IsOver, IsTicked, IsTold, Turns, Worked, fault_of, late, lost, parts_of};
 ghost use Rattle.amqp_ready.specs.Serving.{fault_in};
+ghost use Rattle.amqp_ready.specs.Slotting.{Serves};
 
 use crate::device::NonBlocking;
 use crate::fault::SlotFault;
@@ -9,6 +10,7 @@ use crate::handler::Handler;
 use crate::inbox::Inbox;
 use crate::sending::Flushed;
 use crate::slot::{Served, Slot};
+use crate::times::{Due, Limits, Seen, Span, Times, span_of};
 use amqp_conn::{Conn, ConnFault};
 use std::alloc::Global;
 
@@ -58,6 +60,8 @@ pub(crate) struct Seat<S, H> {
     pub stage: Stage,
     /// It stands among those that are to be served.
     pub is_due: bool,
+    /// When it was seen to do something, once the clock was looked at.
+    pub times: Option<Times>,
     /// The slot that ended before it, of those that were not taken out.
     pub before: Option<usize>,
 }
@@ -124,6 +128,17 @@ fn writes_on(answer: Result<Flushed, SlotFault>) -> Turned
     }
 }
 
+/// How far a slot is that has taken too long.
+fn late(stage: Stage) -> Stage
+    ensures { result ≡ late stage }
+{
+    match stage {
+        Stage::Works => Stage::Leaves(SlotFault::TimedOut),
+        Stage::Leaves(fault) => Stage::Over(Some(fault)),
+        Stage::Over(fault) => Stage::Over(fault),
+    }
+}
+
 impl<S: NonBlocking, H: Handler> Seat<S, H> {
     /// At work.
     pub(crate) fn new(alloc: Global, stream: S, conn: Conn, handler: H) -> Seat<S, H>
@@ -138,6 +153,7 @@ impl<S: NonBlocking, H: Handler> Seat<S, H> {
             slot: Slot::new(alloc, stream, conn, handler),
             stage: Stage::Works,
             is_due: false,
+            times: None,
             before: None,
         }
     }
@@ -172,6 +188,65 @@ impl<S: NonBlocking, H: Handler> Seat<S, H> {
         let answer = self.slot.flush();
         self.stage = stage_left(answer, fault);
         turned_left(self.stage, answer)
+    }
+
+    /// What it shows when the clock is looked at.
+    fn seen(&self) -> Seen {
+        let conn = self.slot.conn();
+        let span = match self.stage {
+            Stage::Works => span_of(conn),
+            Stage::Leaves(_) | Stage::Over(_) => Span::End,
+        };
+        Seen {
+            span,
+            reads: self.slot.reads(),
+            put_out: conn.logged().put_out(),
+        }
+    }
+
+    /// The clock is looked at: what that asks.
+    pub(crate) fn look(&mut self, limits: Limits, now: u64) -> Due
+        ensures slot { self.new.slot ≡ self.old.slot }
+        ensures stage { self.new.stage ≡ self.old.stage }
+    {
+        let seen = self.seen();
+        let times = match self.times {
+            Some(times) => times.next(seen, now),
+            None => Times::new(seen, now),
+        };
+        self.times = Some(times);
+        times.due(self.slot.conn(), limits, now)
+    }
+
+    /// What the clock asks is done: whether that ended it now.
+    pub(crate) fn act(&mut self, due: Due) -> bool
+        ensures stage { IsTicked self.old.stage self.new.stage }
+        ensures lent { Serves None (parts_of S.remaining S.written H.told self.old.slot) (parts_of S.remaining S.written H.told self.new.slot) }
+    {
+        match due {
+            Due::Nothing => false,
+            Due::Beat => self.beat(),
+            Due::End => self.time_out(),
+        }
+    }
+
+    fn beat(&mut self) -> bool
+        ensures stage { self.new.stage ≡ self.old.stage }
+        ensures lent { Serves None (parts_of S.remaining S.written H.told self.old.slot) (parts_of S.remaining S.written H.told self.new.slot) }
+    {
+        let _ = self.slot.beat();
+        false
+    }
+
+    /// It has taken too long: its connection is closed, and it ends once that is written; or it ends at once, where it leaves already.
+    fn time_out(&mut self) -> bool
+        ensures stage { self.new.stage ≡ late self.old.stage }
+        ensures lent { Serves None (parts_of S.remaining S.written H.told self.old.slot) (parts_of S.remaining S.written H.told self.new.slot) }
+    {
+        let leaves = matches!(self.stage, Stage::Leaves(_));
+        self.stage = late(self.stage);
+        let _ = self.slot.close();
+        leaves
     }
 
     /// It is to be served, and was not yet.

@@ -1,7 +1,7 @@
 //! A connection with its stream.
 ghost use Rattle.std.specs.Prelude.{◌≡◌, ◌≢◌, ◌≤◌, ◌<◌, ◌⊎◌, [], Ok, None, length};
 ghost use Rattle.std.specs.Bool.{OnFalse};
-ghost use Rattle.amqp_conn.specs.Calling.{Closes};
+ghost use Rattle.amqp_conn.specs.Calling.{Closes, Does};
 ghost use Rattle.amqp_conn.specs.Pumping.{AllWent, OnlyWrote};
 ghost use Rattle.amqp_ready.specs.Serving.{fault_in, IsNoFeeds};
 ghost use Rattle.amqp_ready.specs.Slotting.{parts, Sent, Serves};
@@ -14,7 +14,7 @@ use crate::inbox::{Inbox, ReadFault, Unfed};
 use crate::lent::Lent;
 use crate::outbox::{GATHERED, Outbox};
 use crate::sending::{Flushed, flush};
-use amqp_conn::{CloseRefusal, Conn, Phase};
+use amqp_conn::{CloseRefusal, Conn, Given, Op, Phase, Refusal};
 use std::alloc::Global;
 
 /// What a read came to that did not fail.
@@ -55,6 +55,8 @@ pub struct Slot<S, H> {
     handler: H,
     outbox: Outbox,
     unfed: Unfed,
+    /// How many reads brought octets.
+    reads: u64,
 }
 
 /// What a read came to, for a slot.
@@ -85,7 +87,13 @@ impl<S: NonBlocking, H: Handler> Slot<S, H> {
             handler,
             outbox: Outbox::new(alloc),
             unfed: Unfed::new(alloc),
+            reads: 0,
         }
+    }
+
+    /// How many reads brought octets.
+    pub(crate) fn reads(&self) -> u64 {
+        self.reads
     }
 
     /// The connection, to be read.
@@ -192,6 +200,7 @@ impl<S: NonBlocking, H: Handler> Slot<S, H> {
     fn feed_those(&mut self, count: usize) -> Result<Brought, SlotFault>
         ensures { Serves (fault_in result) (parts (S.remaining self.old.stream) self.old.unfed self.old.lent.conn (H.told self.old.handler) self.old.outbox (S.written self.old.stream)) (parts (S.remaining self.new.stream) self.new.unfed self.new.lent.conn (H.told self.new.handler) self.new.outbox (S.written self.new.stream)) }
     {
+        self.reads = self.reads.wrapping_add(1);
         match self.feed() {
             Ok(_) => Ok(Brought::Octets(count)),
             Err(fault) => Err(fault),
@@ -321,6 +330,18 @@ impl<S: NonBlocking, H: Handler> Slot<S, H> {
         ensures serves { Serves None (parts (S.remaining self.old.stream) self.old.unfed self.old.lent.conn (H.told self.old.handler) self.old.outbox (S.written self.old.stream)) (parts (S.remaining self.new.stream) self.new.unfed self.new.lent.conn (H.told self.new.handler) self.new.outbox (S.written self.new.stream)) }
     {
         self.lent.close(None)
+    }
+
+    /// An empty frame goes out, while the connection is open (part 2, 2.4.5).
+    ///
+    /// # Errors
+    ///
+    /// Those of `Conn::apply`: nothing has changed then.
+    pub fn beat(&mut self) -> Result<Given, Refusal>
+        ensures does { Does self.old.lent.conn.core Op.Beat result self.new.lent.conn.core }
+        ensures serves { Serves None (parts (S.remaining self.old.stream) self.old.unfed self.old.lent.conn (H.told self.old.handler) self.old.outbox (S.written self.old.stream)) (parts (S.remaining self.new.stream) self.new.unfed self.new.lent.conn (H.told self.new.handler) self.new.outbox (S.written self.new.stream)) }
+    {
+        self.lent.perform(Op::Beat)
     }
 
     /// Takes it apart: the stream, the connection and the application's part.

@@ -1,7 +1,7 @@
 //! Slots by key, for one thread.
 ghost use Rattle.std.specs.Prelude.{◌≡◌, ◌==◌, [], None, Some, IfSome, IfOk, IfErr, OnOk, OnErr, option_copied, option_map};
 ghost use Rattle.slab.specs.Slab.{HasRoomFor, slab_len};
-ghost use Rattle.amqp_ready.specs.Seating.{AllStay, IsLeft, IsNew, IsOverAt, LentAt, OthersStay, TurnsAt, held};
+ghost use Rattle.amqp_ready.specs.Seating.{AllStay, IsLeft, IsNew, IsOverAt, LentAt, OthersStay, TicksAt, TurnsAt, held};
 
 use crate::device::NonBlocking;
 use crate::fault::SlotFault;
@@ -9,6 +9,7 @@ use crate::handler::Handler;
 use crate::inbox::Inbox;
 use crate::seat::{Ended, Seat, Stage, Turned};
 use crate::slot::Slot;
+use crate::times::{Due, Limits};
 use amqp_conn::Conn;
 use slab::Slab;
 use std::alloc::{AllocError, Global};
@@ -20,7 +21,7 @@ use std::collections::VecDeque;
 /// |---|---|
 /// | `add` | O(1), and now and then a move of all to more room |
 /// | `wake`, `get`, `take_ended`, `serve` but for the turn itself | O(1) |
-/// | `close_all` | O(n) |
+/// | `close_all`, `tick` | O(n) |
 #[derive(Drop)]
 pub struct Slots<S, H> {
     alloc: Global,
@@ -310,6 +311,49 @@ impl<S: NonBlocking, H: Handler> Slots<S, H> {
     pub fn close_all(&mut self) {
         for key in 0..self.seats.capacity() {
             self.close(key);
+        }
+    }
+
+    /// The clock is looked at (`tick_one`) for all slots. O(n) for n slots: some times a second is often enough.
+    pub fn tick(&mut self, limits: Limits, now: u64) {
+        for key in 0..self.seats.capacity() {
+            self.tick_one(key, limits, now);
+        }
+    }
+
+    /// The clock is looked at for the slot under the key, in milliseconds from whatever moment: its connection beats where its peer would take us for gone
+    /// (part 2, 2.4.5), and where it has taken too long it is closed, and leaves by `SlotFault::TimedOut`; one that leaves already has ended then.
+    pub fn tick_one(&mut self, key: usize, limits: Limits, now: u64)
+        ensures ticks { TicksAt S.remaining S.written H.told (held self.old.seats key) (held self.new.seats key) }
+        ensures others { OthersStay self.old.seats self.new.seats key }
+    {
+        let due = self.look(key, limits, now);
+        if due == Due::Nothing {
+            return;
+        }
+        if self.act(key, due) {
+            self.put_aside(key);
+        }
+        self.wake(key);
+    }
+
+    fn look(&mut self, key: usize, limits: Limits, now: u64) -> Due
+        ensures { AllStay self.old.seats self.new.seats }
+    {
+        match self.seats.get_mut(key) {
+            Some(seat) => seat.look(limits, now),
+            None => Due::Nothing,
+        }
+    }
+
+    /// What the clock asks of the slot under the key is done: whether that ended it now.
+    fn act(&mut self, key: usize, due: Due) -> bool
+        ensures ticks { TicksAt S.remaining S.written H.told (held self.old.seats key) (held self.new.seats key) }
+        ensures others { OthersStay self.old.seats self.new.seats key }
+    {
+        match self.seats.get_mut(key) {
+            Some(seat) => seat.act(due),
+            None => false,
         }
     }
 }

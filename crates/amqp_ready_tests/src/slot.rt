@@ -27,6 +27,7 @@ fn turned(
 ) -> Option<Came> {
     let fake = Fake {
         says,
+        stays: false,
         part,
         took: Vec::new(alloc),
         room,

@@ -1,8 +1,8 @@
 //! Slots by key over fake streams.
 use crate::fake::{Counts, Fake};
-use crate::peer::{OURS, TWICE, WHOLE, connection};
+use crate::peer::{OURS, PATIENT, TWICE, WHOLE, connection};
 use amqp_conn::ConnFault;
-use amqp_ready::{Ended, Next, SlotFault, Slots, Stage};
+use amqp_ready::{Ended, Limits, Next, SlotFault, Slots, Stage};
 use std::alloc::Global;
 
 /// A slot more over a peer that says this, and takes so many octets.
@@ -14,6 +14,7 @@ fn add(
 ) -> Option<usize> {
     let fake = Fake {
         says,
+        stays: says.len() < WHOLE.len(),
         part: 16,
         took: Vec::new(alloc),
         room,
@@ -127,4 +128,52 @@ fn a_slot_that_waits_is_left_until_it_is_told_ready(rt: HostRuntime) {
     serve(&mut slots, 2, 99);
     assert_eq!(rt; slots.stage(0), Some(Stage::Over(None)));
     assert_eq!(rt; slots.stage(1), Some(Stage::Works));
+}
+
+const LIMITS: Limits = Limits {
+    open: 1000,
+    silence: 9000,
+    close: 1000,
+};
+
+/// How many octets went out under the key.
+fn out(slots: &Slots<Fake, Counts>, key: usize) -> usize {
+    match slots.get(key) {
+        Some(slot) => slot.stream().took.len(),
+        None => 0,
+    }
+}
+
+#[test]
+fn a_peer_that_says_nothing_ends_its_slot(rt: HostRuntime) {
+    let alloc = rt.alloc();
+    let mut slots = Slots::new(alloc);
+    assert_eq!(rt; add(alloc, &mut slots, b"", 999), Some(0));
+    assert_eq!(rt; add(alloc, &mut slots, PATIENT, 999), Some(1));
+    slots.tick(LIMITS, 5);
+    serve(&mut slots, 2, 99);
+    slots.tick(LIMITS, 1004);
+    serve(&mut slots, 2, 9);
+    assert_eq!(rt; slots.stage(0), Some(Stage::Works));
+    slots.tick(LIMITS, 1005);
+    serve(&mut slots, 2, 9);
+    let late = Some(SlotFault::TimedOut);
+    assert_eq!(rt; slots.stage(0), Some(Stage::Over(late)));
+    assert_eq!(rt; slots.stage(1), Some(Stage::Works));
+}
+
+#[test]
+fn a_connection_beats_for_a_peer_that_would_leave(rt: HostRuntime) {
+    let alloc = rt.alloc();
+    let mut slots = Slots::new(alloc);
+    assert_eq!(rt; add(alloc, &mut slots, PATIENT, 999), Some(0));
+    serve(&mut slots, 1, 99);
+    slots.tick(LIMITS, 5);
+    assert_eq!(rt; out(&slots, 0), 34);
+    slots.tick(LIMITS, 504);
+    serve(&mut slots, 1, 9);
+    assert_eq!(rt; out(&slots, 0), 34);
+    slots.tick(LIMITS, 505);
+    serve(&mut slots, 1, 9);
+    assert_eq!(rt; out(&slots, 0), 42);
 }

@@ -1,4 +1,3 @@
-use Rattle.std.proofs.Common.{None, Some}
 use Rattle.amqp_ready.specs.Serving.{fault_in}
 use Rattle.amqp_ready.specs.Slotting.{parts}
 use Rattle.amqp_ready.proofs.Turning.{serves-then, serves-other}

@@ -1,4 +1,4 @@
-use Rattle.std.proofs.Common.{None, Some}
+use Rattle.std.proofs.Common.{Some}
 use Rattle.amqp_ready.specs.Serving.{fault_in}
 use Rattle.amqp_ready.specs.Slotting.{parts}
 use Rattle.amqp_ready.specs.declared.fault.SlotFault.TheVariants as fault
