@@ -2,5 +2,6 @@ pub mod Cursor
 pub mod Onward
 pub mod Gathering
 pub mod Keeping
-pub mod Slots
+pub mod Seats
+pub mod Turning
 pub mod Spans

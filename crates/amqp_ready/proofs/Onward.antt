@@ -1,5 +1,5 @@
 -- Feeds go on where the one before stopped, and nothing is lost.
-use Rattle.std.proofs.Common.{◌≡◌, ◌≤◌, ◌+◌, ℕ, List, [], ◌∷◌, ◌++◌, length, take, drop, Bool, true, false, cond, Option, Some, None, Result, Ok, Err, refl, sym, ap, ◌∙◌, subst, arith, append_assoc, append-nil, length-append}
+use Rattle.std.proofs.Common.{◌≡◌, ◌≤◌, ℕ, List, [], ◌∷◌, ◌++◌, length, take, drop, Bool, true, false, cond, Option, Some, None, Ok, Err, refl, sym, ap, ◌∙◌, subst, arith, append_assoc, append-nil, length-append}
 use Rattle.std.proofs.lemmas.List.{take-append-le, drop-append-le}
 use Rattle.std.specs.Bool.{OnTrue, OnFalse}
 use Rattle.amqp_rules.specs.declared.reply.Given.{Given}
@@ -80,6 +80,7 @@ ran-goes None feds c d x y r g = g
 ran-goes (Some fault.Read) feds c d x y r g = g
 ran-goes (Some fault.Write) feds c d x y r g = g
 ran-goes (Some fault.EndOfInput) feds c d x y r g = g
+ran-goes (Some fault.TimedOut) feds c d x y r g = g
 ran-goes (Some (fault.Refused e)) feds c d x y r g = g
 ran-goes (Some (fault.Conn e)) feds c d x y r g = absurd r
 
@@ -88,6 +89,7 @@ ran-then None feds others c d e x y z p q = goes-then feds others c d e x y z p 
 ran-then (Some fault.Read) feds others c d e x y z p q = goes-then feds others c d e x y z p q
 ran-then (Some fault.Write) feds others c d e x y z p q = goes-then feds others c d e x y z p q
 ran-then (Some fault.EndOfInput) feds others c d e x y z p q = goes-then feds others c d e x y z p q
+ran-then (Some fault.TimedOut) feds others c d e x y z p q = goes-then feds others c d e x y z p q
 ran-then (Some (fault.Refused f)) feds others c d e x y z p q = goes-then feds others c d e x y z p q
 ran-then (Some (fault.Conn f)) feds others c d e x y z p (m, n, q, told, k) = (m, n, goes-then feds others c d m x y z p q, told, k)
 
@@ -167,6 +169,7 @@ ran-still None feds c d e x y g h = goes-still feds c d e x y g h
 ran-still (Some fault.Read) feds c d e x y g h = goes-still feds c d e x y g h
 ran-still (Some fault.Write) feds c d e x y g h = goes-still feds c d e x y g h
 ran-still (Some fault.EndOfInput) feds c d e x y g h = goes-still feds c d e x y g h
+ran-still (Some fault.TimedOut) feds c d e x y g h = goes-still feds c d e x y g h
 ran-still (Some (fault.Refused f)) feds c d e x y g h = goes-still feds c d e x y g h
 ran-still (Some (fault.Conn f)) feds c d e x y (m, n, g, told, k) h = (m, n, g, told, h ∙ k)
 

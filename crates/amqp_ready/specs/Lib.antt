@@ -14,3 +14,5 @@ pub mod Lending
 pub mod Serving
 -- what a slot does
 pub mod Slotting
+-- slots by key
+pub mod Seating

@@ -1,5 +1,5 @@
 -- Octets that were read are fed, with operations of a handler between them.
-use Rattle.std.specs.Prelude.{ℕ, ◌≡◌, ◌++◌, List, [], ◌∷◌, drop, cond, Option, Some, None, Result, Ok, Err}
+use Rattle.std.specs.Prelude.{ℕ, ◌≡◌, List, [], ◌∷◌, drop, cond, Option, Some, None, Result, Ok, Err}
 use Rattle.amqp_rules.specs.declared.reply.Given.{Given}
 use Rattle.amqp_conn.specs.declared.fed.Fed.{Fed}
 use Rattle.amqp_conn.specs.Connection.{Connection}
@@ -27,6 +27,7 @@ Ran (Some (fault.Refused e)) feds c x d y = Goes feds c x d y
 Ran (Some fault.Read) feds c x d y = Goes feds c x d y
 Ran (Some fault.Write) feds c x d y = Goes feds c x d y
 Ran (Some fault.EndOfInput) feds c x d y = Goes feds c x d y
+Ran (Some fault.TimedOut) feds c x d y = Goes feds c x d y
 
 -- what the entries give that feeds added
 abbrev pub given_by : List Fed → List Given
@@ -47,3 +48,4 @@ IsNoFeeds (Some (fault.Refused e)) = Unit {0}
 IsNoFeeds (Some fault.Read) = Unit {0}
 IsNoFeeds (Some fault.Write) = Unit {0}
 IsNoFeeds (Some fault.EndOfInput) = Unit {0}
+IsNoFeeds (Some fault.TimedOut) = Unit {0}

@@ -1,6 +1,6 @@
 -- What one call of the system's came to.
 use Rattle.std.specs.Prelude.{ℕ, ◌≡◌, ◌≤◌, List}
-use Rattle.amqp_ready.specs.declared.device.Moved.TheVariants.{Octets, Waits}
+use Rattle.amqp_ready.specs.declared.device.Moved.TheVariants.{Waits}
 use Rattle.amqp_ready.specs.declared.device.Tried.{Tried}
 use Rattle.amqp_ready.specs.declared.device.Tried.TheVariants as tried
 use Rattle.amqp_ready.specs.Moving.{count, MovesSome}

@@ -81,6 +81,19 @@ impl Socket {
         }
     }
 
+    /// The stream, to be registered.
+    pub(crate) fn stream_mut(&mut self) -> &mut TcpStream {
+        &mut self.stream
+    }
+
+    /// The stream itself.
+    pub fn into_stream(self) -> TcpStream
+        ensures { result ≡ self.stream }
+    {
+        let Socket { stream, .. } = self;
+        stream
+    }
+
     fn fail(&mut self) -> Failed
         ensures { self.new ≡ record self.old { has_failed = true } }
     {

@@ -11,6 +11,9 @@ pub enum SlotFault {
     Write,
     #[error("the octets ended before the connection did")]
     EndOfInput,
+    /// Its open, its close or a sign of its peer took too long.
+    #[error("it took too long")]
+    TimedOut,
     /// A feed told it.
     #[error("{0}")]
     Conn(ConnFault),

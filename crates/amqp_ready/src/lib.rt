@@ -1,5 +1,4 @@
-//! A connection over a stream that never waits, for a thread that serves many. There is no driver yet: a program keeps its slots, asks mio which streams are
-//! ready, and serves those.
+//! Connections over streams that never wait, many on one thread.
 #![tactic(auto)]
 //!
 //! | module | what it has |
@@ -12,22 +11,41 @@
 //! | `sending` | what a connection put out is written |
 //! | `slot` | [`Slot`]: a connection with its stream |
 //! | `outbox` | [`Outbox`]: octets on their way out |
+//! | `seat` | a slot, and how far it is ([`Stage`]); what is left of it ([`Ended`]) |
+//! | `slots` | [`Slots`]: slots by key, and which of them are to be served |
+//! | `times` | how long slots may take ([`Limits`]), on a clock that the program hands in |
+//! | `driver` | [`Driver`]: slots over mio's poll |
+//!
+//! What becomes of a slot:
+//!
+//! ```text
+//! add ──► Works ── the connection has ended, all is written ──► Over(None) ─────► take_ended
+//!           └── a fault ──► Leaves ── all is written ──► Over(Some(fault)) ──► take_ended
+//! ```
 
 mod device;
+mod driver;
 mod fault;
 mod feeding;
 mod handler;
 mod inbox;
 mod lent;
 mod outbox;
+mod seat;
 mod sending;
 mod slot;
+mod slots;
+mod times;
 
 pub use device::{Moved, NonBlocking, Socket};
+pub use driver::{Driver, NotAdded};
 pub use fault::SlotFault;
 pub use handler::{Handler, Next};
 pub use inbox::{Inbox, ReadFault, Unfed};
 pub use lent::Lent;
 pub use outbox::Outbox;
+pub use seat::{Ended, Stage, Turned};
 pub use sending::Flushed;
 pub use slot::{Brought, Served, Slot};
+pub use slots::{Returned, Round, Slots};
+pub use times::Limits;

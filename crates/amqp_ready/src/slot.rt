@@ -1,6 +1,7 @@
 //! A connection with its stream.
-ghost use Rattle.std.specs.Prelude.{◌≡◌, ◌≢◌, ◌≤◌, ◌<◌, ◌⊎◌, [], Ok, length};
+ghost use Rattle.std.specs.Prelude.{◌≡◌, ◌≢◌, ◌≤◌, ◌<◌, ◌⊎◌, [], Ok, None, length};
 ghost use Rattle.std.specs.Bool.{OnFalse};
+ghost use Rattle.amqp_conn.specs.Calling.{Closes, Does};
 ghost use Rattle.amqp_conn.specs.Pumping.{AllWent, OnlyWrote};
 ghost use Rattle.amqp_ready.specs.Serving.{fault_in, IsNoFeeds};
 ghost use Rattle.amqp_ready.specs.Slotting.{parts, Sent, Serves};
@@ -13,7 +14,7 @@ use crate::inbox::{Inbox, ReadFault, Unfed};
 use crate::lent::Lent;
 use crate::outbox::{GATHERED, Outbox};
 use crate::sending::{Flushed, flush};
-use amqp_conn::{Conn, Phase};
+use amqp_conn::{CloseRefusal, Conn, Given, Op, Phase, Refusal};
 use std::alloc::Global;
 
 /// What a read came to that did not fail.
@@ -28,6 +29,8 @@ pub enum Brought {
     Held,
     /// Nothing was read: there was no room to read to.
     NoRoom,
+    /// Nothing was read yet: the handler would have written first.
+    Later,
 }
 
 /// What a turn of a slot came to.
@@ -52,6 +55,8 @@ pub struct Slot<S, H> {
     handler: H,
     outbox: Outbox,
     unfed: Unfed,
+    /// How many reads brought octets.
+    reads: u64,
 }
 
 /// What a read came to, for a slot.
@@ -82,7 +87,13 @@ impl<S: NonBlocking, H: Handler> Slot<S, H> {
             handler,
             outbox: Outbox::new(alloc),
             unfed: Unfed::new(alloc),
+            reads: 0,
         }
+    }
+
+    /// How many reads brought octets.
+    pub(crate) fn reads(&self) -> u64 {
+        self.reads
     }
 
     /// The connection, to be read.
@@ -189,6 +200,7 @@ impl<S: NonBlocking, H: Handler> Slot<S, H> {
     fn feed_those(&mut self, count: usize) -> Result<Brought, SlotFault>
         ensures { Serves (fault_in result) (parts (S.remaining self.old.stream) self.old.unfed self.old.lent.conn (H.told self.old.handler) self.old.outbox (S.written self.old.stream)) (parts (S.remaining self.new.stream) self.new.unfed self.new.lent.conn (H.told self.new.handler) self.new.outbox (S.written self.new.stream)) }
     {
+        self.reads = self.reads.wrapping_add(1);
         match self.feed() {
             Ok(_) => Ok(Brought::Octets(count)),
             Err(fault) => Err(fault),
@@ -205,6 +217,7 @@ impl<S: NonBlocking, H: Handler> Slot<S, H> {
             Ok(Brought::Waits) => Ok(Brought::Waits),
             Ok(Brought::Held) => Ok(Brought::Held),
             Ok(Brought::NoRoom) => Ok(Brought::NoRoom),
+            Ok(Brought::Later) => Ok(Brought::Later),
             Err(fault) => Err(fault),
         }
     }
@@ -215,7 +228,7 @@ impl<S: NonBlocking, H: Handler> Slot<S, H> {
     {
         match self.begin() {
             Ok(Next::Feed) => self.bring(inbox),
-            Ok(Next::Write) => Ok(Brought::Held),
+            Ok(Next::Write) => Ok(Brought::Later),
             Err(fault) => Err(fault),
         }
     }
@@ -307,6 +320,30 @@ impl<S: NonBlocking, H: Handler> Slot<S, H> {
         fault
     }
 
+    /// Closes the connection without an error, as `Conn::close`.
+    ///
+    /// # Errors
+    ///
+    /// Those of `Conn::close`: nothing has changed then.
+    pub fn close(&mut self) -> Result<(), CloseRefusal>
+        ensures closes { Closes self.old.lent.conn.core None result self.new.lent.conn.core }
+        ensures serves { Serves None (parts (S.remaining self.old.stream) self.old.unfed self.old.lent.conn (H.told self.old.handler) self.old.outbox (S.written self.old.stream)) (parts (S.remaining self.new.stream) self.new.unfed self.new.lent.conn (H.told self.new.handler) self.new.outbox (S.written self.new.stream)) }
+    {
+        self.lent.close(None)
+    }
+
+    /// An empty frame goes out, while the connection is open (part 2, 2.4.5).
+    ///
+    /// # Errors
+    ///
+    /// Those of `Conn::apply`: nothing has changed then.
+    pub fn beat(&mut self) -> Result<Given, Refusal>
+        ensures does { Does self.old.lent.conn.core Op.Beat result self.new.lent.conn.core }
+        ensures serves { Serves None (parts (S.remaining self.old.stream) self.old.unfed self.old.lent.conn (H.told self.old.handler) self.old.outbox (S.written self.old.stream)) (parts (S.remaining self.new.stream) self.new.unfed self.new.lent.conn (H.told self.new.handler) self.new.outbox (S.written self.new.stream)) }
+    {
+        self.lent.perform(Op::Beat)
+    }
+
     /// Takes it apart: the stream, the connection and the application's part.
     pub fn into_parts(self) -> (S, Conn, H)
         ensures stream { result.0 ≡ self.stream }
@@ -336,7 +373,8 @@ fn after(served: Served, brought: Brought) -> Served
     ensures { result ≡ Served.Ended → served ≡ Served.Ended }
 {
     match (served, brought) {
-        (Served::Waits, Brought::Octets(_)) => Served::Again,
+        // The stream was not asked to its end, so it may not tell that there is more.
+        (Served::Waits, Brought::Octets(_) | Brought::Later) => Served::Again,
         (Served::Waits | Served::Again, Brought::NoRoom) => Served::NoRoom,
         _ => served,
     }

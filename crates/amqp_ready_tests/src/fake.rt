@@ -8,6 +8,8 @@ use amqp_ready::{Handler, Lent, Moved, Next, NonBlocking};
 #[derive(Drop)]
 pub(crate) struct Fake<'a> {
     pub says: &'a [u8],
+    /// Behind what it says the peer stays; else the octets end.
+    pub stays: bool,
     /// The most octets that are moved at once.
     pub part: usize,
     pub took: Vec<u8>,
@@ -29,7 +31,7 @@ impl NonBlocking for Fake<'_> {
 
     fn read_some(&mut self, buffer: &mut [u8]) -> Result<Moved, Failed> {
         self.reads = self.reads.wrapping_add(1);
-        if self.reads % 2 == 1 {
+        if self.reads % 2 == 1 || self.stays && self.says.is_empty() {
             return Ok(Moved::Waits);
         }
         let count = self.says.len().min(self.part).min(buffer.len());

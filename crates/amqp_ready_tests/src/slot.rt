@@ -1,39 +1,9 @@
 //! A slot over a fake stream.
 use crate::fake::{Counts, Fake};
+use crate::peer::{OURS, TWICE, WHOLE, connection};
 use amqp_conn::*;
 use amqp_ready::{Inbox, Next, Served, Slot, SlotFault};
-use std::alloc::{AllocError, Global};
-
-/// Header, open and begin of a peer, and its close.
-const WHOLE: &[u8] =
-    b"\x41\x4d\x51\x50\x00\x01\x00\x00\x00\x00\x00\x1a\x02\x00\x00\x00\x00\x53\x10\xc0\x0d\x04\xa1\x01\x61\x40\x70\x00\x01\x00\x00\x60\x00\x00\x00\x00\x00\x0c\x02\x00\x00\x00\x00\x53\x18\x45";
-
-/// Our header, open and close.
-const OURS: &[u8] =
-    b"\x41\x4d\x51\x50\x00\x01\x00\x00\x00\x00\x00\x1a\x02\x00\x00\x00\x00\x53\x10\xc0\x0d\x04\xa1\x01\x61\x40\x70\x00\x01\x00\x00\x60\x00\x00\x00\x00\x00\x0c\x02\x00\x00\x00\x00\x53\x18\x45";
-
-/// Header and open, and an open again.
-const TWICE: &[u8] =
-    b"\x41\x4d\x51\x50\x00\x01\x00\x00\x00\x00\x00\x1a\x02\x00\x00\x00\x00\x53\x10\xc0\x0d\x04\xa1\x01\x61\x40\x70\x00\x01\x00\x00\x60\x00\x00\x00\x00\x00\x1a\x02\x00\x00\x00\x00\x53\x10\xc0\x0d\x04\xa1\x01\x61\x40\x70\x00\x01\x00\x00\x60\x00\x00";
-
-fn settings(alloc: Global) -> Result<Config, AllocError> {
-    Ok(Config {
-        container_id: Text::new(alloc, "a")?,
-        hostname: None,
-        max_frame: 65536,
-        idle_time_out: None,
-        first_id: 0,
-        window: 2048,
-        journal_limit: 1000,
-    })
-}
-
-fn connection(alloc: Global) -> Option<Conn> {
-    match settings(alloc) {
-        Ok(config) => Conn::new(alloc, config).ok(),
-        Err(_) => None,
-    }
-}
+use std::alloc::Global;
 
 /// How so many turns of a slot end.
 #[derive(Clone, Copy, PartialEq, Eq)]
@@ -57,6 +27,7 @@ fn turned(
 ) -> Option<Came> {
     let fake = Fake {
         says,
+        stays: false,
         part,
         took: Vec::new(alloc),
         room,

@@ -1,5 +1,5 @@
 use Rattle.std.proofs.Common.{◌∙◌}
-use Rattle.amqp_ready.proofs.Slots.{sent-then, only-then}
+use Rattle.amqp_ready.proofs.Turning.{sent-then, only-then}
 use Rattle.amqp_ready.proofs.sending.flush.Goals as goal
 
 pub returns-in-Ok-Behind-clause-sent : goal.returns-in-Ok-Behind-clause-sent

@@ -1,4 +1,4 @@
-use Rattle.std.proofs.Common.{◌≡◌, [], ap, ◌∙◌}
+use Rattle.std.proofs.Common.{◌≡◌, []}
 use Rattle.amqp_ready.proofs.Gathering.{gathers-one, copied-behind, long-behind}
 use Rattle.amqp_ready.proofs.outbox.Outbox.gather_one.Goals as goal
 

@@ -1,5 +1,5 @@
 use Rattle.amqp_ready.specs.Serving.{fault_in}
-use Rattle.amqp_ready.proofs.Slots.{serves-fed}
+use Rattle.amqp_ready.proofs.Turning.{serves-fed}
 use Rattle.amqp_ready.proofs.slot.Slot.feed.Goals as goal
 
 pub returns : goal.returns

@@ -1,9 +1,9 @@
-use Rattle.std.proofs.Common.{None, Some}
+use Rattle.std.proofs.Common.{Some}
 use Rattle.amqp_ready.specs.Serving.{fault_in}
 use Rattle.amqp_ready.specs.Slotting.{parts}
 use Rattle.amqp_ready.specs.declared.fault.SlotFault.TheVariants as fault
 use Rattle.amqp_ready.proofs.Keeping.{kept-still, kept-gone}
-use Rattle.amqp_ready.proofs.Slots.{serves-then, serves-other, serves-lent}
+use Rattle.amqp_ready.proofs.Turning.{serves-then, serves-other, serves-lent}
 use Rattle.amqp_ready.proofs.slot.Slot.finish.Goals as goal
 
 pub returns-in-Ok-clause-serves : goal.returns-in-Ok-clause-serves

@@ -1,6 +1,6 @@
 use Rattle.std.proofs.Common.{Some}
 use Rattle.amqp_ready.specs.declared.fault.SlotFault.TheVariants as fault
-use Rattle.amqp_ready.proofs.Slots.{serves-sent, serves-other}
+use Rattle.amqp_ready.proofs.Turning.{serves-sent, serves-other}
 use Rattle.amqp_ready.proofs.slot.Slot.flush.Goals as goal
 
 pub returns-in-Ok-clause-serves : goal.returns-in-Ok-clause-serves

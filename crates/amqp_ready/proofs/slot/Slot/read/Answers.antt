@@ -1,5 +1,5 @@
 use Rattle.amqp_ready.specs.Serving.{fault_in}
-use Rattle.amqp_ready.proofs.Slots.{serves-none, serves-read, serves-other}
+use Rattle.amqp_ready.proofs.Turning.{serves-none, serves-read, serves-other}
 use Rattle.amqp_ready.proofs.slot.Slot.read.Goals as goal
 
 pub returns-then-is_held-clause-serves : goal.returns-then-is_held-clause-serves

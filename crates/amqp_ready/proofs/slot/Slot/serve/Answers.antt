@@ -2,7 +2,7 @@ use Rattle.std.proofs.Common.{ℕ, List, Option, Some, ap, subst, sym}
 use Rattle.amqp_rules.specs.declared.reply.Given.{Given}
 use Rattle.amqp_ready.specs.declared.fault.SlotFault.{SlotFault}
 use Rattle.amqp_ready.specs.Slotting.{parts, Serves}
-use Rattle.amqp_ready.proofs.Slots.{serves-last}
+use Rattle.amqp_ready.proofs.Turning.{serves-last}
 use Rattle.amqp_ready.proofs.slot.Slot.serve.Goals as goal
 
 pub returns-in-Err-clause-serves : goal.returns-in-Err-clause-serves

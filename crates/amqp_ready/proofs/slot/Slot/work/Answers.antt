@@ -1,7 +1,6 @@
-use Rattle.std.proofs.Common.{None, Some}
 use Rattle.amqp_ready.specs.Serving.{fault_in}
 use Rattle.amqp_ready.specs.Slotting.{parts}
-use Rattle.amqp_ready.proofs.Slots.{serves-then}
+use Rattle.amqp_ready.proofs.Turning.{serves-then}
 use Rattle.amqp_ready.proofs.slot.Slot.work.Goals as goal
 
 pub returns-in-Ok-Feed : goal.returns-in-Ok-Feed

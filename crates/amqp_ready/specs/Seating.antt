@@ -1,0 +1,108 @@
+-- Slots by key: how far each is, and what a turn does.
+use Rattle.std.specs.Prelude.{ℕ, ◌≡◌, ◌≢◌, ◌⊎◌, List, [], Option, Some, None, option_map}
+use Rattle.slab.specs.Slab.{Slab}
+use Rattle.slab.specs.Slab as slab
+use Rattle.amqp_rules.specs.declared.reply.Given.{Given}
+use Rattle.amqp_conn.specs.declared.fault.ConnFault.TheVariants as conn
+use Rattle.amqp_conn.specs.declared.phase.Phase.TheVariants as phase
+use Rattle.amqp_conn.specs.Connection.{Connection, connection, in_phase}
+use Rattle.amqp_conn.specs.Pumping.{AllWent}
+use Rattle.amqp_ready.specs.declared.fault.SlotFault.{SlotFault}
+use Rattle.amqp_ready.specs.declared.fault.SlotFault.TheVariants as fault
+use Rattle.amqp_ready.specs.declared.slot.Slot.{Slot}
+use Rattle.amqp_ready.specs.declared.seat.Seat.{Seat}
+use Rattle.amqp_ready.specs.declared.seat.Stage.{Stage}
+use Rattle.amqp_ready.specs.declared.seat.Stage.TheVariants as stage
+use Rattle.amqp_ready.specs.Slotting.{Parts, parts, Serves}
+
+-- the octets have ended
+abbrev pub lost : Connection → Connection
+lost c = connection (in_phase phase.Closed c.core) []
+
+-- the fault by which a slot ends, where it ends by one
+abbrev pub fault_of : Stage → Option SlotFault
+fault_of stage.Works = None
+fault_of (stage.Leaves e) = Some e
+fault_of (stage.Over why) = why
+
+-- what a turn told ends the slot, and nothing else does; want of memory ends none
+abbrev pub IsTold : Option SlotFault → Stage → Type 0
+IsTold why s = (why ≡ fault_of s) ⊎ ((why ≡ Some (fault.Conn conn.NoMemory)) × (s ≡ stage.Works))
+
+abbrev pub IsOver : Stage → Type 0
+IsOver stage.Works = ⊥
+IsOver (stage.Leaves e) = ⊥
+IsOver (stage.Over why) = Unit {0}
+
+-- how far a slot is that has taken too long
+abbrev pub late : Stage → Stage
+late stage.Works = stage.Leaves fault.TimedOut
+late (stage.Leaves e) = stage.Over (Some e)
+late (stage.Over why) = stage.Over why
+
+-- the clock was looked at
+abbrev pub IsTicked : Stage → Stage → Type 0
+IsTicked s t = (t ≡ s) ⊎ (t ≡ late s)
+
+-- all is written of a connection that has ended
+abbrev pub IsDone : Parts → Type 0
+IsDone p = (p.conn.core.phase ≡ phase.Closed) × AllWent p.conn × (p.left ≡ [])
+
+-- a turn of a slot that is at work
+pub record Worked (s : Stage) (p q : Parts) : Type 0 where
+  pub why : Option SlotFault
+  pub serves : Serves why p q
+  pub told : IsTold why s
+  pub done : s ≡ stage.Over None → IsDone q
+
+-- One turn. What a slot put out that ends by a fault goes on its way, and the fault stays; a slot that has ended has no turn.
+abbrev pub Turns : Stage → Stage → Parts → Parts → Type 0
+Turns stage.Works t p q = Worked t p q
+Turns (stage.Leaves e) t p q = (why : Option SlotFault) × Serves why p q × (fault_of t ≡ Some e)
+Turns (stage.Over why) t p q = (t ≡ stage.Over why) × (q ≡ p)
+
+module _ {S H : Type 0} where
+  -- the slot under a key, and how far it is
+  abbrev pub held : Slab (Seat S H) → ℕ → Option (Slot S H × Stage)
+  held s key = option_map (λ seat. (seat.slot, seat.stage)) (slab.get s key)
+
+  abbrev pub AllStay : Slab (Seat S H) → Slab (Seat S H) → Type 0
+  AllStay old new = (key : ℕ) → held new key ≡ held old key
+
+  -- every other slot is as it was
+  abbrev pub OthersStay : Slab (Seat S H) → Slab (Seat S H) → ℕ → Type 0
+  OthersStay old new key = (other : ℕ) → other ≢ key → held new other ≡ held old other
+
+  abbrev pub IsOverAt : Option (Slot S H × Stage) → Type 0
+  IsOverAt None = ⊥
+  IsOverAt (Some p) = IsOver p.1
+
+  -- a slot at work, of which nothing was read or written
+  abbrev pub IsNew : Option (Slot S H × Stage) → S → Connection → H → Type 0
+  IsNew None stream conn handler = ⊥
+  IsNew (Some p) stream conn handler =
+      (p.1 ≡ stage.Works) × (p.0.stream ≡ stream) × (p.0.lent.conn ≡ conn) × (p.0.handler ≡ handler) × (p.0.unfed ≡ []) × (p.0.outbox ≡ [])
+
+  -- this is left of what had ended so
+  abbrev pub IsLeft : Option (Slot S H × Stage) → S → Connection → H → Option SlotFault → Type 0
+  IsLeft None stream conn handler why = ⊥
+  IsLeft (Some p) stream conn handler why = (p.1 ≡ stage.Over why) × (stream ≡ p.0.stream) × (conn ≡ lost p.0.lent.conn) × (handler ≡ p.0.handler)
+
+module _ {S H : Type 0} (remaining written : S → Option (List ℕ)) (told : H → Option (List Given)) where
+  abbrev pub parts_of : Slot S H → Parts
+  parts_of s = parts (remaining s.stream) s.unfed s.lent.conn (told s.handler) s.outbox (written s.stream)
+
+  -- what stood under a key had one turn, if a slot stood there
+  abbrev pub TurnsAt : Option (Slot S H × Stage) → Option (Slot S H × Stage) → Type 0
+  TurnsAt None new = new ≡ None
+  TurnsAt (Some p) new = (q : Slot S H × Stage) × (new ≡ Some q) × Turns p.1 q.1 (parts_of p.0) (parts_of q.0)
+
+  -- the connection under a key was lent, if a slot stands there, and its stage is as it was
+  abbrev pub LentAt : Option (Slot S H × Stage) → Option (Slot S H × Stage) → Type 0
+  LentAt None new = new ≡ None
+  LentAt (Some p) new = (q : Slot S H × Stage) × (new ≡ Some q) × (q.1 ≡ p.1) × Serves None (parts_of p.0) (parts_of q.0)
+
+  -- the clock was looked at for what stands under a key, if a slot stands there
+  abbrev pub TicksAt : Option (Slot S H × Stage) → Option (Slot S H × Stage) → Type 0
+  TicksAt None new = new ≡ None
+  TicksAt (Some p) new = (q : Slot S H × Stage) × (new ≡ Some q) × IsTicked p.1 q.1 × Serves None (parts_of p.0) (parts_of q.0)

@@ -1,0 +1,166 @@
+//! Many connections on one thread, over mio's poll.
+use crate::device::Socket;
+use crate::handler::Handler;
+use crate::seat::Ended;
+use crate::slots::{Returned, Round, Slots};
+use crate::times::Limits;
+use amqp_conn::Conn;
+use mio::net::TcpStream;
+use mio::{Events, Interest, Poll, Token};
+use std::alloc::{AllocError, Global};
+use std::io;
+use std::net::Net;
+use std::time::Duration;
+
+/// How long a turn waits at most behind one in which memory was refused, in milliseconds.
+const PAUSE: u64 = 10;
+
+/// Many connections on one thread: each over a stream of its own, which does not wait, in a slot of its own.
+///
+/// A program adds connections, and calls `turn` and `take_ended` in a loop. Which streams are ready is told by the system, and no clause leans on it: a slot
+/// that is served too often reads and writes nothing.
+#[derive(Drop)]
+pub struct Driver<H> {
+    poll: Poll,
+    events: Events,
+    slots: Slots<Socket, H>,
+    /// Memory was refused in the last turn.
+    is_short: bool,
+}
+
+/// Why no slot was added; all is handed back.
+#[derive(Drop)]
+pub struct NotAdded<H> {
+    pub error: io::Error,
+    pub returned: Returned<Socket, H>,
+}
+
+impl<H: Handler + Drop> Driver<H> {
+    /// Without a connection. A turn takes at most so many events of the system's.
+    ///
+    /// # Errors
+    ///
+    /// Where the system has no poll, or memory is refused.
+    pub fn new<R: Net>(rt: &R, alloc: Global, events: usize) -> io::Result<Driver<H>> {
+        let poll = Poll::new(rt)?;
+        Ok(Driver {
+            poll,
+            events: Events::with_capacity(alloc, events)?,
+            slots: Slots::new(alloc),
+            is_short: false,
+        })
+    }
+
+    /// The slots, to be read.
+    pub fn slots(&self) -> &Slots<Socket, H> {
+        &self.slots
+    }
+
+    /// A connection more, over this stream: its key.
+    ///
+    /// # Errors
+    ///
+    /// Where the system does not register the stream, or memory is refused, all is handed back.
+    pub fn add(
+        &mut self,
+        mut stream: TcpStream,
+        conn: Conn,
+        handler: H,
+    ) -> Result<usize, NotAdded<H>> {
+        let key = self.slots.next_key();
+        let both = Interest::READABLE | Interest::WRITABLE;
+        match self.poll.registry().register(&mut stream, Token(key), both) {
+            Ok(()) => self.add_registered(Socket::new(stream), conn, handler),
+            Err(error) => Err(NotAdded {
+                error,
+                returned: Returned {
+                    stream: Socket::new(stream),
+                    conn,
+                    handler,
+                },
+            }),
+        }
+    }
+
+    fn add_registered(
+        &mut self,
+        stream: Socket,
+        conn: Conn,
+        handler: H,
+    ) -> Result<usize, NotAdded<H>> {
+        match self.slots.add(stream, conn, handler) {
+            Ok(key) => Ok(key),
+            Err(mut returned) => {
+                self.forget(&mut returned.stream);
+                Err(NotAdded {
+                    error: io::Error::from(AllocError),
+                    returned,
+                })
+            }
+        }
+    }
+
+    /// No event tells of the stream any more.
+    fn forget(&self, stream: &mut Socket) {
+        let _ = self.poll.registry().deregister(stream.stream_mut());
+    }
+
+    /// Waits at most so long for streams that are ready, or without an end, and serves each slot once that is to be served: with one read of at most 65536
+    /// octets. It does not wait where a slot has more to be done.
+    ///
+    /// # Errors
+    ///
+    /// Where the system's wait failed. No slot was served then.
+    pub fn turn(&mut self, timeout: Option<Duration>) -> io::Result<Round> {
+        self.wait(timeout)?;
+        let round = self.slots.serve_due();
+        self.is_short = round.is_short;
+        Ok(round)
+    }
+
+    fn wait(&mut self, timeout: Option<Duration>) -> io::Result<()> {
+        let timeout = self.at_most(timeout);
+        self.poll.poll(&mut self.events, timeout)?;
+        for event in &self.events {
+            self.slots.wake(event.token().0);
+        }
+        Ok(())
+    }
+
+    /// How long a turn waits: where memory was refused it lets some time pass, so that it does not spin.
+    fn at_most(&self, timeout: Option<Duration>) -> Option<Duration> {
+        if !self.slots.is_any_due() {
+            return timeout;
+        }
+        if self.is_short {
+            return Some(Duration::from_millis(PAUSE));
+        }
+        Some(Duration::ZERO)
+    }
+
+    /// The slot under the key is served in the next turn, whether its stream is ready or not: its handler goes on.
+    pub fn wake(&mut self, key: usize) {
+        self.slots.wake(key);
+    }
+
+    /// The clock is looked at (`Slots::tick`), in milliseconds from whatever moment. It makes no turn: the next one writes what it put out.
+    pub fn tick(&mut self, limits: Limits, now: u64) {
+        self.slots.tick(limits, now);
+    }
+
+    /// Each connection that is open is closed. A slot ends once its peer has closed, too; what is left of those that do not end is dropped with the driver.
+    pub fn close_all(&mut self) {
+        self.slots.close_all();
+    }
+
+    /// What is left of a slot that has ended. Its key may name another from here on.
+    pub fn take_ended(&mut self) -> Option<Ended<Socket, H>> {
+        match self.slots.take_ended() {
+            Some(mut ended) => {
+                self.forget(&mut ended.stream);
+                Some(ended)
+            }
+            None => None,
+        }
+    }
+}

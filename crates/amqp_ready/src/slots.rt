@@ -1,0 +1,359 @@
+//! Slots by key, for one thread.
+ghost use Rattle.std.specs.Prelude.{◌≡◌, ◌==◌, [], None, Some, IfSome, IfOk, IfErr, OnOk, OnErr, option_copied, option_map};
+ghost use Rattle.slab.specs.Slab.{HasRoomFor, slab_len};
+ghost use Rattle.amqp_ready.specs.Seating.{AllStay, IsLeft, IsNew, IsOverAt, LentAt, OthersStay, TicksAt, TurnsAt, held};
+
+use crate::device::NonBlocking;
+use crate::fault::SlotFault;
+use crate::handler::Handler;
+use crate::inbox::Inbox;
+use crate::seat::{Ended, Seat, Stage, Turned};
+use crate::slot::Slot;
+use crate::times::{Due, Limits};
+use amqp_conn::Conn;
+use slab::Slab;
+use std::alloc::{AllocError, Global};
+use std::collections::VecDeque;
+
+/// Slots by key, and which of them are to be served. A key names one slot until what is left of that was taken out (`take_ended`), and may name another then.
+///
+/// | call | cost, for n slots |
+/// |---|---|
+/// | `add` | O(1), and now and then a move of all to more room |
+/// | `wake`, `get`, `take_ended`, `serve` but for the turn itself | O(1) |
+/// | `close_all`, `tick` | O(n) |
+#[derive(Drop)]
+pub struct Slots<S, H> {
+    alloc: Global,
+    inbox: Inbox,
+    seats: Slab<Seat<S, H>>,
+    /// The keys of those that are to be served. `add` makes room for all of them.
+    due: VecDeque<usize>,
+    /// The one that ended last, of those that were not taken out.
+    ended: Option<usize>,
+}
+
+/// A stream, a connection and the application's part, handed back.
+#[derive(Drop)]
+pub struct Returned<S, H> {
+    pub stream: S,
+    pub conn: Conn,
+    pub handler: H,
+}
+
+/// What serving those that were due came to.
+#[derive(Clone, Copy, Debug, PartialEq, Eq)]
+pub struct Round {
+    /// How many turns there were.
+    pub turns: usize,
+    /// Memory was refused in one of them.
+    pub is_short: bool,
+}
+
+impl<S: NonBlocking, H: Handler> Slots<S, H> {
+    /// None.
+    pub fn new(alloc: Global) -> Slots<S, H>
+        ensures { result.seats.slots ≡ [] }
+    {
+        Slots {
+            alloc,
+            inbox: Inbox::new(alloc),
+            seats: Slab::new(alloc),
+            due: VecDeque::new(alloc),
+            ended: None,
+        }
+    }
+
+    /// How many there are, with those that ended and were not taken out.
+    pub fn len(&self) -> usize
+        ensures { result ≡ slab_len self.now.seats }
+    {
+        self.seats.len()
+    }
+
+    /// There are none.
+    pub fn is_empty(&self) -> bool
+        ensures { result ≡ (slab_len self.now.seats == 0) }
+    {
+        self.len() == 0
+    }
+
+    /// The key that `add` gives next.
+    pub fn next_key(&self) -> usize
+        ensures { result ≡ self.now.seats.vacant_key }
+    {
+        self.seats.vacant_key()
+    }
+
+    /// A slot is to be served.
+    pub fn is_any_due(&self) -> bool {
+        !self.due.is_empty()
+    }
+
+    /// The slot under the key, to be read; also one that has ended and was not taken out.
+    pub fn get(&self, key: usize) -> Option<&Slot<S, H>>
+        ensures { option_copied result ≡ option_map (λ p. p.0) (held self.now.seats key) }
+    {
+        match self.seats.get(key) {
+            Some(seat) => Some(&seat.slot),
+            None => None,
+        }
+    }
+
+    /// How far the slot under the key is.
+    pub fn stage(&self, key: usize) -> Option<Stage>
+        ensures { result ≡ option_map (λ p. p.1) (held self.now.seats key) }
+    {
+        match self.seats.get(key) {
+            Some(seat) => Some(seat.stage),
+            None => None,
+        }
+    }
+
+    /// Room for one more, and for all of them among those that are to be served.
+    fn make_room(&mut self) -> Result<(), AllocError>
+        ensures room { OnOk result (HasRoomFor self.new.seats 1) }
+        ensures key { self.new.seats.vacant_key ≡ self.old.seats.vacant_key }
+        ensures slots { self.new.seats.slots ≡ self.old.seats.slots }
+    {
+        self.seats.reserve(1)?;
+        self.due.reserve(self.seats.len().saturating_add(1))
+    }
+
+    /// A slot more, which is to be served.
+    ///
+    /// # Errors
+    ///
+    /// Where memory is refused, all is handed back.
+    pub fn add(&mut self, stream: S, conn: Conn, handler: H) -> Result<usize, Returned<S, H>>
+        ensures key { IfOk result (λ key. key ≡ self.old.seats.vacant_key) }
+        ensures vacant { IfOk result (λ key. held self.old.seats key ≡ None) }
+        ensures added { IfOk result (λ key. IsNew (held self.new.seats key) stream conn handler) }
+        ensures others { IfOk result (OthersStay self.old.seats self.new.seats) }
+        ensures err { OnErr result (AllStay self.old.seats self.new.seats) }
+        ensures back { IfErr result (λ r. (r.stream ≡ stream) × (r.conn ≡ conn) × (r.handler ≡ handler)) }
+    {
+        if self.make_room().is_err() {
+            return Err(Returned {
+                stream,
+                conn,
+                handler,
+            });
+        }
+        Ok(self.put_in(stream, conn, handler))
+    }
+
+    fn put_in(&mut self, stream: S, conn: Conn, handler: H) -> usize
+        requires { HasRoomFor self.old.seats 1 }
+        ensures key { result ≡ self.old.seats.vacant_key }
+        ensures vacant { held self.old.seats result ≡ None }
+        ensures added { IsNew (held self.new.seats result) stream conn handler }
+        ensures others { OthersStay self.old.seats self.new.seats result }
+    {
+        let seat = Seat::new(self.alloc, stream, conn, handler);
+        let key = self.seats.insert_reserved(seat);
+        self.wake(key);
+        key
+    }
+
+    /// The slot under the key, if one is there that goes on, is to be served.
+    pub fn wake(&mut self, key: usize)
+        ensures { AllStay self.old.seats self.new.seats }
+    {
+        if self.becomes_due(key) {
+            // `add` has made room for it.
+            let _ = self.due.push_back(key);
+        }
+    }
+
+    fn becomes_due(&mut self, key: usize) -> bool
+        ensures { AllStay self.old.seats self.new.seats }
+    {
+        match self.seats.get_mut(key) {
+            Some(seat) => seat.becomes_due(),
+            None => false,
+        }
+    }
+
+    /// One turn of the slot under the key, with one read of at most 65536 octets.
+    pub fn serve(&mut self, key: usize) -> Turned
+        ensures turns { TurnsAt S.remaining S.written H.told (held self.old.seats key) (held self.new.seats key) }
+        ensures over { result ≡ Turned.Over → IsOverAt (held self.new.seats key) }
+        ensures others { OthersStay self.old.seats self.new.seats key }
+    {
+        let turned = self.turn(key);
+        match turned {
+            Turned::Over => self.put_aside(key),
+            Turned::Again | Turned::NoRoom => self.wake(key),
+            Turned::Waits | Turned::Absent => {}
+        }
+        turned
+    }
+
+    fn turn(&mut self, key: usize) -> Turned
+        ensures turns { TurnsAt S.remaining S.written H.told (held self.old.seats key) (held self.new.seats key) }
+        ensures over { result ≡ Turned.Over → IsOverAt (held self.new.seats key) }
+        ensures others { OthersStay self.old.seats self.new.seats key }
+    {
+        match self.seats.get_mut(key) {
+            Some(seat) => seat.turn(&mut self.inbox),
+            None => Turned::Absent,
+        }
+    }
+
+    /// The slot under the key has ended: it is to be taken out.
+    fn put_aside(&mut self, key: usize)
+        ensures { AllStay self.old.seats self.new.seats }
+    {
+        if let Some(seat) = self.seats.get_mut(key) {
+            seat.before = self.ended;
+            self.ended = Some(key);
+        }
+    }
+
+    /// The slot under the key stands no more among those that are to be served.
+    fn leave_queue(&mut self, key: usize)
+        ensures { AllStay self.old.seats self.new.seats }
+    {
+        if let Some(seat) = self.seats.get_mut(key) {
+            seat.is_due = false;
+        }
+    }
+
+    /// Serves the slot that was first to be served: its key, and what that came to.
+    pub fn serve_next(&mut self) -> Option<(usize, Turned)>
+        ensures turns { IfSome result (λ r. TurnsAt S.remaining S.written H.told (held self.old.seats r.0) (held self.new.seats r.0)) }
+        ensures others { IfSome result (λ r. OthersStay self.old.seats self.new.seats r.0) }
+        ensures none { result ≡ None → self.new.seats ≡ self.old.seats }
+    {
+        match self.due.pop_front() {
+            Some(key) => {
+                self.leave_queue(key);
+                Some((key, self.serve(key)))
+            }
+            None => None,
+        }
+    }
+
+    /// Serves each slot once that is to be served now.
+    pub fn serve_due(&mut self) -> Round {
+        let mut round = Round {
+            turns: 0,
+            is_short: false,
+        };
+        for _ in 0..self.due.len() {
+            if let Some((_, turned)) = self.serve_next() {
+                round.turns = round.turns.wrapping_add(1);
+                round.is_short = round.is_short || turned == Turned::NoRoom;
+            }
+        }
+        round
+    }
+
+    /// What is left of a slot that has ended, which is taken out: its key may name another from here on.
+    pub fn take_ended(&mut self) -> Option<Ended<S, H>>
+        ensures left { IfSome result (λ e. IsLeft (held self.old.seats e.key) e.stream e.conn e.handler e.fault) }
+        ensures gone { IfSome result (λ e. held self.new.seats e.key ≡ None) }
+        ensures others { IfSome result (λ e. OthersStay self.old.seats self.new.seats e.key) }
+        ensures none { result ≡ None → self.new.seats ≡ self.old.seats }
+    {
+        match self.ended {
+            Some(key) => self.take_out(key),
+            None => None,
+        }
+    }
+
+    fn take_out(&mut self, key: usize) -> Option<Ended<S, H>>
+        ensures left { IfSome result (λ e. IsLeft (held self.old.seats e.key) e.stream e.conn e.handler e.fault) }
+        ensures gone { IfSome result (λ e. held self.new.seats e.key ≡ None) }
+        ensures others { IfSome result (λ e. OthersStay self.old.seats self.new.seats e.key) }
+        ensures none { result ≡ None → self.new.seats ≡ self.old.seats }
+    {
+        let Some((fault, before)) = self.ending(key) else {
+            return None;
+        };
+        self.ended = before;
+        match self.seats.try_remove(key) {
+            Some(seat) => Some(seat.into_ended(key, fault)),
+            None => None,
+        }
+    }
+
+    /// Why the slot under the key has ended, if it has, and which one ended before it.
+    fn ending(&self, key: usize) -> Option<(Option<SlotFault>, Option<usize>)>
+        ensures { IfSome result (λ r. option_map (λ p. p.1) (held self.now.seats key) ≡ Some (Stage.Over r.0)) }
+    {
+        match self.seats.get(key) {
+            Some(seat) => seat.ending(),
+            None => None,
+        }
+    }
+
+    /// The connection under the key is closed, as `Conn::close` without an error; where that is refused nothing is done.
+    pub fn close(&mut self, key: usize)
+        ensures lent { LentAt S.remaining S.written H.told (held self.old.seats key) (held self.new.seats key) }
+        ensures others { OthersStay self.old.seats self.new.seats key }
+    {
+        self.close_one(key);
+        self.wake(key);
+    }
+
+    fn close_one(&mut self, key: usize)
+        ensures lent { LentAt S.remaining S.written H.told (held self.old.seats key) (held self.new.seats key) }
+        ensures others { OthersStay self.old.seats self.new.seats key }
+    {
+        if let Some(seat) = self.seats.get_mut(key) {
+            let _ = seat.slot.close();
+        }
+    }
+
+    /// Each connection that is open is closed. A slot ends once its peer has closed, too.
+    pub fn close_all(&mut self) {
+        for key in 0..self.seats.capacity() {
+            self.close(key);
+        }
+    }
+
+    /// The clock is looked at (`tick_one`) for all slots. O(n) for n slots: some times a second is often enough.
+    pub fn tick(&mut self, limits: Limits, now: u64) {
+        for key in 0..self.seats.capacity() {
+            self.tick_one(key, limits, now);
+        }
+    }
+
+    /// The clock is looked at for the slot under the key, in milliseconds from whatever moment: its connection beats where its peer would take us for gone
+    /// (part 2, 2.4.5), and where it has taken too long it is closed, and leaves by `SlotFault::TimedOut`; one that leaves already has ended then.
+    pub fn tick_one(&mut self, key: usize, limits: Limits, now: u64)
+        ensures ticks { TicksAt S.remaining S.written H.told (held self.old.seats key) (held self.new.seats key) }
+        ensures others { OthersStay self.old.seats self.new.seats key }
+    {
+        let due = self.look(key, limits, now);
+        if due == Due::Nothing {
+            return;
+        }
+        if self.act(key, due) {
+            self.put_aside(key);
+        }
+        self.wake(key);
+    }
+
+    fn look(&mut self, key: usize, limits: Limits, now: u64) -> Due
+        ensures { AllStay self.old.seats self.new.seats }
+    {
+        match self.seats.get_mut(key) {
+            Some(seat) => seat.look(limits, now),
+            None => Due::Nothing,
+        }
+    }
+
+    /// What the clock asks of the slot under the key is done: whether that ended it now.
+    fn act(&mut self, key: usize, due: Due) -> bool
+        ensures ticks { TicksAt S.remaining S.written H.told (held self.old.seats key) (held self.new.seats key) }
+        ensures others { OthersStay self.old.seats self.new.seats key }
+    {
+        match self.seats.get_mut(key) {
+            Some(seat) => seat.act(due),
+            None => false,
+        }
+    }
+}

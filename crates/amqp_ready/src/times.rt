@@ -1,0 +1,130 @@
+//! How long a slot may take, on a clock that the program hands in.
+use amqp_conn::{Conn, Phase};
+
+/// How long slots may take, in milliseconds.
+#[derive(Clone, Copy, Debug, PartialEq, Eq)]
+pub struct Limits {
+    /// Until a connection that was added is open.
+    pub open: u64,
+    /// Without an octet of the peer's while a connection is open; twice what it was told (`Config::idle_time_out`) is fair.
+    pub silence: u64,
+    /// From our close, or from a fault, until a slot has ended.
+    pub close: u64,
+}
+
+/// What a slot awaits.
+#[derive(Clone, Copy, PartialEq, Eq)]
+pub(crate) enum Span {
+    Open,
+    /// Nothing: it runs.
+    Nothing,
+    End,
+}
+
+/// What the clock asks of a slot.
+#[derive(Clone, Copy, PartialEq, Eq)]
+pub(crate) enum Due {
+    Nothing,
+    /// An empty frame, so that the peer does not take us for gone (part 2, 2.4.5).
+    Beat,
+    /// It has taken too long.
+    End,
+}
+
+/// What a slot shows when the clock is looked at.
+#[derive(Clone, Copy)]
+pub(crate) struct Seen {
+    pub span: Span,
+    /// How many reads brought octets.
+    pub reads: u64,
+    /// How many units were put out.
+    pub put_out: u64,
+}
+
+/// When a slot was seen to do something last.
+#[derive(Clone, Copy)]
+pub(crate) struct Times {
+    seen: Seen,
+    since: u64,
+    heard: u64,
+    sent: u64,
+}
+
+/// What the connection awaits.
+pub(crate) fn span_of(conn: &Conn) -> Span {
+    match conn.phase() {
+        Phase::AwaitHeader | Phase::AwaitOpen => Span::Open,
+        Phase::Running => Span::Nothing,
+        Phase::Closing | Phase::Closed => Span::End,
+    }
+}
+
+/// After how long without a frame of ours the peer closes, in milliseconds, where its open told.
+fn peer_patience(conn: &Conn) -> Option<u32> {
+    match conn.peer() {
+        Some(open) => open.idle_time_out,
+        None => None,
+    }
+}
+
+/// The moment at which something was seen that counts so.
+fn moment(before: u64, count_before: u64, count: u64, now: u64) -> u64 {
+    if count == count_before {
+        return before;
+    }
+    now
+}
+
+impl Times {
+    /// Seen for the first time.
+    pub(crate) fn new(seen: Seen, now: u64) -> Times {
+        Times {
+            seen,
+            since: now,
+            heard: now,
+            sent: now,
+        }
+    }
+
+    /// Seen again.
+    pub(crate) fn next(self, seen: Seen, now: u64) -> Times {
+        let since = if seen.span == self.seen.span {
+            self.since
+        } else {
+            now
+        };
+        Times {
+            seen,
+            since,
+            heard: moment(self.heard, self.seen.reads, seen.reads, now),
+            sent: moment(self.sent, self.seen.put_out, seen.put_out, now),
+        }
+    }
+
+    /// What is asked of it now.
+    pub(crate) fn due(self, conn: &Conn, limits: Limits, now: u64) -> Due {
+        let waited = now.saturating_sub(self.since);
+        match self.seen.span {
+            Span::Open => end_if(waited >= limits.open),
+            Span::End => end_if(waited >= limits.close),
+            Span::Nothing => self.due_running(conn, limits, now),
+        }
+    }
+
+    fn due_running(self, conn: &Conn, limits: Limits, now: u64) -> Due {
+        if now.saturating_sub(self.heard) >= limits.silence {
+            return Due::End;
+        }
+        match peer_patience(conn) {
+            Some(patience) if now.saturating_sub(self.sent) >= u64::from(patience) / 2 => Due::Beat,
+            _ => Due::Nothing,
+        }
+    }
+}
+
+fn end_if(is_late: bool) -> Due {
+    if is_late {
+        return Due::End;
+    }
+    Due::Nothing
+}
