@@ -59,11 +59,11 @@ pub(crate) fn span_of(conn: &Conn) -> Span {
     }
 }
 
-/// After how long without a frame of ours the peer closes, in milliseconds, where its open told.
+/// After how long without a frame of ours the peer closes, in milliseconds, where its open told; 0 is as if it had told none (part 2, 2.7.1).
 fn peer_patience(conn: &Conn) -> Option<u32> {
-    match conn.peer() {
-        Some(open) => open.idle_time_out,
-        None => None,
+    match conn.peer()?.idle_time_out {
+        Some(0) => None,
+        patience => patience,
     }
 }
 

@@ -1,6 +1,6 @@
 //! Slots by key over fake streams.
 use crate::fake::{Counts, Fake};
-use crate::peer::{OURS, PATIENT, TWICE, WHOLE, connection};
+use crate::peer::{CONTENT, OURS, PATIENT, TWICE, WHOLE, connection};
 use amqp_conn::ConnFault;
 use amqp_ready::{Ended, Limits, Next, SlotFault, Slots, Stage};
 use std::alloc::Global;
@@ -167,13 +167,16 @@ fn a_connection_beats_for_a_peer_that_would_leave(rt: HostRuntime) {
     let alloc = rt.alloc();
     let mut slots = Slots::new(alloc);
     assert_eq!(rt; add(alloc, &mut slots, PATIENT, 999), Some(0));
-    serve(&mut slots, 1, 99);
+    assert_eq!(rt; add(alloc, &mut slots, CONTENT, 999), Some(1));
+    serve(&mut slots, 2, 99);
     slots.tick(LIMITS, 5);
     assert_eq!(rt; out(&slots, 0), 34);
     slots.tick(LIMITS, 504);
-    serve(&mut slots, 1, 9);
+    serve(&mut slots, 2, 9);
     assert_eq!(rt; out(&slots, 0), 34);
     slots.tick(LIMITS, 505);
-    serve(&mut slots, 1, 9);
+    serve(&mut slots, 2, 9);
     assert_eq!(rt; out(&slots, 0), 42);
+    assert_eq!(rt; out(&slots, 1), 34);
+    assert_eq!(rt; slots.stage(1), Some(Stage::Works));
 }
