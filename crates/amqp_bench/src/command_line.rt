@@ -75,71 +75,110 @@ fn program<'a>(alloc: Global) -> Result<Command<'a>, AllocError> {
         .subcommand(session(alloc)?)
 }
 
+/// An option whose value is a number in this range. Each is made where it is added: one that is owned over the way out of another costs its proof there.
+fn number<'a>(
+    alloc: Global,
+    name: &'static str,
+    value: &'static str,
+    least: u32,
+    most: u32,
+    help: &'static str,
+) -> Arg<'a> {
+    Arg::new(alloc, name)
+        .long(name)
+        .value_name(value)
+        .value_parser(value_parser!(u32).range(i64::from(least)..=i64::from(most)))
+        .help(help)
+}
+
+/// The option `rounds`, which has a value where none is given.
+fn rounds<'a>(alloc: Global) -> Arg<'a> {
+    let help = "How often each frame is written and read";
+    number(alloc, "rounds", "N", 1, 100000000, help).default_value("100000")
+}
+
 fn codec<'a>(alloc: Global) -> Result<Command<'a>, AllocError> {
-    let rounds = Arg::new(alloc, "rounds")
-        .long("rounds")
-        .value_name("N")
-        .value_parser(value_parser!(u32).range(1..=100000000))
-        .default_value("100000")
-        .help("How often each frame is written and read");
-    let part = Arg::new(alloc, "part")
-        .long("part")
-        .value_name("K")
-        .value_parser(value_parser!(u32).range(1..=6))
-        .help("One way alone: 1 a transfer written, 2 read, 3 and 4 a flow, 5 and 6 a disposition");
     Command::new(alloc, "codec")
         .about("Writes and reads transfer, flow and disposition frames in memory")
-        .arg(rounds)?
-        .arg(part)
+        .arg(rounds(alloc))?
+        .arg(number(
+            alloc,
+            "part",
+            "K",
+            1,
+            6,
+            "One way alone: 1 a transfer written, 2 read, 3 and 4 a flow, 5 and 6 a disposition",
+        ))
 }
 
 fn session<'a>(alloc: Global) -> Result<Command<'a>, AllocError> {
-    let count = Arg::new(alloc, "count")
-        .long("count")
-        .value_name("N")
-        .value_parser(value_parser!(u32).range(1..=100000000))
-        .help("How many messages are sent");
-    let size = Arg::new(alloc, "size")
-        .long("size")
-        .value_name("S")
-        .value_parser(value_parser!(u32).range(0..=100000000))
-        .help("How long each is, in octets");
-    let settled = Arg::new(alloc, "settled")
-        .long("settled")
-        .value_name("0|1")
-        .value_parser(value_parser!(u32).range(0..=1))
-        .help("1: they are sent settled; 0: each is accepted, settled and learnt");
-    let credit = Arg::new(alloc, "credit")
-        .long("credit")
-        .value_name("C")
-        .value_parser(value_parser!(u32).range(1..=2147483647))
-        .help("How many the receiver lets begin at a time");
-    let range = Arg::new(alloc, "range")
-        .long("range")
-        .value_name("R")
-        .value_parser(value_parser!(u32).range(1..=2147483647))
-        .help(
-            "How many deliveries a disposition names at most; all that were taken where it is left off",
-        );
-    let sessions = Arg::new(alloc, "sessions")
-        .long("sessions")
-        .value_name("N")
-        .value_parser(value_parser!(u32).range(1..=1000))
-        .help(
-            "How many sessions, one after the other: from the second on they find memory that was used before",
-        );
-    let keep = Arg::new(alloc, "keep")
-        .long("keep")
-        .value_name("N")
-        .value_parser(value_parser!(u32).range(1..=1073741824))
-        .help("How many entries of its journal each end keeps at most; all where it is left off");
-    Command::new(alloc, "session")
+    let many = 2147483647;
+    let command = Command::new(alloc, "session")
         .about("Sends messages over a session in memory, between two ends with their journals")
-        .arg(count)?
-        .arg(size)?
-        .arg(settled)?
-        .arg(credit)?
-        .arg(range)?
-        .arg(keep)?
-        .arg(sessions)
+        .arg(number(
+            alloc,
+            "count",
+            "N",
+            1,
+            100000000,
+            "How many messages are sent",
+        ))?
+        .arg(number(
+            alloc,
+            "size",
+            "S",
+            0,
+            100000000,
+            "How long each is, in octets",
+        ))?
+        .arg(number(
+            alloc,
+            "settled",
+            "0|1",
+            0,
+            1,
+            "1: they are sent settled; 0: each is accepted, settled and learnt",
+        ))?
+        .arg(number(
+            alloc,
+            "credit",
+            "C",
+            1,
+            many,
+            "How many the receiver lets begin at a time",
+        ))?;
+    kept_and_repeated(alloc, command, many)
+}
+
+/// The options by which entries and memory are used again, and in what runs.
+fn kept_and_repeated<'a>(
+    alloc: Global,
+    command: Command<'a>,
+    many: u32,
+) -> Result<Command<'a>, AllocError> {
+    command
+        .arg(number(
+            alloc,
+            "range",
+            "R",
+            1,
+            many,
+            "How many deliveries a disposition names at most; all that were taken where it is left off",
+        ))?
+        .arg(number(
+            alloc,
+            "keep",
+            "N",
+            1,
+            1073741824,
+            "How many entries of its journal each end keeps at most; all where it is left off",
+        ))?
+        .arg(number(
+            alloc,
+            "sessions",
+            "N",
+            1,
+            1000,
+            "How many sessions, one after the other: from the second on they find memory that was used before",
+        ))
 }

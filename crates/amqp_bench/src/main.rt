@@ -7,6 +7,7 @@ mod command_line;
 mod end;
 mod session;
 
+use clap::error::ErrorKind;
 use codec::run_codec;
 use command_line::{Request, read_request};
 use session::run_sessions;
@@ -37,8 +38,16 @@ where
         }
         Err(error) => {
             error.print(rt)?;
-            Ok(ExitCode::from(error.exit_code() as u8))
+            Ok(ExitCode::from(status_of_words(&error)))
         }
+    }
+}
+
+/// The status of a command line that was not read: want of memory is no fault of its words.
+fn status_of_words(error: &clap::Error) -> u8 {
+    match error.kind() {
+        ErrorKind::OutOfMemory => 1,
+        _ => error.exit_code() as u8,
     }
 }
 

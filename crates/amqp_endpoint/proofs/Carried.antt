@@ -1,5 +1,5 @@
 -- A further transfer of ours, and a delivery that is given up.
-use Rattle.std.proofs.Common.{◌≡◌, ◌<◌, ◌≤◌, ℕ, ◌+◌, ◌*◌, ◌^◌, Bool, true, false, Option, Some, None, List, [], refl, ap, sym, find, inl, arith, subst, ◌∙◌}
+use Rattle.std.proofs.Common.{◌≡◌, ◌<◌, ◌≤◌, ℕ, ◌+◌, ◌*◌, ◌^◌, Bool, true, false, Option, Some, None, Result, List, [], ◌∷◌, length, refl, ap, sym, find, inl, arith, subst, ◌∙◌}
 use Rattle.amqp_performatives.specs.declared.performative.Performative.{Performative}
 use Rattle.amqp_performatives.specs.declared.bodies.Role.TheVariants.{Sender}
 use Rattle.amqp_flow.specs.Windows.{windows_sent}
@@ -7,16 +7,25 @@ use Rattle.amqp_links.specs.declared.fate.Fate.TheVariants.{Marked}
 use Rattle.amqp_links.specs.Marks.{with_marks}
 use Rattle.amqp_rules.specs.declared.reply.Given.TheVariants.{Nothing}
 use Rattle.amqp_rules.specs.Abort.{abort_answer, aborted, next_abort}
-use Rattle.amqp_rules.specs.Carry.{size_so_far, carried, later_body}
-use Rattle.amqp_rules.specs.View.{LinkView, SendingView, has_number, handle_of}
+use Rattle.amqp_rules.specs.Carry.{size_so_far, carried, carry_answer, carry_on, carry_refusals, later_body, next_carry}
+use Rattle.amqp_rules.specs.Telling.{flag}
+use Rattle.amqp_rules.specs.declared.refusal.Refusal.{Refusal}
+use Rattle.amqp_rules.specs.declared.reply.Reply.{Reply}
+use Rattle.amqp_rules.specs.View.{View, LinkView, SendingView, has_number, handle_of}
 use Rattle.amqp_endpoint.specs.declared.endpoint.abort.Aborted.{Aborted}
 use Rattle.amqp_endpoint.specs.declared.plan.Session.{Session}
 use Rattle.amqp_deliveries.specs.declared.change.Change.{Change}
-use Rattle.amqp_deliveries.specs.declared.change.Change.TheVariants.{Continues}
-use Rattle.amqp_endpoint.specs.Taking.{IsAborted}
+use Rattle.amqp_deliveries.specs.declared.change.Change.TheVariants.{Continues, Stay}
+use Rattle.amqp_endpoint.specs.Taking.{IsAborted, IsTaken}
 use Rattle.amqp_endpoint.specs.Drafting.{IsDraft}
 use Rattle.amqp_endpoint.specs.Stores.{StoresView}
-use Rattle.amqp_endpoint.specs.Plan.{IsBegun, IsCounted, IsKept, IsShort, AreShortOn, view_of, sending_plan}
+use Rattle.amqp_endpoint.specs.Plan.{IsBegun, IsCounted, IsKept, IsPlan, IsShort, AreShortOn, planned, view_of, sending_plan}
+use Rattle.amqp_endpoint.specs.Carrying.{carried_session, carry_plan}
+use Rattle.amqp_endpoint.specs.Doing.{IsDone}
+use Rattle.amqp_endpoint.specs.declared.done.Done.{Done}
+use Rattle.amqp_endpoint.specs.declared.endpoint.carry.Carrying.{Carrying}
+use Rattle.amqp_endpoint.specs.declared.endpoint.onlink.OnLink.{OnLink}
+use Rattle.amqp_endpoint.proofs.Sends.{draft-on}
 use Rattle.amqp_endpoint.proofs.Plans.{change-alike, short-found, expects-same}
 
 -- # Lengths
@@ -46,6 +55,23 @@ counted_sent steps s st change begins k =
       theirs = expects-same s.expected;
       begun = begins;
     }
+
+-- # A further transfer
+
+pub carry-draft : (k : ℕ) (s : Session) (st : StoresView) (link : ℕ) (payload : List ℕ) (more : Bool) (o : OnLink) → IsKept k s st
+    → IsTaken (view_of k s st) link (λ l. carry_refusals (view_of k s st) l payload) (carry_on (length payload) more) o → IsShort (k + 1) o.marks.sending
+    → IsDraft (view_of k s st) (carry_answer (view_of k s st) link payload more) (next_carry (view_of k s st) link payload more) (later_body o.handle (flag more) None) payload
+    (sending_plan (carried_session s) (Marked o.key link o.marks) Stay (later_body o.handle (flag more) None) payload Nothing)
+carry-draft k s st link payload more o i t short =
+    let v = view_of k s st in
+    draft-on v link (λ l. carry_refusals v l payload) (carry_on (length payload) more) o (carried_session s) Stay (λ l. later_body (handle_of l.ours) (flag more) None)
+    (later_body o.handle (flag more) None) payload Nothing t (λ j. later_body (t.handle j) (flag more) None) (counted_sent k s st Stay tt i) short tt
+
+-- what a transfer gives that goes out at once
+pub carried-done : (v new after : View) (link : ℕ) (x : Carrying) (answer : Result Reply Refusal) (d : Done) → IsPlan v answer after (carry_plan v link x)
+    → d ≡ record { reply = record { sent = x.sent ∷ []; ended = []; given = Nothing }; octets = Some x.sent.bytes; given = Nothing }
+    → new ≡ planned v (carry_plan v link x) → IsDone answer after new d
+carried-done v new after link x answer d p is n = rw is record { due = p.due; leaves = n ∙ sym p.leaves; octets = refl; given = refl }
 
 -- # A delivery is given up
 

@@ -1,15 +1,13 @@
 -- The plan of a delivery that is resumed.
-use Rattle.std.proofs.Common.{◌≡◌, ◌∙◌, ℕ, ◌+◌, ◌<◌, ◌==◌, ◌&&◌, ◌||◌, not, Bool, true, false, cond, Option, Some, None, Err, List, [], ◌∷◌, inr, arith, refl, ap, sym, subst, find, map, ⊎_elim}
+use Rattle.std.proofs.Common.{◌≡◌, ℕ, ◌+◌, ◌<◌, ◌==◌, ◌&&◌, ◌||◌, not, Bool, true, false, Option, Some, None, Err, List, [], ◌∷◌, inr, arith, refl, ap, sym, subst, find, map, ⊎_elim}
 use Rattle.std.proofs.lemmas.Bool.{cases_Bool, eqb-false}
 use Rattle.std.specs.List.{list_any}
 use Rattle.amqp_flow.specs.Credit.{delivery_begun}
 use Rattle.amqp_events.specs.Event.{Item}
 use Rattle.amqp_events.specs.Tags.{is_tagged}
-use Rattle.amqp_events.specs.Told.{SentItem, next_sent_held}
-use Rattle.amqp_deliveries.specs.Change.{TablesView, ended_in, tables_after}
-use Rattle.amqp_links.specs.declared.marks.Marks.{Marks}
+use Rattle.amqp_deliveries.specs.Change.{TablesView, ended_in}
 use Rattle.amqp_links.specs.declared.fate.Fate.{Fate}
-use Rattle.amqp_links.specs.Fate.{changed, with_resumed}
+use Rattle.amqp_links.specs.Fate.{with_resumed}
 use Rattle.amqp_links.specs.Marks.{with_marks}
 use Rattle.amqp_rules.specs.Carry.{size_so_far}
 use Rattle.amqp_rules.specs.Deliveries.{is_partial, is_sent_anew}
@@ -25,7 +23,7 @@ use Rattle.amqp_endpoint.specs.declared.endpoint.resume.Resuming.{Resuming}
 use Rattle.amqp_links.specs.declared.fate.Fate.TheVariants as fate
 use Rattle.amqp_endpoint.specs.Stores.{StoresView, stores_after}
 use Rattle.amqp_endpoint.specs.Plan.{IsAlone, IsCounted, IsKept, IsPlan, IsShort, flags_of, view_of}
-use Rattle.amqp_endpoint.specs.Resuming.{absent_plan, item_at, item_resumed, late_rows, resume_plan, sending_plan_of}
+use Rattle.amqp_endpoint.specs.Resuming.{item_at, item_resumed, late_rows, resume_plan}
 use Rattle.amqp_endpoint.specs.Starting.{change_begun, started}
 use Rattle.amqp_rules.specs.declared.refusal.Refusal.{Refusal}
 use Rattle.amqp_rules.specs.declared.refusal.Refusal.TheVariants.{Unclear, SettleMode, NoCredit, NoWindow}

@@ -1,5 +1,5 @@
 -- The plans of a transfer that is heard, by how it comes.
-use Rattle.std.specs.Prelude.{ℕ, ◌≡◌, ◌<◌, ◌^◌, Bool, true, false, cond, ◌||◌, find, unwrap_or, List, [], Option, None}
+use Rattle.std.specs.Prelude.{ℕ, ◌≡◌, ◌<◌, ◌^◌, true, false, cond, ◌||◌, find, unwrap_or, List, [], Option, None}
 use Rattle.amqp_performatives.specs.declared.bodies.Role.TheVariants.{Receiver}
 use Rattle.amqp_performatives.specs.declared.bodies.TransferBody.{TransferBody}
 use Rattle.amqp_performatives.specs.declared.state.DeliveryState.{DeliveryState}

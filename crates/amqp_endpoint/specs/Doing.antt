@@ -3,7 +3,7 @@ use Rattle.std.specs.Prelude.{ℕ, ◌≡◌, Bool, true, false, Option, Some, R
 use Rattle.amqp_performatives.specs.declared.performative.Performative.{Performative}
 use Rattle.amqp_performatives.specs.declared.performative.Performative.TheVariants.{Transfer}
 use Rattle.amqp_rules.specs.declared.op.Op.{Op}
-use Rattle.amqp_rules.specs.declared.op.Op.TheVariants.{Start, Learn, Take}
+use Rattle.amqp_rules.specs.declared.op.Op.TheVariants.{Start, Carry, Learn, Take}
 use Rattle.amqp_rules.specs.declared.reply.Reply.{Reply}
 use Rattle.amqp_rules.specs.declared.reply.Taken.{Taken}
 use Rattle.amqp_rules.specs.declared.reply.Learned.{Learned}
@@ -73,6 +73,7 @@ learn_plan v key link learned = quiet_plan (session_in v) (fate.Learnt key link)
 -- the operations that are done by a plan
 abbrev pub is_planned : Op → Bool
 is_planned (Start link tag format settled payload more) = false
+is_planned (Carry link payload more) = false
 is_planned (Learn link) = false
 is_planned (Take link) = false
 is_planned _ = true

@@ -7,6 +7,7 @@ pub mod Disposing
 pub mod Flowing
 pub mod Answered
 pub mod Attaching
+pub mod Carrying
 pub mod Transferring
 pub mod Doing
 pub mod Written

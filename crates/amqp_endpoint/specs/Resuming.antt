@@ -1,9 +1,8 @@
 -- The plans of a delivery that is resumed, by what is known of it.
 use Rattle.std.specs.Prelude.{ℕ, ◌≡◌, ◌<◌, ◌==◌, ◌&&◌, ◌||◌, ◌∷◌, not, Bool, true, false, cond, Option, Some, None, List, []}
-use Rattle.amqp_performatives.specs.declared.bodies.Role.TheVariants.{Sender}
 use Rattle.amqp_events.specs.Event.{Item}
 use Rattle.amqp_deliveries.specs.declared.change.Change.{Change}
-use Rattle.amqp_deliveries.specs.declared.change.Change.TheVariants.{Stay, Begins}
+use Rattle.amqp_deliveries.specs.declared.change.Change.TheVariants.{Stay}
 use Rattle.amqp_links.specs.declared.fate.Fate.TheVariants as fate
 use Rattle.amqp_rules.specs.Deliveries.{is_partial, is_sent_anew}
 use Rattle.amqp_rules.specs.Resume.{outcome_of, resume_body, resumed_to}

@@ -1,5 +1,5 @@
 -- Parts of what a heard transfer meets and leaves, as the private calls of the endpoint compute them.
-use Rattle.std.specs.Prelude.{ℕ, ◌==◌, ◌&&◌, ◌||◌, not, Bool, true, false, is_none, unwrap_or, List, [], ◌∷◌}
+use Rattle.std.specs.Prelude.{ℕ, ◌==◌, ◌&&◌, ◌||◌, not, Bool, false, is_none, unwrap_or, List, [], ◌∷◌}
 use Rattle.std.specs.Prelude.{cond}
 use Rattle.amqp_performatives.specs.declared.bodies.TransferBody.{TransferBody}
 use Rattle.amqp_rules.specs.declared.reply.Given.{Given}

@@ -139,6 +139,13 @@ impl Stores {
         }
     }
 
+    /// The link has these marks.
+    pub(crate) fn mark(&mut self, key: usize, number: u32, marks: &Marks)
+        ensures { self.new ≡ stores_after (Fate.Marked key number marks.now) Change.Stay self.old }
+    {
+        self.links.mark(key, number, marks);
+    }
+
     /// A transfer is heard on the link, which has these marks, and begins a delivery. Where the link cannot follow, it is taken back.
     pub(crate) fn arrive_first(
         &mut self,
@@ -186,6 +193,18 @@ impl Stores {
         match change {
             Change::Stay => self.links.hear(key, number, marks, piece),
             Change::Begins(role, item) => self.arrive_first(key, number, marks, piece, role, item),
+            Change::Continues(role, id, state, over) => {
+                match self.links.hear(key, number, marks, piece) {
+                    Ok(()) => {
+                        self.tables.go_on(role, id, state, over);
+                        Ok(())
+                    }
+                    Err(e) => {
+                        drop(state);
+                        Err(e)
+                    }
+                }
+            }
             change => self.keep(
                 Fate::Heard {
                     key,

@@ -4,11 +4,11 @@
 //! An outcome is told unsettled and settled by the sender, so that the receiver knows what it has until the sender knows, too (part 2, 2.6.13).
 
 use amqp_conn::{
-    Bytes, Config, Conn, DeliveryState, FromStd, Given, Op, Pump, Role, Suspended, Tag, Text,
-    Verdict, ops,
+    Bytes, Config, Conn, DeliveryState, FromStd, Given, Op, Pump, Refusal, Role, Suspended, Tag,
+    Text, Verdict, ops,
 };
 use amqp_types::Items;
-use anyhow::Context;
+use anyhow::{Context, bail};
 use std::alloc::Global;
 
 /// How many messages are sent; the tag of each is its number.
@@ -250,7 +250,7 @@ fn while_ready(conn: &mut Conn, known: &mut Known) -> anyhow::Result<()> {
     Ok(())
 }
 
-/// Takes a message, where one is ready.
+/// Takes a message, where one is ready. Where memory is wanting one may still be, so that is no answer.
 fn take(conn: &mut Conn, known: &mut Known) -> anyhow::Result<bool> {
     match conn.apply(&ops::take(0)) {
         Ok(Given::Taken(taken)) => {
@@ -261,6 +261,7 @@ fn take(conn: &mut Conn, known: &mut Known) -> anyhow::Result<bool> {
             Ok(true)
         }
         Ok(_) => Ok(false),
+        Err(Refusal::NoMemory) => bail!("{}", Refusal::NoMemory),
         Err(_) => Ok(false),
     }
 }
@@ -301,7 +302,7 @@ fn accepted(id: u32) -> Op {
 /// Learns what was told, and settles it.
 fn learn(conn: &mut Conn, known: &mut Known) -> anyhow::Result<()> {
     for _ in 0..MESSAGES {
-        let Some(id) = learnt(conn) else {
+        let Some(id) = learnt(conn)? else {
             break;
         };
         known.learnt = known.learnt.saturating_add(1);
@@ -311,11 +312,12 @@ fn learn(conn: &mut Conn, known: &mut Known) -> anyhow::Result<()> {
 }
 
 /// The id of the next delivery of which an outcome was told.
-fn learnt(conn: &mut Conn) -> Option<u32> {
+fn learnt(conn: &mut Conn) -> anyhow::Result<Option<u32>> {
     match conn.apply(&ops::learn(0)) {
-        Ok(Given::Learned(learned)) => Some(learned.get().id),
-        Ok(_) => None,
-        Err(_) => None,
+        Ok(Given::Learned(learned)) => Ok(Some(learned.get().id)),
+        Ok(_) => Ok(None),
+        Err(Refusal::NoMemory) => bail!("{}", Refusal::NoMemory),
+        Err(_) => Ok(None),
     }
 }
 

@@ -1,11 +1,11 @@
 //! `amqp_journal`: two ends of a session, each an endpoint with its journal. The octets of one are fed to the other.
 
 use crate::operations::{attach, start};
-use amqp_conn::{Given, Op, Role, ops};
+use amqp_conn::{Given, Op, Refusal, Role, ViolationKind, ops};
 use amqp_endpoint::config::Config;
 use amqp_frames::{Frame, Framer};
 use amqp_journal::logged::Logged;
-use anyhow::ensure;
+use anyhow::{bail, ensure};
 use std::alloc::Global;
 
 /// The longest frame that either end takes, in octets.
@@ -88,6 +88,7 @@ impl End {
         drop(op);
         match answer {
             Ok(given) => self.tell(rt, &given),
+            Err(Refusal::NoMemory) => bail!("{}", Refusal::NoMemory),
             Err(refusal) => Ok(println!(rt; "{}: refused, {refusal}", self.name)?),
         }
     }
@@ -105,6 +106,7 @@ impl End {
     fn receive<R: Print>(&mut self, rt: &R, frame: &Frame) -> anyhow::Result<()> {
         match self.logged.receive(frame) {
             Ok(given) => self.tell(rt, &given),
+            Err(violation) if violation.kind == ViolationKind::NoMemory => bail!("{violation}"),
             Err(violation) => Ok(println!(rt; "{}: a violation, {violation}", self.name)?),
         }
     }

@@ -10,6 +10,7 @@
 //! | `sending` | the messages that one end sends, and what it learns of them |
 //! | `consuming` | the threads that accept them at the other |
 //! | `beginning` | the connection as each end begins it |
+//! | `keeping` | how many entries of its journal an end keeps |
 //! | `ending` | how an end comes to its close, and what is left of it |
 //! | `gate` | what a thread waits for until its end is open |
 //! | `fault` | why a run fails |
@@ -18,7 +19,8 @@
 //! writes as many at once as wait. A thread of the one end queues messages and learns of them; consumers of the other accept them.
 //!
 //! All threads end by themselves: where the connection has closed, or its octets ended, or a read, a write or memory failed. A thread that stops for a
-//! fault ends its end's connection, which ends the others of its end, and its socket, which ends the peer. Nothing of that is proved; runs show it.
+//! fault ends its end's connection, which ends the others of its end, and its socket, which ends the peer. Nothing of that is proved; runs show it. A
+//! thread that the system does not make is not noticed: the others then wait for it.
 #![tactic(auto)]
 
 mod beginning;
@@ -27,6 +29,7 @@ mod ending;
 mod fault;
 mod gate;
 mod inbox;
+mod keeping;
 mod options;
 mod pair;
 mod reading;

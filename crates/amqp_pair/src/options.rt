@@ -30,7 +30,7 @@ pub struct Options {
     pub size: u32,
     /// The first transfer id and delivery id of both ends.
     pub first_id: u32,
-    /// How many entries of its journal each end keeps at most, when it has fed what was read; none: all.
+    /// How many entries of its journal each end keeps at most, when it has fed what was read, and when it sends or learns; none: all.
     pub keep: Option<u32>,
 }
 

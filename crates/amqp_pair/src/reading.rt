@@ -1,6 +1,7 @@
 //! One thread reads an end's octets from its socket and feeds them, and opens the end as the peer's answers allow.
 use crate::gate::{Gate, Opening};
 use crate::inbox::Inbox;
+use crate::keeping::make_room;
 use amqp_conn::{ConnFault, Phase};
 use amqp_frames::Role;
 use amqp_rules::op::Op;
@@ -163,7 +164,7 @@ impl<'a, N: Name> Reading<'a, N> {
             }
             let opens = self.stage != Stage::Runs;
             self.go_on(&mut guard)?;
-            self.make_room(&mut guard);
+            make_room(self.shared, &mut guard, self.beginning.keep);
             drop(guard);
             if opens && self.stage == Stage::Runs {
                 gate.tell(rt, Opening::Ready);
@@ -214,14 +215,6 @@ impl<'a, N: Name> Reading<'a, N> {
         Ok(())
     }
 
-    /// Forgets the journal's entries where more stand than are kept.
-    fn make_room(&self, guard: &mut MutexGuard<'_, Locked<N>>) {
-        let stand = guard.conn().logged().journal().len();
-        if is_over(stand, self.beginning.keep) {
-            self.shared.forget(guard);
-        }
-    }
-
     /// Attaches the link: whether it was not too early for it.
     fn attach(&mut self, guard: &mut MutexGuard<'_, Locked<N>>) -> Result<bool, ReadFault> {
         let Ok(name) = Text::new(self.alloc, "q") else {
@@ -260,14 +253,6 @@ impl<'a, N: Name> Reading<'a, N> {
             Err(Refusal::NotMapped | Refusal::NotRunning) => Ok(false),
             Err(refusal) => Err(ReadFault::Refused(refusal)),
         }
-    }
-}
-
-/// So many entries are more than are kept.
-fn is_over(stand: usize, keep: Option<u32>) -> bool {
-    match keep {
-        Some(most) => stand > most as usize,
-        None => false,
     }
 }
 

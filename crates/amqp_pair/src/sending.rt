@@ -4,6 +4,7 @@ ghost use Rattle.std.specs.Prelude.{◌<◌};
 use crate::ending::shut;
 use crate::fault::PairFault;
 use crate::gate::Gate;
+use crate::keeping::make_room;
 use crate::options::{MAX_FRAME, Options};
 use crate::reading::LINK;
 use amqp_frames::DeliveryState;
@@ -23,6 +24,9 @@ const MAX_PAYLOAD: usize = (MAX_FRAME - 128) as usize;
 
 /// So many messages are begun, or learnt of, before others get the lock.
 const RUN: u32 = 32;
+
+/// So many messages are sent before they are learnt of, where the journal's entries are forgotten.
+const BATCH: u32 = 1024;
 
 /// So many octets are queued at most before others get the lock, or one message that is longer.
 const RUN_OCTETS: usize = 65536;
@@ -101,6 +105,17 @@ impl Messages {
     {
         let few = RUN_OCTETS / self.payload.len().max(1);
         few.min(RUN as usize).max(1) as u32
+    }
+
+    /// How many messages are sent before they are learnt of. Where entries are forgotten few are, so that what was told and not learnt of stays little, too;
+    /// else all, since the receipts of learning stand behind those of sending.
+    fn in_a_batch(&self) -> u32
+        ensures { 0 < result }
+    {
+        match self.keep {
+            Some(_) => BATCH,
+            None => self.count.max(1),
+        }
     }
 
     /// How many transfers a message goes in.
@@ -238,22 +253,30 @@ fn send_and_learn<N: Name, R: Wait>(
     hand: &mut Hand<N>,
     messages: &Messages,
 ) -> Result<Done, Refusal> {
-    let queued = send_messages(rt, shared, hand, messages)?;
-    let accepted = learn_outcomes(rt, shared, hand, messages.count)?;
+    let batch = messages.in_a_batch();
+    let (mut queued, mut accepted) = (0u64, 0u64);
+    for first in (0..messages.count).step_by(batch as usize) {
+        let end = first.saturating_add(batch).min(messages.count);
+        queued = queued.saturating_add(send_messages(rt, shared, hand, messages, first, end)?);
+        let told = end.saturating_sub(first);
+        accepted = accepted.saturating_add(learn_outcomes(rt, shared, hand, messages, told)?);
+    }
     Ok(Done { queued, accepted })
 }
 
-/// Sends all messages: how many.
+/// Sends the messages of these numbers: how many.
 fn send_messages<N: Name, R: Wait>(
     rt: &R,
     shared: &Shared<N>,
     hand: &mut Hand<N>,
     messages: &Messages,
+    from: u32,
+    to: u32,
 ) -> Result<u64, Refusal> {
     let run = messages.in_a_run();
     let mut queued = 0u64;
-    for first in (0..messages.count).step_by(run as usize) {
-        let end = first.saturating_add(run).min(messages.count);
+    for first in (from..to).step_by(run as usize) {
+        let end = first.saturating_add(run).min(to);
         queued = queued.saturating_add(send_run(rt, shared, hand, messages, first, end)?);
     }
     Ok(queued)
@@ -264,12 +287,13 @@ fn learn_outcomes<N: Name, R: Wait>(
     rt: &R,
     shared: &Shared<N>,
     hand: &mut Hand<N>,
+    messages: &Messages,
     count: u32,
 ) -> Result<u64, Refusal> {
     let mut accepted = 0u64;
     for first in (0..count).step_by(RUN as usize) {
         let run = count.saturating_sub(first).min(RUN);
-        accepted = accepted.saturating_add(learn_run(rt, shared, hand, run)?);
+        accepted = accepted.saturating_add(learn_run(rt, shared, hand, messages, run)?);
     }
     Ok(accepted)
 }
@@ -284,6 +308,7 @@ fn send_run<N: Name, R: Wait>(
     end: u32,
 ) -> Result<u64, Refusal> {
     let mut guard = shared.lock(rt);
+    make_room(shared, &mut guard, messages.keep);
     let mut queued = 0u64;
     for number in first..end {
         guard = send_one(rt, shared, guard, hand, messages, number)?;
@@ -345,9 +370,11 @@ fn learn_run<N: Name, R: Wait>(
     rt: &R,
     shared: &Shared<N>,
     hand: &mut Hand<N>,
+    messages: &Messages,
     count: u32,
 ) -> Result<u64, Refusal> {
     let mut guard = shared.lock(rt);
+    make_room(shared, &mut guard, messages.keep);
     let mut accepted = 0u64;
     for _ in 0..count {
         let given;

@@ -1,12 +1,12 @@
-//! The commands and their options.
+//! What the words of a command line ask for.
 ghost use Rattle.std.specs.Prelude.{IfOk};
 ghost use Rattle.amqp_peer.specs.Requests.{IsAllowed};
 
+use crate::options;
+use crate::options::{USUAL, config_of, direction_of, explained_of};
 use amqp_endpoint::config::Config;
 use amqp_pair::{MAX_CONSUMERS, MAX_COUNT, MAX_CREDIT, MAX_SIZE, Options};
 use amqp_script::explain::Explained;
-use amqp_script::options;
-use amqp_script::options::{USUAL, config_of, direction_of, explained_of, with_config};
 use amqp_trace::Direction;
 use clap::error::ErrorKind;
 use clap::{Arg, ArgMatches, Command, Error, value_parser};
@@ -67,19 +67,12 @@ pub fn read_request<'a, S: AsStr>(alloc: Global, words: &'a [S]) -> Result<Reque
 }
 
 fn program<'a>(alloc: Global) -> Result<Command<'a>, AllocError> {
-    let script = Command::new(alloc, "script").about(
-        "Reads lines from standard input and answers each with a line",
-    );
-    let script = with_config(alloc, script)?.arg(options::keep(alloc)?)?;
-    let frames = Command::new(alloc, "frames").about(
-        "Reads octets in hexadecimal from standard input and names the frames in them",
-    );
     Command::new(alloc, "amqp_peer")
         .about("One end of an AMQP 1.0 connection")
         .subcommand_required(true)
-        .subcommand(script)?
-        .subcommand(options::command(alloc)?)?
-        .subcommand(frames)?
+        .subcommand(options::script(alloc)?)?
+        .subcommand(options::conn(alloc)?)?
+        .subcommand(options::frames(alloc))?
         .subcommand(options::trace(alloc)?)?
         .subcommand(options::explain(alloc)?)?
         .subcommand(pair(alloc)?)
@@ -88,30 +81,30 @@ fn program<'a>(alloc: Global) -> Result<Command<'a>, AllocError> {
 fn pair<'a>(alloc: Global) -> Result<Command<'a>, AllocError> {
     Command::new(alloc, "pair")
         .about("Sends messages from one end of a connection to another, over the loopback")
-        .arg(number(alloc, "count", "How many messages", 1, MAX_COUNT)?)?
+        .arg(number(alloc, "count", "How many messages", 1, MAX_COUNT))?
         .arg(number(
             alloc,
             "consumers",
             "How many threads consume them",
             1,
             MAX_CONSUMERS,
-        )?)?
+        ))?
         .arg(number(
             alloc,
             "credit",
             "How many messages may come at a time",
             1,
             MAX_CREDIT,
-        )?)?
-        .arg(number(alloc, "size", "The octets of a message", 0, MAX_SIZE)?)?
+        ))?
+        .arg(number(alloc, "size", "The octets of a message", 0, MAX_SIZE))?
         .arg(number(
             alloc,
             "first-id",
             "The first transfer id and delivery id",
             0,
             u32::MAX,
-        )?)?
-        .arg(options::keep(alloc)?)
+        ))?
+        .arg(options::keep(alloc))
 }
 
 /// An option that has to be there: a number between these.
@@ -121,15 +114,13 @@ fn number<'a>(
     help: &'static str,
     least: u32,
     most: u32,
-) -> Result<Arg<'a>, AllocError> {
-    Ok(
-        Arg::new(alloc, name)
-            .long(name)
-            .value_name("N")
-            .value_parser(value_parser!(u32).range(i64::from(least)..=i64::from(most)))
-            .required(true)
-            .help(help),
-    )
+) -> Arg<'a> {
+    Arg::new(alloc, name)
+        .long(name)
+        .value_name("N")
+        .value_parser(value_parser!(u32).range(i64::from(least)..=i64::from(most)))
+        .required(true)
+        .help(help)
 }
 
 fn pair_options(options: &ArgMatches<'_>) -> Options {

@@ -2,7 +2,8 @@
 //!
 //! | module | what it holds |
 //! |---|---|
-//! | `command_line` | the commands and their options |
+//! | `command_line` | what the words of a command line ask for |
+//! | `options` | the commands with their options |
 //! | `amqp_script::driven` | the command `conn`: lines of text on one connection, one answer each |
 //! | `amqp_script::frames` | the command `frames`: octets in hexadecimal, framed and named |
 //! | `amqp_script::trace` | the command `trace`: octets, a line for each frame |
@@ -18,6 +19,7 @@
 #![tactic(auto)]
 
 pub mod command_line;
+pub mod options;
 #[cfg(test)]
 mod tests;
 
@@ -27,6 +29,7 @@ use amqp_script::driven::run_conn;
 use amqp_script::frames::{Framed, Octets, run_frames};
 use amqp_script::script::run_script;
 use amqp_script::trace::{run_raw_trace, run_trace};
+use clap::error::ErrorKind;
 use command_line::{Request, read_request};
 use std::env::Env;
 use std::io::{BufReader, BufWriter};
@@ -98,8 +101,16 @@ where
         }
         Err(error) => {
             error.print(rt)?;
-            Ok(ExitCode::from(error.exit_code() as u8))
+            Ok(ExitCode::from(status_of_words(&error)))
         }
+    }
+}
+
+/// The status of a command line that was not read: want of memory is no fault of its words.
+fn status_of_words(error: &clap::Error) -> u8 {
+    match error.kind() {
+        ErrorKind::OutOfMemory => FAULT,
+        _ => error.exit_code() as u8,
     }
 }
 

@@ -1,5 +1,5 @@
 -- What is done with a connection that is lent keeps what is to stay.
-use Rattle.std.proofs.Common.{◌≡◌, ◌≤◌, ℕ, List, [], ◌∷◌, ◌++◌, length, take, Option, Result, Ok, Err, refl, ap, ◌∙◌}
+use Rattle.std.proofs.Common.{◌≡◌, ◌≤◌, ℕ, List, [], ◌∷◌, ◌++◌, length, take, Option, Some, None, Result, Ok, Err, IfOk, OnErr, refl, ap, ◌∙◌}
 use Rattle.std.proofs.lemmas.List.{take-append-le}
 use Rattle.amqp_performatives.specs.declared.error.AmqpError.{AmqpError}
 use Rattle.amqp_rules.specs.declared.op.Op.{Op}
@@ -18,7 +18,10 @@ use Rattle.amqp_conn.specs.Calling.{Does, Closes, forgotten}
 use Rattle.amqp_conn.specs.Octets.{close_frame}
 use Rattle.amqp_rules.specs.Sending.{octets_of}
 use Rattle.amqp_conn.specs.Pumping.{joined, OnlyWrote}
-use Rattle.amqp_ready.specs.Gathering.{gone}
+use Rattle.amqp_conn.specs.Leaving.{Gives, but_left}
+use Rattle.amqp_links.specs.declared.left.Left.{Left}
+use Rattle.std.specs.declared.alloc.AllocError.{AllocError}
+use Rattle.amqp_ready.specs.Gathering.{gone, gone_of}
 use Rattle.amqp_ready.specs.Lending.{heard_before, heard_in, kept, still}
 
 -- units that come behind change nothing of what was popped
@@ -29,13 +32,26 @@ gone-more c d more within popped all =
     ∙ ap (λ us. joined (take c.core.log.popped us)) all
     ∙ ap joined (take-append-le c.core.log.popped (units c.core.log) more within)
 
-heard-own : (entries : List Entry) (op : Op) (reply : Reply) → heard_in (entries ++ record { step = Own op; reply = reply } ∷ []) ≡ heard_in entries
-heard-own [] op reply = refl
-heard-own (e ∷ entries) op reply = ap (heard_before e.step) (heard-own entries op reply)
-
 pub kept-parts : (c d : Connection) → d.unread ≡ c.unread → gone d ≡ gone c → heard_in d.core.log.journal ≡ heard_in c.core.log.journal → kept d ≡ kept c
 unfolding kept
 kept-parts c d u g h = λ i. record { unread = u i; popped = g i; heard = h i }
+
+-- what is left is no part of what was popped
+gone-left : (c d : Connection) → but_left d.core ≡ but_left c.core → gone d ≡ gone c
+unfolding gone
+gone-left c d e = ap (λ (k : Core). gone_of k.log) e
+
+pub kept-left : (c d : Connection) → but_left d.core ≡ but_left c.core → d.unread ≡ c.unread → kept d ≡ kept c
+kept-left c d e u = kept-parts c d u (gone-left c d e) (ap (λ (k : Core). heard_in k.log.journal) e)
+
+pub kept-gives : (c d : Connection) (result : Result (Option Left) AllocError) → IfOk result (λ given. Gives c.core given d.core) → d.unread ≡ c.unread → OnErr result (d ≡ c) → kept d ≡ kept c
+kept-gives c d (Ok None) (none, still, e) u h = kept-left c d e u
+kept-gives c d (Ok (Some x)) (first, e) u h = kept-left c d e u
+kept-gives c d (Err e) g u h = ap kept h
+
+heard-own : (entries : List Entry) (op : Op) (reply : Reply) → heard_in (entries ++ record { step = Own op; reply = reply } ∷ []) ≡ heard_in entries
+heard-own [] op reply = refl
+heard-own (e ∷ entries) op reply = ap (heard_before e.step) (heard-own entries op reply)
 
 pub kept-gone : (c d : Connection) → kept d ≡ kept c → gone d ≡ gone c
 unfolding kept

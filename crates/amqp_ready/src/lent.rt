@@ -2,9 +2,11 @@
 ghost use Rattle.std.specs.Prelude.{◌≡◌, ◌≤◌, length, IfOk, OnErr};
 ghost use Rattle.amqp_journal.specs.Units.{units, PutWithin};
 ghost use Rattle.amqp_conn.specs.Calling.{Does, Closes, forgotten};
+ghost use Rattle.amqp_conn.specs.Leaving.{Gives};
 ghost use Rattle.amqp_ready.specs.Lending.{kept};
 
-use amqp_conn::{AmqpError, Boxed, CloseRefusal, Conn, Given, Op, Refusal};
+use amqp_conn::{AmqpError, Boxed, CloseRefusal, Conn, Given, Left, Op, Refusal};
+use std::alloc::AllocError;
 
 /// A connection that is lent to a handler: for operations, its close and what is read of it. What it has not read, what went out of it and the frames that it
 /// heard stay, whatever the handler does.
@@ -61,6 +63,19 @@ impl Lent {
     {
         recall(&self.conn);
         self.conn.close(error)
+    }
+
+    /// The first of what links left that are gone, as `Conn::pop_left`. It is no step.
+    ///
+    /// # Errors
+    ///
+    /// Want of memory, as `Conn::pop_left`: nothing has changed.
+    pub fn pop_left(&mut self) -> Result<Option<Left>, AllocError>
+        ensures gives { IfOk result (λ given. Gives self.old.conn.core given self.new.conn.core) }
+        ensures kept { kept self.new.conn ≡ kept self.old.conn }
+        ensures err { OnErr result (self.new ≡ self.old) }
+    {
+        self.conn.pop_left()
     }
 
     /// Lets the journal's entries so far go, as `Conn::forget`.

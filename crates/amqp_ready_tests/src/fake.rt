@@ -70,9 +70,14 @@ impl Handler for Counts {
 
     ghost told = { λ c. None };
 
-    fn take(&mut self, _conn: &mut Lent, given: Given) -> Result<Next, Refusal> {
+    fn take(&mut self, conn: &mut Lent, given: Given) -> Result<Next, Refusal> {
         drop(given);
         self.told = self.told.wrapping_add(1);
+        // What is left is popped, where there is anything: memory is there for that.
+        match conn.pop_left() {
+            Ok(left) => drop(left),
+            Err(_) => return Err(Refusal::NoMemory),
+        }
         match self.refuses {
             Some(refusal) => Err(refusal),
             None => Ok(self.next),

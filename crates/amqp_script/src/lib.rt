@@ -10,7 +10,6 @@
 //! | `trace` | the command `trace`: octets, a line for each frame |
 //! | `explain` | the command `explain`: numbers in words |
 //! | `driven` | the command `conn`: a whole connection that lines drive |
-//! | `options` | the options of `script` and `conn` |
 //! | `feeding` | one feed of a loop of feeds |
 #![tactic(auto)]
 
@@ -21,7 +20,6 @@ pub mod feeding;
 pub mod frames;
 pub mod line;
 pub mod lines;
-pub mod options;
 pub mod script;
 pub mod trace;
 pub mod words;

@@ -3,10 +3,15 @@
 use amqp_rules::config::Config;
 use amqp_script::Outcome;
 use amqp_script::driven::{open, run_lines};
-use amqp_script::options::{USUAL, command, config_of};
-use clap::Command;
 use std::alloc::Global;
 use std::test::Fail;
+
+/// A large window, and a journal that is never full here.
+const USUAL: Config = Config {
+    first_id: 0,
+    window: 2048,
+    journal_limit: 1073741824,
+};
 
 /// Header and open of the peer, and a session that both ends have begun.
 const MAPPED: &[u8] = b"feed 414d515000010000
@@ -330,45 +335,5 @@ feed 0000001302000000005312c00603a101724341
     let (said, outcome) = answers(rt.alloc(), &USUAL, early)?;
     assert_eq!(rt; outcome, Outcome::EachLineGood);
     assert!(rt; said.ends_with(wanted));
-    Ok(())
-}
-
-/// What the words of a command line ask of `conn`, if they are right.
-fn settings_of(alloc: Global, words: &[&str]) -> Result<Option<Config>, Fail> {
-    let mut program = Command::new(alloc, "program").subcommand(command(alloc)?)?;
-    let Ok(matches) = program.try_get_matches_from_mut(words) else {
-        return Ok(None);
-    };
-    match matches.subcommand_matches("conn") {
-        Some(options) => Ok(Some(config_of(options))),
-        None => Ok(None),
-    }
-}
-
-#[test]
-fn options_of_the_command(rt: HostRuntime) -> Result<(), Fail> {
-    let alloc = rt.alloc();
-    let asked = Config {
-        first_id: 1,
-        window: 2,
-        journal_limit: 3,
-    };
-    let words = [
-        "program",
-        "conn",
-        "--first-id",
-        "1",
-        "--window",
-        "2",
-        "--limit",
-        "3",
-    ];
-    assert_eq!(rt; settings_of(alloc, &words)?, Some(asked));
-    assert_eq!(rt; settings_of(alloc, &["program", "conn"])?, Some(USUAL));
-    assert_eq!(rt; settings_of(alloc, &["program"])?, None);
-    assert_eq!(rt;
-        settings_of(alloc, &["program", "conn", "--window", "0"])?,
-        None
-    );
     Ok(())
 }

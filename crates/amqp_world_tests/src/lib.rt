@@ -5,6 +5,7 @@
 //! | `passing` | deliveries whose ids cross 2^32: sent, heard and disposed; and what is refused |
 //! | `random` | whatever both do, and whenever they hear: what is taken is what was sent, and what is learnt is what was said |
 //! | `rejoining` | a link that is put aside while a delivery is under way, and brought back |
+//! | `growth` | growths of memory that are refused |
 //! | `acting` | the operations of these, that the dice choose |
 //! | `lists` | what both journals say of deliveries |
 //! | `calls` | calls, answered by yes or no |
@@ -17,6 +18,8 @@ mod acting;
 mod calls;
 #[cfg(test)]
 mod dice;
+#[cfg(test)]
+mod growth;
 #[cfg(test)]
 mod lists;
 #[cfg(test)]

@@ -80,6 +80,11 @@ impl Endpoint {
                 payload,
                 more,
             } => self.foretell_start(*link, tag, *format, *settled, payload, *more),
+            Op::Carry {
+                link,
+                payload,
+                more,
+            } => self.foretell_carry(*link, payload, *more),
             Op::Learn { link } => self.foretell_learn(*link),
             Op::Take { link } => self.foretell_take(*link),
             _ => match self.plan_own(op) {

@@ -101,6 +101,11 @@ impl Endpoint {
                 payload,
                 more,
             } => self.start(*link, tag, *format, *settled, payload, *more),
+            Op::Carry {
+                link,
+                payload,
+                more,
+            } => self.carry(*link, payload, *more),
             Op::Learn { link } => self.learn(*link),
             Op::Take { link } => self.take(*link),
             _ => self.own_planned(op),

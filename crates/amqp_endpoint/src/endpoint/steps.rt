@@ -65,7 +65,7 @@ impl Endpoint {
                 link,
                 payload,
                 more,
-            } => self.refuse_draft(self.draft_carry(*link, payload, *more), payload),
+            } => self.refuse_carry(*link, payload, *more),
             Op::Abort { link } => self.refuse_draft(self.draft_abort(*link), &[]),
             Op::Dispose {
                 role,
@@ -160,11 +160,6 @@ impl Endpoint {
                 max_message: *max_message,
                 brought: None,
             }),
-            Op::Carry {
-                link,
-                payload,
-                more,
-            } => self.plan_draft(self.draft_carry(*link, payload, *more), payload),
             Op::Abort { link } => self.plan_draft(self.draft_abort(*link), &Bytes::new()),
             Op::Dispose {
                 role,
@@ -202,7 +197,9 @@ impl Endpoint {
             Op::Resume { link, tag, settled } => self.plan_resume(*link, tag, *settled),
             Op::End { error } => self.plan_end(error),
             Op::Beat => self.plan_draft(self.draft_beat(), &Bytes::new()),
-            Op::Start { .. } | Op::Learn { .. } | Op::Take { .. } => unreachable!(),
+            Op::Start { .. } | Op::Carry { .. } | Op::Learn { .. } | Op::Take { .. } => {
+                unreachable!()
+            }
         }
     }
 

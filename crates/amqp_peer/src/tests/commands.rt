@@ -1,13 +1,13 @@
 //! Command lines, and the settings that they give.
 
 use crate::command_line::{Request, read_request};
+use crate::options::USUAL;
 use amqp_endpoint::config::Config;
 use amqp_frames::FrameFault;
 use amqp_pair::Options;
 use amqp_rules::refusal::Refusal;
 use amqp_rules::violation::ViolationKind;
 use amqp_script::explain::Explained;
-use amqp_script::options::USUAL;
 use amqp_trace::Direction;
 use std::test::Fail;
 

@@ -1,9 +1,7 @@
-use Rattle.std.proofs.Common.{◌∙◌, ◌==◌, Some, None, ap, sym, find, rules}
-use Rattle.amqp_rules.specs.View.{LinkView, has_number, next_delivery, rcv_mode}
-use Rattle.amqp_waiting.specs.Waiting.{WaitingItem}
+use Rattle.std.proofs.Common.{◌∙◌, ◌==◌, ap, sym, find, rules}
+use Rattle.amqp_rules.specs.View.{has_number}
 use Rattle.amqp_waiting.specs.Kept.{standing_of}
 use Rattle.amqp_rules.specs.Deliveries.{is_sent_anew}
-use Rattle.amqp_endpoint.specs.declared.endpoint.resume.Resuming.{Resuming}
 use Rattle.amqp_endpoint.specs.Resuming.{MaySend}
 use Rattle.amqp_endpoint.specs.Plan.{view_of}
 use Rattle.amqp_endpoint.proofs.Transfers.{marks-same}

@@ -11,11 +11,8 @@ returns-in-Attach c = rw c.in-Attach.is (c.plan_attach.ensures)
 pub returns-in-Dispose : goal.returns-in-Dispose
 returns-in-Dispose c = rw c.in-Dispose.is (c.plan_dispose.ensures)
 
-pub returns-in-Carry : goal.returns-in-Carry
-returns-in-Carry c = rw c.in-Carry.is (c.plan_draft.ensures _ _ (rw c.deref.ensures at c.draft_carry.ensures))
-
 pub returns-in-Abort : goal.returns-in-Abort
-returns-in-Abort c = rw c.in-Abort.is ((rw c.new.ensures at c.plan_draft-in-Abort-2.ensures) _ _ c.draft_abort.ensures)
+returns-in-Abort c = rw c.in-Abort.is ((rw c.new.ensures at c.plan_draft-in-Abort.ensures) _ _ c.draft_abort.ensures)
 
 pub returns-in-Grant : goal.returns-in-Grant
 returns-in-Grant c = rw c.in-Grant.is ((rw c.new-in-Grant.ensures at c.plan_draft-in-Grant-2.ensures) _ _ c.draft_grant.ensures)

@@ -1,10 +1,7 @@
 use Rattle.amqp_endpoint.proofs.endpoint.Endpoint.refusal.Goals as goal
 
-pub returns-in-Carry : goal.returns-in-Carry
-returns-in-Carry c = rw c.in-Carry.is ((rw c.deref-in-Carry.ensures at c.refuse_draft.ensures) _ _ (rw c.deref.ensures at c.draft_carry.ensures))
-
 pub returns-in-Abort : goal.returns-in-Abort
-returns-in-Abort c = rw c.in-Abort.is (c.refuse_draft-in-Abort.ensures _ _ c.draft_abort.ensures)
+returns-in-Abort c = rw c.in-Abort.is (c.refuse_draft.ensures _ _ c.draft_abort.ensures)
 
 pub returns-in-Grant : goal.returns-in-Grant
 returns-in-Grant c = rw c.in-Grant.is (c.refuse_draft-in-Grant.ensures _ _ c.draft_grant.ensures)

@@ -1,7 +1,8 @@
-//! The commands `conn`, `trace` and `explain` with their options, and those of `script`, as parts of a program's command line.
+//! The commands `script`, `conn`, `frames`, `trace` and `explain` with their options. Each option is made where it is added: one that is owned over the way
+//! out of another costs its proof there.
 
-use crate::explain::{Explained, find_fault, find_refusal, find_violation};
 use amqp_rules::config::{Config, MAX_JOURNAL_LIMIT, MAX_WINDOW};
+use amqp_script::explain::{Explained, find_fault, find_refusal, find_violation};
 use amqp_trace::Direction;
 use clap::{Arg, ArgAction, ArgMatches, Command, value_parser};
 use std::alloc::{AllocError, Global};
@@ -24,12 +25,24 @@ pub fn config_of(options: &ArgMatches<'_>) -> Config {
     }
 }
 
+/// The command `script` with its options.
+pub fn script<'a>(alloc: Global) -> Result<Command<'a>, AllocError> {
+    let about = "Reads lines from standard input and answers each with a line";
+    with_config(alloc, Command::new(alloc, "script").about(about))?.arg(keep(alloc))
+}
+
 /// The command `conn` with its options.
-pub fn command<'a>(alloc: Global) -> Result<Command<'a>, AllocError> {
+pub fn conn<'a>(alloc: Global) -> Result<Command<'a>, AllocError> {
     let conn = Command::new(alloc, "conn").about(
         "Reads lines from standard input, drives a connection by them, and answers each with a line",
     );
     with_config(alloc, conn)
+}
+
+/// The command `frames`, which has none.
+pub fn frames<'a>(alloc: Global) -> Command<'a> {
+    let about = "Reads octets in hexadecimal from standard input and names the frames in them";
+    Command::new(alloc, "frames").about(about)
 }
 
 /// The command `trace` with its options.
@@ -53,17 +66,23 @@ pub fn direction_of(options: &ArgMatches<'_>) -> Direction {
 
 /// The command `explain` with its options.
 pub fn explain<'a>(alloc: Global) -> Result<Command<'a>, AllocError> {
-    let number = Arg::new(alloc, "number")
+    Command::new(alloc, "explain")
+        .about("Says in words what a number of an answer means")
+        .arg(explained(alloc))?
+        .arg(flag(alloc, "violation", "It is the number of a violation"))?
+        .arg(fault(alloc)?)
+}
+
+fn explained<'a>(alloc: Global) -> Arg<'a> {
+    Arg::new(alloc, "number")
         .value_name("N")
         .value_parser(value_parser!(u32))
         .required(true)
-        .help("The number of a refusal");
-    let fault = flag(alloc, "fault", "It is that of a fault of framing");
-    Command::new(alloc, "explain")
-        .about("Says in words what a number of an answer means")
-        .arg(number)?
-        .arg(flag(alloc, "violation", "It is the number of a violation"))?
-        .arg(fault.conflicts_with("violation")?)
+        .help("The number of a refusal")
+}
+
+fn fault<'a>(alloc: Global) -> Result<Arg<'a>, AllocError> {
+    flag(alloc, "fault", "It is that of a fault of framing").conflicts_with("violation")
 }
 
 /// What the number stands for, if for anything.
@@ -87,53 +106,45 @@ fn flag<'a>(alloc: Global, name: &'static str, help: &'static str) -> Arg<'a> {
 }
 
 /// The command, with the options of an endpoint's settings.
-pub fn with_config<'a>(alloc: Global, command: Command<'a>) -> Result<Command<'a>, AllocError> {
+fn with_config<'a>(alloc: Global, command: Command<'a>) -> Result<Command<'a>, AllocError> {
     command
-        .arg(first_id(alloc)?)?
-        .arg(window(alloc)?)?
-        .arg(limit(alloc)?)
+        .arg(first_id(alloc))?
+        .arg(window(alloc))?
+        .arg(limit(alloc))
 }
 
-/// The option of `script` that says how many of the journal's entries are kept.
-pub fn keep<'a>(alloc: Global) -> Result<Arg<'a>, AllocError> {
-    Ok(
-        Arg::new(alloc, "keep")
-            .long("keep")
-            .value_name("N")
-            .value_parser(value_parser!(u32).range(1..=i64::from(MAX_JOURNAL_LIMIT)))
-            .help("How many entries of the journal stay at most; all where it is left off"),
-    )
+/// The option of `script` and `pair` that says how many of a journal's entries are kept.
+pub fn keep<'a>(alloc: Global) -> Arg<'a> {
+    Arg::new(alloc, "keep")
+        .long("keep")
+        .value_name("N")
+        .value_parser(value_parser!(u32).range(1..=i64::from(MAX_JOURNAL_LIMIT)))
+        .help("How many entries of the journal stay at most; all where it is left off")
 }
 
-fn first_id<'a>(alloc: Global) -> Result<Arg<'a>, AllocError> {
-    Ok(
-        Arg::new(alloc, "first-id")
-            .long("first-id")
-            .value_name("N")
-            .value_parser(value_parser!(u32))
-            .default_value("0")
-            .help("The first transfer id and delivery id"),
-    )
+fn first_id<'a>(alloc: Global) -> Arg<'a> {
+    Arg::new(alloc, "first-id")
+        .long("first-id")
+        .value_name("N")
+        .value_parser(value_parser!(u32))
+        .default_value("0")
+        .help("The first transfer id and delivery id")
 }
 
-fn window<'a>(alloc: Global) -> Result<Arg<'a>, AllocError> {
-    Ok(
-        Arg::new(alloc, "window")
-            .long("window")
-            .value_name("W")
-            .value_parser(value_parser!(u32).range(1..=i64::from(MAX_WINDOW)))
-            .default_value("2048")
-            .help("The incoming window, in transfers"),
-    )
+fn window<'a>(alloc: Global) -> Arg<'a> {
+    Arg::new(alloc, "window")
+        .long("window")
+        .value_name("W")
+        .value_parser(value_parser!(u32).range(1..=i64::from(MAX_WINDOW)))
+        .default_value("2048")
+        .help("The incoming window, in transfers")
 }
 
-fn limit<'a>(alloc: Global) -> Result<Arg<'a>, AllocError> {
-    Ok(
-        Arg::new(alloc, "limit")
-            .long("limit")
-            .value_name("L")
-            .value_parser(value_parser!(u32).range(1..=i64::from(MAX_JOURNAL_LIMIT)))
-            .default_value("1073741824")
-            .help("How many steps the journal may have"),
-    )
+fn limit<'a>(alloc: Global) -> Arg<'a> {
+    Arg::new(alloc, "limit")
+        .long("limit")
+        .value_name("L")
+        .value_parser(value_parser!(u32).range(1..=i64::from(MAX_JOURNAL_LIMIT)))
+        .default_value("1073741824")
+        .help("How many steps the journal may have")
 }

@@ -1,0 +1,207 @@
+//! Shared sessions on one thread, where one growth of memory is refused. A call that is refused memory is made again, after a look at what the readers
+//! show, and has to answer what it answers with ample memory. Each session goes twice: one of both at least has ample memory, and both come to the same.
+ghost use Rattle.std.specs.Prelude.{◌≡◌, IfOk, IfSome};
+ghost use Rattle.amqp_shared.specs.Passes.{IsNamed};
+
+mod acts;
+mod calls;
+mod consuming;
+mod ending;
+mod shown;
+
+use crate::octets::{ACCEPTED, ANSWER, CLOSE, FLOW, GREETING};
+use acts::Act;
+use amqp_conn::{Config, StartFault};
+use amqp_shared::{Name, Pass, Refusal, Seed, open_shared};
+use amqp_types::Text;
+use calls::{Do, Steps, go};
+use ending::end;
+use shown::Course;
+use std::alloc::Global;
+use std::marker::Brand;
+use std::sync::Wait;
+use std::thread::Threads;
+
+/// A disposition that accepts the second delivery and settles it.
+const SECOND: [u8; 23] = [
+    0, 0, 0, 0x17, 2, 0, 0, 0, 0, 0x53, 0x15, 0xc0, 0x0a, 5, 0x41, 0x52, 1, 0x40, 0x41, 0, 0x53,
+    0x24, 0x45,
+];
+
+/// The peer's begin, and its attach of a link on which it sends.
+const SESSION: [u8; 56] = [
+    0, 0, 0, 0x1c, 2, 0, 0, 0, 0, 0x53, 0x11, 0xc0, 0x0f, 4, 0x60, 0, 0, 0x43, 0x70, 0, 0, 8, 0,
+    0x70, 0x7f, 0xff, 0xff, 0xff, 0, 0, 0, 0x1c, 2, 0, 0, 0, 0, 0x53, 0x12, 0xc0, 0x0f, 0x0a, 0xa1,
+    1, 0x71, 0x43, 0x42, 0x50, 2, 0x50, 0, 0x40, 0x40, 0x40, 0x40, 0x43,
+];
+
+/// A delivery, one that comes settled, and another.
+const DELIVERIES: [u8; 66] = [
+    0, 0, 0, 0x15, 2, 0, 0, 0, 0, 0x53, 0x14, 0xc0, 7, 4, 0x43, 0x43, 0xa0, 1, 1, 0x43, 0x78, 0, 0,
+    0, 0x17, 2, 0, 0, 0, 0, 0x53, 0x14, 0xc0, 9, 5, 0x43, 0x52, 1, 0xa0, 1, 2, 0x43, 0x41, 0x78, 0,
+    0, 0, 0x16, 2, 0, 0, 0, 0, 0x53, 0x14, 0xc0, 8, 4, 0x43, 0x52, 2, 0xa0, 1, 3, 0x43, 0x78,
+];
+
+/// Two deliveries of ours: of the first we learn, and what the peer told of the second is left when it closes. More units go out than the ring takes.
+const SENT: Steps = &[
+    (Do::Hear(&GREETING), 34),
+    (Do::Call(Act::Begin), 0),
+    (Do::Hear(&ANSWER), 47),
+    (Do::Call(Act::Attach(true)), 0),
+    (Do::Hear(&FLOW), 30),
+    (Do::Call(Act::Start(1)), 0),
+    (Do::Wait(Act::Start(2)), 1),
+    (Do::Hear(&ACCEPTED), 22),
+    (Do::Wait(Act::Learn), 0),
+    (Do::Forget, 0),
+    (Do::Hear(&SECOND), 23),
+    (Do::Call(Act::Beat), 0),
+    (Do::Hear(&CLOSE), 12),
+    (Do::LeftLen, 1),
+    (Do::Left, 1),
+    (Do::Left, 99),
+];
+
+/// How many steps the journal of consumers takes: nine, and those of two deliveries that are consumed.
+const CONSUMED_LIMIT: u32 = 14;
+
+/// A consumer takes two of three deliveries, and is stopped by a full journal; then the peer closes, and the third is what the link left.
+const CONSUMED: Steps = &[
+    (Do::Hear(&GREETING), 34),
+    (Do::Call(Act::Begin), 0),
+    (Do::Hear(&SESSION), 56),
+    (Do::Call(Act::Attach(false)), 0),
+    (Do::Call(Act::Grant), 0),
+    (Do::Hear(&DELIVERIES), 66),
+    (Do::Consume(2, Refusal::JournalFull), 1),
+    (Do::Hear(&CLOSE), 12),
+    (Do::Consume(1, Refusal::NotRunning), 1),
+    (Do::LeftLen, 0),
+];
+
+/// We close, with units that wait behind a ring that is full, and so does the peer.
+const SHUT: Steps = &[
+    (Do::Hear(&GREETING), 34),
+    (Do::Call(Act::Begin), 0),
+    (Do::Call(Act::Beat), 0),
+    (Do::Call(Act::Beat), 0),
+    (Do::Shut, 0),
+    (Do::Hear(&CLOSE), 12),
+    (Do::LeftLen, 0),
+];
+
+/// A seed whose journal takes so many steps, with a ring of four units.
+fn seed_once(alloc: Global, journal_limit: u32) -> Result<Seed, StartFault>
+    ensures { IfOk result (λ s. s.parts ≡ 65536) }
+{
+    let Ok(container_id) = Text::new(alloc, "a") else {
+        return Err(StartFault::NoMemory);
+    };
+    let config = Config {
+        container_id,
+        hostname: None,
+        max_frame: 65536,
+        idle_time_out: None,
+        first_id: 0,
+        window: 2048,
+        journal_limit,
+    };
+    Seed::new(alloc, config, 4)
+}
+
+/// The same, made again where it was refused memory.
+fn seed_of(alloc: Global, journal_limit: u32) -> Option<Seed>
+    ensures { IfSome result (λ s. s.parts ≡ 65536) }
+{
+    let first = seed_once(alloc, journal_limit);
+    match first {
+        Ok(seed) => Some(seed),
+        Err(StartFault::NoMemory) => seed_once(alloc, journal_limit).ok(),
+        Err(StartFault::BadConfig) => None,
+    }
+}
+
+/// Room for the passes that the end wants: two, and those of four runs of a consumer. Later pushes make no growth.
+fn room<N: Name>(alloc: Global) -> Vec<Pass<N>> {
+    match Vec::with_capacity(alloc, 6) {
+        Ok(passes) => passes,
+        Err(_) => Vec::with_capacity(alloc, 6).unwrap_or(Vec::new(alloc)),
+    }
+}
+
+/// The pass in two, with which the steps are made by turns.
+fn split<N: Name>(passes: &mut Vec<Pass<N>>, pass: Pass<N>) -> bool {
+    let mut pass = pass;
+    let part = pass.split();
+    let is_first_in = passes.push(pass).is_ok();
+    match part {
+        Some(part) => passes.push(part).is_ok() && is_first_in,
+        None => false,
+    }
+}
+
+/// How the session stands that comes back behind the steps; none where one of them is not answered so. Where `misses`, passes may be gone.
+fn course<N: Name + Send + Sync, R: Threads + Wait + Sync>(
+    rt: &R,
+    alloc: Global,
+    seed: Seed,
+    steps: Steps,
+    misses: bool,
+) -> Option<Course>
+    requires { IsNamed seed N.name N.parts N.ring }
+{
+    let mut passes = room::<N>(alloc);
+    let (shared, pass, writer) = open_shared::<N>(seed);
+    let goes = split(&mut passes, pass) && go(rt, alloc, &shared, &mut passes, steps);
+    let course = end(rt, shared, passes, writer, misses);
+    if goes { course } else { None }
+}
+
+fn goes_once<R: Threads + Wait + Sync>(
+    rt: &R,
+    alloc: Global,
+    limit: u32,
+    steps: Steps,
+    misses: bool,
+) -> Option<Course> {
+    match seed_of(alloc, limit) {
+        Some(seed) => course::<Brand, R>(rt, alloc, seed, steps, misses),
+        None => None,
+    }
+}
+
+/// How two sessions stand, if both go so and come to the same.
+fn goes<R: Threads + Wait + Sync>(
+    rt: &R,
+    alloc: Global,
+    limit: u32,
+    steps: Steps,
+    misses: bool,
+) -> Option<Course> {
+    let one = goes_once(rt, alloc, limit, steps, misses);
+    let other = goes_once(rt, alloc, limit, steps, misses);
+    if one == other { one } else { None }
+}
+
+/// Whether they go so, with so many steps and units.
+fn comes_to(course: Option<Course>, steps: u32, units: u64) -> bool {
+    match course {
+        Some(course) => course.has(steps, units),
+        None => false,
+    }
+}
+
+#[test]
+fn every_growth_refused_of_a_shared_session(rt: HostRuntime) {
+    assert!(rt; comes_to(goes(&rt, rt.alloc(), 1000, SENT, false), 12, 8));
+}
+
+#[test]
+fn every_growth_refused_of_consumers(rt: HostRuntime) {
+    assert!(rt; comes_to(goes(&rt, rt.alloc(), CONSUMED_LIMIT, CONSUMED, true), 14, 9));
+}
+
+#[test]
+fn every_growth_refused_of_a_close(rt: HostRuntime) {
+    assert!(rt; comes_to(goes(&rt, rt.alloc(), 1000, SHUT, false), 4, 6));
+}
