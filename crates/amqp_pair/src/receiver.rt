@@ -8,16 +8,16 @@ use crate::ending::{left_of, put, take_apart};
 use crate::fault::PairFault;
 use crate::gate::Gate;
 use crate::options::Options;
-use crate::reading::{Beginning, ReadOutcome, Reader, read_end};
+use crate::reading::{Beginning, ReadFault, ReadOutcome, Reader, read_end};
 use crate::writing::{WriteOutcome, Writer, write_end};
 use amqp_frames::Role;
-use amqp_shared::{Name, Pass, Seed, Shared, open_shared};
+use amqp_shared::{Closed, Name, Pass, Seed, Shared, WriterEnd, open_shared};
 use std::alloc::Global;
 use std::marker::Brand;
 use std::net::TcpStream;
 use std::sync::Wait;
-use std::thread;
 use std::thread::Threads;
+use std::{io, thread};
 
 /// What the receiving end has done.
 #[derive(Clone, Copy)]
@@ -55,9 +55,31 @@ where
     R: Threads + Wait + Sync,
     requires { IsNamed seed N.name N.parts N.ring }
 {
-    let copy = stream.try_clone().map_err(PairFault::Socket)?;
     let (shared, mut pass, end) = open_shared::<N>(seed);
     let passes = split_off(alloc, &mut pass, options.consumers)?;
+    let ran = run_end(rt, alloc, &shared, pass, passes, end, options, stream)?;
+    finish(shared, ran)
+}
+
+/// What the threads of the end gave: its reader, and its writer beside its consumers.
+type Ran<N> = (ReadOutcome<N>, (WriteOutcome<N>, ConsumeOutcome<N>));
+
+/// Runs the end over its socket. What it owns is given away before the next that may fail: a function that owns much over several ways out is dear to prove.
+fn run_end<N, R>(
+    rt: &R,
+    alloc: Global,
+    shared: &Shared<N>,
+    pass: Pass<N>,
+    passes: Vec<Pass<N>>,
+    end: WriterEnd<N>,
+    options: &Options,
+    stream: TcpStream,
+) -> Result<Ran<N>, PairFault>
+where
+    N: Name + Send + Sync,
+    R: Threads + Wait + Sync,
+{
+    let copy = stream.try_clone().map_err(PairFault::Socket)?;
     let (gate, told) = Gate::pair(alloc)?;
     let beginning = Beginning {
         role: Role::Receiver,
@@ -72,25 +94,40 @@ where
         gate: told,
     };
     let writer = Writer { alloc, end, stream };
-    let ((reading, read), ((writer, written), consumed)) = run_threads(
-        rt,
-        &shared,
-        reader,
-        writer,
-        passes,
-        options.credit,
-        &gate,
-    );
-    read.map_err(PairFault::Read)?;
-    written.map_err(PairFault::Write)?;
-    let (mut passes, counts) = consumed?;
-    put(&mut passes, reading)?;
-    let closed = take_apart(shared, passes, writer)?;
+    Ok(run_threads(rt, shared, reader, writer, passes, options.credit, &gate))
+}
+
+/// What the end has done, once its threads have ended.
+fn finish<N: Name>(shared: Shared<N>, ran: Ran<N>) -> Result<Received, PairFault> {
+    let ((reading, read), ((writer, written), consumed)) = ran;
+    let (passes, counts) = outcome(read, written, consumed)?;
+    let closed = end_receiver(shared, reading, passes, writer)?;
     Ok(Received {
         consumed: counts.deliveries,
         octets: counts.octets,
         left: left_of(&closed),
     })
+}
+
+/// What the consumers came to, unless the reader or the writer failed.
+fn outcome<N: Name>(
+    read: Result<(), ReadFault>,
+    written: io::Result<()>,
+    consumed: ConsumeOutcome<N>,
+) -> ConsumeOutcome<N> {
+    read.map_err(PairFault::Read)?;
+    written.map_err(PairFault::Write)?;
+    consumed
+}
+
+fn end_receiver<N: Name>(
+    shared: Shared<N>,
+    reading: Pass<N>,
+    mut passes: Vec<Pass<N>>,
+    writer: WriterEnd<N>,
+) -> Result<Closed, PairFault> {
+    put(&mut passes, reading)?;
+    take_apart(shared, passes, writer)
 }
 
 /// The reader, beside the writer and the consumers.
@@ -102,7 +139,7 @@ fn run_threads<N, R>(
     passes: Vec<Pass<N>>,
     credit: u32,
     gate: &Gate,
-) -> (ReadOutcome<N>, (WriteOutcome<N>, ConsumeOutcome<N>))
+) -> Ran<N>
 where
     N: Name + Send + Sync,
     R: Threads + Wait + Sync,

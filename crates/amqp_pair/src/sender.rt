@@ -56,11 +56,37 @@ where
     R: Threads + Wait + Sync,
     requires { IsNamed seed N.name N.parts N.ring }
 {
-    let copy = stream.try_clone().map_err(PairFault::Socket)?;
     let (shared, mut pass, end) = open_shared::<N>(seed);
     let Some(reading) = pass.split() else {
         return Err(PairFault::Options);
     };
+    let hand = Hand {
+        pass,
+        receipts: messages.receipts(alloc),
+    };
+    let ran = run_end(rt, alloc, &shared, reading, hand, end, messages, stream)?;
+    finish(alloc, shared, messages, ran)
+}
+
+/// What the threads of the end gave: its reader, and its writer beside its messages.
+type Ran<N> = (ReadOutcome<N>, (WriteOutcome<N>, SendOutcome<N>));
+
+/// Runs the end over its socket. What it owns is given away before the next that may fail: a function that owns much over several ways out is dear to prove.
+fn run_end<N, R>(
+    rt: &R,
+    alloc: Global,
+    shared: &Shared<N>,
+    pass: Pass<N>,
+    hand: Hand<N>,
+    end: WriterEnd<N>,
+    messages: &Messages,
+    stream: TcpStream,
+) -> Result<Ran<N>, PairFault>
+where
+    N: Name + Send + Sync,
+    R: Threads + Wait + Sync,
+{
+    let copy = stream.try_clone().map_err(PairFault::Socket)?;
     let (gate, told) = Gate::pair(alloc)?;
     let beginning = Beginning {
         role: Role::Sender,
@@ -69,19 +95,23 @@ where
     };
     let reader = Reader {
         alloc,
-        pass: reading,
+        pass,
         stream: copy,
         beginning,
         gate: told,
     };
     let writer = Writer { alloc, end, stream };
-    let hand = Hand {
-        pass,
-        receipts: messages.receipts(alloc),
-    };
-    let ((reading, read), ((writer, written), (hand, sent))) = run_threads(
-        rt, &shared, reader, writer, hand, messages, &gate,
-    );
+    Ok(run_threads(rt, shared, reader, writer, hand, messages, &gate))
+}
+
+/// What the end has done, once its threads have ended.
+fn finish<N: Name>(
+    alloc: Global,
+    shared: Shared<N>,
+    messages: &Messages,
+    ran: Ran<N>,
+) -> Result<Sent, PairFault> {
+    let ((reading, read), ((writer, written), (hand, sent))) = ran;
     let done = outcome(read, written, sent)?;
     let Hand { pass, receipts } = hand;
     let closed = end_sender(alloc, shared, reading, pass, writer)?;
@@ -129,7 +159,7 @@ fn run_threads<N, R>(
     hand: Hand<N>,
     messages: &Messages,
     gate: &Gate,
-) -> (ReadOutcome<N>, (WriteOutcome<N>, SendOutcome<N>))
+) -> Ran<N>
 where
     N: Name + Send + Sync,
     R: Threads + Wait + Sync,
