@@ -28,7 +28,6 @@ mod grant;
 mod learn;
 mod left;
 mod offer;
-mod onlink;
 mod opened;
 mod peer_attach;
 mod peer_begin;
@@ -44,7 +43,6 @@ mod start;
 mod steps;
 mod suspend;
 mod take;
-mod telling;
 
 /// One end of a session. A refused operation and a frame that is not taken change nothing.
 #[derive(Drop)]

@@ -45,7 +45,7 @@ pub struct Said<'a> {
 
 impl Said<'_> {
     /// A copy of it.
-    fn kept(&self) -> Result<Disposition, AllocError>
+    pub fn kept(&self) -> Result<Disposition, AllocError>
         ensures { IfOk result (λ copy. copy ≡ said_in self.now) }
     {
         let state = copy_state(self.state)?;
