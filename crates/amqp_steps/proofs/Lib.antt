@@ -10,5 +10,5 @@ pub mod Heard
 pub mod Attaches
 pub mod Disposing
 pub mod Transfers
-mod Parted
-mod Resumes
+pub mod Parted
+pub mod Resumes
