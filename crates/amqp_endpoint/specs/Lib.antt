@@ -1,16 +1,1 @@
-pub mod Stores
-pub mod Plan
-pub mod Taking
-pub mod Starting
-pub mod Resuming
-pub mod Disposing
-pub mod Flowing
-pub mod Answered
-pub mod Attaching
-pub mod Carrying
-pub mod Transferring
-pub mod Doing
-pub mod Written
-pub mod Arriving
-pub mod Drafting
 pub mod Left

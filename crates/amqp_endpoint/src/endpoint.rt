@@ -1,12 +1,12 @@
 //! One end of a session.
 ghost use Rattle.std.specs.Prelude.{◌≡◌, ◌<◌, ◌^◌, OnOk, OnErr, IfOk};
-ghost use Rattle.amqp_endpoint.specs.Plan.{IsSound, KeepsApart, octets_sent, plan_reply, planned};
+ghost use Rattle.amqp_steps.specs.Plan.{IsSound, KeepsApart, octets_sent, plan_reply, planned};
 
-use crate::cutting::Cutter;
-use crate::plan::{Plan, Session};
 use crate::reply::Reply;
-use crate::sending::list_sent;
-use crate::stores::Stores;
+use amqp_steps::cutting::Cutter;
+use amqp_steps::plan::{Plan, Session};
+use amqp_steps::sending::list_sent;
+use amqp_steps::stores::Stores;
 use bytes::Bytes;
 use std::alloc::{AllocError, Global};
 use std::marker::Model;
@@ -28,7 +28,6 @@ mod grant;
 mod learn;
 mod left;
 mod offer;
-mod onlink;
 mod opened;
 mod peer_attach;
 mod peer_begin;
@@ -44,7 +43,6 @@ mod start;
 mod steps;
 mod suspend;
 mod take;
-mod telling;
 
 /// One end of a session. A refused operation and a frame that is not taken change nothing.
 #[derive(Drop)]
@@ -61,7 +59,7 @@ impl Model for Endpoint {
     ghost use Rattle.std.specs.Coded.{codes};
     ghost use Rattle.amqp_types.specs.contracts.value.Value as value;
     ghost use Rattle.amqp_rules.specs.View.{View};
-    ghost use Rattle.amqp_endpoint.specs.Plan.{IsKept, view_of};
+    ghost use Rattle.amqp_steps.specs.Plan.{IsKept, view_of};
 
     ghost Value = { View };
 

@@ -23,20 +23,13 @@
 //!
 //! | module | what it has |
 //! |---|---|
-//! | `plan` | a step as it is planned |
-//! | `stores` | the links and the unsettled deliveries, and what a step makes of both |
-//! | `sending` | frames as they are sent |
-//! | `cutting` | octets of short frames, cut out of shared blocks |
-//! | `done` | what a step gives that was done |
 //! | `endpoint` | the endpoint, and one module for each kind of step |
+//!
+//! What a step makes of the session, the links and the deliveries, and its plan, are in `amqp_steps`; `done` is a module of that.
 #![tactic(auto)]
 
-mod cutting;
-pub mod done;
 pub mod endpoint;
-pub mod plan;
-mod sending;
-mod stores;
 
 pub use amqp_links::left;
 pub use amqp_rules::{config, op, refusal, reply, status, violation};
+pub use amqp_steps::done;

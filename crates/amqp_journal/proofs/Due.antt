@@ -15,9 +15,9 @@ use Rattle.amqp_rules.specs.Opened.{no_reply}
 use Rattle.amqp_rules.specs.Refusing.{unlinked, no_memory}
 use Rattle.amqp_rules.specs.View.{View}
 use Rattle.amqp_rules.specs.Answer.{own_answer, heard_answer, next_own, next_heard}
-use Rattle.amqp_endpoint.specs.declared.done.Done.{Done}
-use Rattle.amqp_endpoint.specs.Doing.{IsDone, IsDoneOnce}
-use Rattle.amqp_endpoint.specs.Plan.{IsRefused}
+use Rattle.amqp_steps.specs.declared.done.Done.{Done}
+use Rattle.amqp_steps.specs.Doing.{IsDone, IsDoneOnce}
+use Rattle.amqp_steps.specs.Plan.{IsRefused}
 use Rattle.amqp_laws.specs.Lawful.{Answers, next}
 use Rattle.amqp_laws.specs.declared.entry.Step.{Step}
 use Rattle.amqp_laws.specs.declared.entry.Step.TheVariants.{Own, Heard}

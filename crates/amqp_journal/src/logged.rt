@@ -6,7 +6,7 @@ ghost use Rattle.amqp_rules.specs.Limits.{IsWithinLimits};
 ghost use Rattle.amqp_rules.specs.Refusing.{no_memory};
 ghost use Rattle.amqp_rules.specs.Opened.{no_reply};
 ghost use Rattle.amqp_rules.specs.View.{remove_first};
-ghost use Rattle.amqp_endpoint.specs.Plan.{IsRefused};
+ghost use Rattle.amqp_steps.specs.Plan.{IsRefused};
 ghost use Rattle.amqp_endpoint.specs.Left.{left_by_own, left_by_heard};
 ghost use Rattle.amqp_rules.specs.Answer.{own_answer, heard_answer};
 ghost use Rattle.amqp_laws.specs.Past.{past};

@@ -43,7 +43,7 @@ use Rattle.amqp_links.proofs.marks.Sending.TheSendSync as sending_crosses
 use Rattle.amqp_links.proofs.arrival.Unfinished.TheSendSync as unfinished_crosses
 use Rattle.amqp_links.proofs.arrival.Waiting.TheSendSync as waiting_crosses
 use Rattle.amqp_links.specs.contracts.left.Left as left
-use Rattle.amqp_endpoint.proofs.plan.Session.TheSendSync as session_crosses
+use Rattle.amqp_steps.proofs.plan.Session.TheSendSync as session_crosses
 use Rattle.amqp_rules.proofs.config.Config.TheSendSync as session_config_crosses
 use Rattle.amqp_frames.proofs.framer.Framer.TheSendSync as framer_crosses
 use Rattle.amqp_conn.proofs.config.Config.TheSendSync as config_crosses
@@ -89,7 +89,7 @@ use Rattle.amqp_links.specs.contracts.resuming.Kept as kept
 use Rattle.amqp_links.specs.contracts.resuming.Resuming as resuming
 use Rattle.amqp_links.specs.contracts.link.Link as link
 use Rattle.amqp_links.specs.contracts.links.Links as links
-use Rattle.amqp_endpoint.specs.contracts.stores.Stores as stores
+use Rattle.amqp_steps.specs.contracts.stores.Stores as stores
 use Rattle.amqp_endpoint.specs.contracts.endpoint.Endpoint as endpoint
 use Rattle.amqp_journal.specs.contracts.logged.Logged as logged
 use Rattle.amqp_conn.specs.contracts.treating.Machine as machine

@@ -10,7 +10,7 @@ use Rattle.amqp_rules.specs.declared.reply.Taken.{Taken}
 use Rattle.amqp_links.specs.declared.left.Left.{Left}
 use Rattle.amqp_links.specs.declared.left.Left.TheVariants as thing
 use Rattle.amqp_journal.specs.Log.{is_left_by}
-use Rattle.amqp_endpoint.proofs.Plans.{found-passes}
+use Rattle.amqp_steps.proofs.Plans.{found-passes}
 use Rattle.amqp_shared.specs.Ring.{Ring}
 use Rattle.amqp_shared.specs.Units.{numbered_from}
 use Rattle.amqp_shared.specs.Session.{IsHeld}

@@ -1,24 +1,18 @@
 //! Abort: the unfinished delivery is given up, and ended (part 2, 2.7.5).
 ghost use Rattle.std.specs.Prelude.{◌≡◌, [], ◌<◌, ◌^◌, Err, IfOk, MatchResult};
 ghost use Rattle.amqp_rules.specs.Abort.{abort_answer, next_abort};
-ghost use Rattle.amqp_endpoint.specs.Taking.{IsAborted};
-ghost use Rattle.amqp_endpoint.specs.Drafting.{Drafts};
+ghost use Rattle.amqp_steps.specs.Taking.{IsAborted};
+ghost use Rattle.amqp_steps.specs.Drafting.{Drafts};
 
 use crate::endpoint::Endpoint;
-use crate::endpoint::carry::{later_body, sent};
-use crate::endpoint::drafting::Draft;
-use crate::endpoint::onlink::OnLink;
 use crate::refusal::Refusal;
 use amqp_deliveries::Change;
 use amqp_frames::Role;
 use amqp_links::credit::same_role;
-
-/// An unfinished delivery that is given up: its id, and its link as it will be.
-#[derive(Clone, Copy)]
-pub(crate) struct Aborted {
-    pub(crate) id: u32,
-    pub(crate) on: OnLink,
-}
+use amqp_steps::abort::Aborted;
+use amqp_steps::carry::{later_body, sent};
+use amqp_steps::drafting::Draft;
+use amqp_steps::onlink::OnLink;
 
 impl Endpoint {
     /// The first refusal that is due, or the delivery that is given up.

@@ -2,18 +2,18 @@
 ghost use Rattle.std.specs.Prelude.{◌≡◌, ◌<◌, ◌^◌, IfSome, OnOk, OnErr};
 ghost use Rattle.amqp_rules.specs.Answer.{own_answer, next_own, heard_answer, next_heard};
 ghost use Rattle.amqp_rules.specs.Refusing.{no_memory};
-ghost use Rattle.amqp_endpoint.specs.Doing.{Foretells, Replies};
-ghost use Rattle.amqp_endpoint.specs.Plan.{plan_reply};
+ghost use Rattle.amqp_steps.specs.Doing.{Foretells, Replies};
+ghost use Rattle.amqp_steps.specs.Plan.{plan_reply};
 
-use crate::done::quiet_reply;
 use crate::endpoint::Endpoint;
 use crate::op::Op;
-use crate::plan::Plan;
 use crate::refusal::Refusal;
 use crate::reply::{Given, Reply};
-use crate::sending::list_sent;
 use crate::violation::{Violation, ViolationKind};
 use amqp_frames::{Frame, Performative};
+use amqp_steps::done::quiet_reply;
+use amqp_steps::plan::Plan;
+use amqp_steps::sending::list_sent;
 
 impl Endpoint {
     /// Does an operation, as [`Endpoint::own`]: its reply, twice. A refused operation has changed nothing; the room for both replies is asked

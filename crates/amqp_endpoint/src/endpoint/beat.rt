@@ -1,13 +1,13 @@
 //! Beat: an empty frame, by which the peer knows that we are there (part 2, 2.4.5).
 ghost use Rattle.std.specs.Prelude.{[]};
 ghost use Rattle.amqp_rules.specs.Beat.{beat_answer, next_beat};
-ghost use Rattle.amqp_endpoint.specs.Drafting.{Drafts};
+ghost use Rattle.amqp_steps.specs.Drafting.{Drafts};
 
 use crate::endpoint::Endpoint;
-use crate::endpoint::drafting::Draft;
 use crate::refusal::Refusal;
 use amqp_deliveries::Change;
 use amqp_links::fate::Fate;
+use amqp_steps::drafting::Draft;
 
 impl Endpoint {
     /// Sends an empty frame. O(1).

@@ -2,17 +2,17 @@
 ghost use Rattle.std.specs.Prelude.{◌≡◌, Some, None, if◌then◌else◌};
 ghost use Rattle.std.specs.Result.{result_err};
 ghost use Rattle.amqp_rules.specs.Begin.{begin_answer, begin_body, next_begin};
-ghost use Rattle.amqp_endpoint.specs.Plan.{Plans};
+ghost use Rattle.amqp_steps.specs.Plan.{Plans};
 
 use crate::endpoint::Endpoint;
-use crate::endpoint::telling::OUTGOING_WINDOW;
-use crate::plan::{Plan, plan_sending};
 use crate::refusal::Refusal;
 use crate::reply::Given;
-use crate::sending::measured_refusal;
 use amqp_deliveries::Change;
 use amqp_frames::{BeginBody, Performative, measure_begin};
 use amqp_links::fate::Fate;
+use amqp_steps::plan::{Plan, plan_sending};
+use amqp_steps::sending::measured_refusal;
+use amqp_steps::telling::OUTGOING_WINDOW;
 use amqp_types::Boxed;
 
 /// The channel of the begin that is answered.

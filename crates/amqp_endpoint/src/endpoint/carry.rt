@@ -1,67 +1,24 @@
 //! Carry: a further transfer of the unfinished delivery (part 2, 2.6.14 and 2.7.5).
-ghost use Rattle.std.specs.Prelude.{◌≡◌, ◌<◌, ◌+◌, ◌^◌, ◌∷◌, [], length, Err, Some, IfOk, MatchResult, OnErr};
+ghost use Rattle.std.specs.Prelude.{◌≡◌, ◌<◌, ◌+◌, ◌^◌, length, Err, IfOk, MatchResult, OnErr};
 ghost use Rattle.std.specs.Result.{result_err};
-ghost use Rattle.amqp_flow.specs.Windows.{windows_sent};
-ghost use Rattle.amqp_rules.specs.Carry.{carry_answer, carry_on, carry_refusals, later_body, next_carry};
-ghost use Rattle.amqp_endpoint.specs.Carrying.{carry_plan};
-ghost use Rattle.amqp_endpoint.specs.Doing.{Does, Foretells};
-ghost use Rattle.amqp_endpoint.specs.Plan.{IsShort, Makes};
-ghost use Rattle.amqp_endpoint.specs.Taking.{IsTaken};
+ghost use Rattle.amqp_rules.specs.Carry.{carry_answer, carry_on, carry_refusals, next_carry};
+ghost use Rattle.amqp_steps.specs.Carrying.{carry_plan};
+ghost use Rattle.amqp_steps.specs.Doing.{Does, Foretells};
+ghost use Rattle.amqp_steps.specs.Plan.{IsShort, Makes};
+ghost use Rattle.amqp_steps.specs.Taking.{IsTaken};
 
-use crate::done::Done;
 use crate::endpoint::Endpoint;
-use crate::endpoint::onlink::OnLink;
-use crate::endpoint::start::{is_too_long, sending_after};
-use crate::endpoint::telling::flag;
-use crate::plan::Session;
 use crate::refusal::Refusal;
-use crate::reply::{Given, Reply};
-use crate::sending::{Written, cut_sharing, sending_refusal};
-use amqp_frames::{Performative, Role, TransferBody};
+use crate::reply::Reply;
+use amqp_frames::Role;
 use amqp_links::credit::same_role;
-use amqp_types::Items;
+use amqp_steps::carry::{Carrying, carried_done, later_body, sent};
+use amqp_steps::done::Done;
+use amqp_steps::onlink::OnLink;
+use amqp_steps::sending::{cut_sharing, sending_refusal};
+use amqp_steps::start::{is_too_long, sending_after};
+use amqp_steps::telling::flag;
 use bytes::Bytes;
-use std::alloc::Global;
-
-/// A further transfer: the link as it will be, and the frame that is sent.
-#[derive(Drop)]
-pub(crate) struct Carrying {
-    pub(crate) on: OnLink,
-    pub(crate) sent: Written,
-}
-
-/// A later transfer on the link with this handle.
-pub(crate) fn later_body(
-    handle: u32,
-    more: Option<bool>,
-    aborted: Option<bool>,
-) -> Option<Performative>
-    ensures { result ≡ later_body handle more aborted }
-{
-    Some(Performative::Transfer(TransferBody {
-        handle,
-        delivery_id: None,
-        delivery_tag: None,
-        message_format: None,
-        settled: None,
-        more,
-        rcv_settle_mode: None,
-        state: None,
-        resume: None,
-        aborted,
-        batchable: None,
-    }))
-}
-
-/// The session once one transfer more was sent.
-pub(crate) fn sent(mut session: Session) -> Session
-    requires window { 0 < session.windows.remote_incoming }
-    requires few { session.windows.sent < 2 ^ 31 }
-    ensures { result ≡ record session { windows = windows_sent session.windows } }
-{
-    session.windows.sent();
-    session
-}
 
 impl Endpoint {
     /// The first refusal that is due, or the link as it will be.
@@ -177,21 +134,5 @@ impl Endpoint {
         self.steps += 1;
         self.session = sent(self.session);
         Ok(carried_done(self.alloc, c.sent))
-    }
-}
-
-/// What a further transfer gives.
-fn carried_done(alloc: Global, sent: Written) -> Done
-    ensures { result ≡ record { reply = record { sent = sent ∷ []; ended = []; given = Given.Nothing }; octets = Some sent.bytes; given = Given.Nothing } }
-{
-    let (sent, octets) = sent.listed();
-    Done {
-        reply: Reply {
-            sent,
-            ended: Items::new(alloc),
-            given: Given::Nothing,
-        },
-        octets: Some(octets),
-        given: Given::Nothing,
     }
 }

@@ -1,35 +1,21 @@
 //! Detach: we leave a link for good (part 2, 2.6.6 and 2.7.7).
-ghost use Rattle.std.specs.Prelude.{◌≡◌, true, Some, None, Err, [], MatchResult};
-ghost use Rattle.amqp_rules.specs.Detach.{detach_answer, detach_body, next_detach};
-ghost use Rattle.amqp_rules.specs.Sending.{frame_refused};
-ghost use Rattle.amqp_endpoint.specs.Taking.{IsLeft};
-ghost use Rattle.amqp_endpoint.specs.Plan.{Plans};
+ghost use Rattle.std.specs.Prelude.{◌≡◌, Err, MatchResult};
+ghost use Rattle.amqp_rules.specs.Detach.{detach_answer, next_detach};
+ghost use Rattle.amqp_steps.specs.Taking.{IsLeft};
+ghost use Rattle.amqp_steps.specs.Plan.{Plans};
 
 use crate::endpoint::Endpoint;
-use crate::plan::Plan;
 use crate::refusal::Refusal;
 use crate::reply::Given;
-use crate::sending::{measured_refusal, write};
 use amqp_deliveries::Change;
-use amqp_frames::{AmqpError, DetachBody, Performative, measure_detach};
+use amqp_frames::{AmqpError, DetachBody, Performative};
 use amqp_links::fate::Fate;
 use amqp_performatives::copying::copy_error;
+use amqp_steps::detach::{Leaving, detach_refusal};
+use amqp_steps::plan::Plan;
+use amqp_steps::sending::write;
 use amqp_types::Boxed;
 use bytes::Bytes;
-
-/// A link that is left: where it was found, and our handle of it.
-#[derive(Clone, Copy)]
-pub(crate) struct Leaving {
-    pub(crate) key: usize,
-    pub(crate) handle: u32,
-}
-
-/// Why a detach is not sent to a peer that takes frames of `max` octets. It asks for no memory.
-fn detach_refusal(handle: u32, error: &Option<Boxed<AmqpError>>, max: u32) -> Option<Refusal>
-    ensures { result ≡ frame_refused max (detach_body handle (Some true) error.now) [] }
-{
-    measured_refusal(measure_detach(handle, Some(true), error, max))
-}
 
 impl Endpoint {
     /// The first refusal that is due, or where the link is.

@@ -3,17 +3,17 @@ ghost use Rattle.std.specs.Prelude.{◌≡◌, ◌<◌, ◌^◌, ◌+◌, None, 
 ghost use Rattle.amqp_rules.specs.Answer.{own_answer, next_own, body_answer, next_body, heard_answer, next_heard};
 ghost use Rattle.amqp_rules.specs.Opened.{no_reply};
 ghost use Rattle.amqp_rules.specs.Refusing.{no_memory};
-ghost use Rattle.amqp_endpoint.specs.Doing.{Does, DoesOnce, is_planned, is_transfer};
-ghost use Rattle.amqp_endpoint.specs.Plan.{IsRefused, IsSound, KeepsApart, octets_sent, plan_reply, planned};
+ghost use Rattle.amqp_steps.specs.Doing.{Does, DoesOnce, is_planned, is_transfer};
+ghost use Rattle.amqp_steps.specs.Plan.{IsRefused, IsSound, KeepsApart, octets_sent, plan_reply, planned};
 
-use crate::done::{Done, quiet_done};
 use crate::endpoint::Endpoint;
 use crate::op::Op;
-use crate::plan::Plan;
 use crate::refusal::Refusal;
 use crate::reply::{Given, Reply};
 use crate::violation::{Violation, ViolationKind};
 use amqp_frames::{Frame, Performative};
+use amqp_steps::done::{Done, quiet_done};
+use amqp_steps::plan::Plan;
 use bytes::Bytes;
 use std::alloc::AllocError;
 

@@ -1,41 +1,17 @@
 //! A step that sends a frame, as it is drafted: before the frame is measured, or written.
-ghost use Rattle.std.specs.Prelude.{◌≡◌, Result, List, ℕ};
+ghost use Rattle.std.specs.Prelude.{◌≡◌, Result};
 ghost use Rattle.std.specs.Result.{result_err};
-ghost use Rattle.amqp_endpoint.specs.Drafting.{Drafts, flow_draft};
-ghost use Rattle.amqp_endpoint.specs.Plan.{Plans};
+ghost use Rattle.amqp_steps.specs.Drafting.{Drafts};
+ghost use Rattle.amqp_steps.specs.Plan.{Plans};
 ghost use Rattle.amqp_rules.specs.View.{View};
 
 use crate::endpoint::Endpoint;
-use crate::plan::{Plan, Session};
 use crate::refusal::Refusal;
 use crate::reply::{Given, Reply};
-use crate::sending::{sending_refusal, write_sharing};
-use amqp_deliveries::Change;
-use amqp_frames::{FlowBody, Performative};
-use amqp_links::fate::Fate;
+use amqp_steps::drafting::Draft;
+use amqp_steps::plan::Plan;
+use amqp_steps::sending::{sending_refusal, write_sharing};
 use bytes::Bytes;
-
-/// A step that tells the application nothing and sends a frame: what it leaves, and the frame's body, which owns no memory.
-#[derive(Drop)]
-pub(crate) struct Draft {
-    pub(crate) session: Session,
-    pub(crate) fate: Fate,
-    pub(crate) change: Change,
-    pub(crate) body: Option<Performative>,
-}
-
-/// A step that sends a flow, which renews our window.
-pub(crate) fn draft_flow(mut session: Session, fate: Fate, told: FlowBody) -> Draft
-    ensures { result ≡ flow_draft session fate told }
-{
-    session.windows.renew();
-    Draft {
-        session,
-        fate,
-        change: Change::Stay,
-        body: Some(Performative::Flow(told)),
-    }
-}
 
 impl Endpoint {
     /// The refusal that is due to a step that was drafted so, whose frame has this payload.

@@ -2,16 +2,16 @@
 ghost use Rattle.std.specs.Prelude.{◌≡◌, [], Err, MatchResult};
 ghost use Rattle.amqp_flow.specs.Sender.{sender_drained};
 ghost use Rattle.amqp_rules.specs.Drained.{drained, drained_refusals, drained_answer, next_drained};
-ghost use Rattle.amqp_endpoint.specs.Taking.{IsTaken};
-ghost use Rattle.amqp_endpoint.specs.Drafting.{Drafts};
+ghost use Rattle.amqp_steps.specs.Taking.{IsTaken};
+ghost use Rattle.amqp_steps.specs.Drafting.{Drafts};
 
 use crate::endpoint::Endpoint;
-use crate::endpoint::drafting::{Draft, draft_flow};
-use crate::endpoint::onlink::OnLink;
-use crate::endpoint::telling::sender_flow;
 use crate::refusal::Refusal;
 use amqp_flow::sender::SenderCredit;
 use amqp_links::credit::Credit;
+use amqp_steps::drafting::{Draft, draft_flow};
+use amqp_steps::onlink::OnLink;
+use amqp_steps::telling::sender_flow;
 
 /// The credit once what is left of it is given up.
 fn drained(mut sender: SenderCredit) -> SenderCredit

@@ -2,17 +2,17 @@
 ghost use Rattle.std.specs.Prelude.{◌≡◌};
 ghost use Rattle.std.specs.Result.{result_err};
 ghost use Rattle.amqp_rules.specs.End.{end_answer, next_end};
-ghost use Rattle.amqp_endpoint.specs.Plan.{Plans};
+ghost use Rattle.amqp_steps.specs.Plan.{Plans};
 
 use crate::endpoint::Endpoint;
-use crate::plan::{Plan, plan_sending};
 use crate::refusal::Refusal;
 use crate::reply::Given;
-use crate::sending::measured_refusal;
 use amqp_deliveries::Change;
 use amqp_frames::{AmqpError, EndBody, Performative, measure_end};
 use amqp_links::fate::Fate;
 use amqp_performatives::copying::copy_error;
+use amqp_steps::plan::{Plan, plan_sending};
+use amqp_steps::sending::measured_refusal;
 use amqp_types::Boxed;
 
 impl Endpoint {

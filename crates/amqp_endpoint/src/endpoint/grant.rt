@@ -1,50 +1,15 @@
 //! Grant: the peer may begin so many deliveries, or is asked to use them up (part 2, 2.6.7).
-ghost use Rattle.std.specs.Prelude.{◌≡◌, [], Bool, Some, None, Err, MatchResult};
-ghost use Rattle.amqp_flow.specs.Receiver.{granted};
-ghost use Rattle.amqp_rules.specs.Grant.{granted_on, grant_refusals, grant_answer, grant_flow, next_grant};
-ghost use Rattle.amqp_rules.specs.Refusing.{first_refusal};
-ghost use Rattle.amqp_rules.specs.View.{LinkView, handle_of};
-ghost use Rattle.amqp_links.specs.Marks.{with_marks};
-ghost use Rattle.amqp_endpoint.specs.Taking.{grant_rows, IsTaken};
-ghost use Rattle.amqp_endpoint.specs.Drafting.{Drafts};
+ghost use Rattle.std.specs.Prelude.{◌≡◌, [], Bool, Err, MatchResult};
+ghost use Rattle.amqp_rules.specs.Grant.{granted_on, grant_refusals, grant_answer, next_grant};
+ghost use Rattle.amqp_steps.specs.Taking.{IsTaken};
+ghost use Rattle.amqp_steps.specs.Drafting.{Drafts};
 
 use crate::endpoint::Endpoint;
-use crate::endpoint::drafting::{Draft, draft_flow};
-use crate::endpoint::onlink::OnLink;
-use crate::endpoint::telling::{flag, link_flow};
 use crate::refusal::Refusal;
-use amqp_flow::receiver::ReceiverCredit;
-use amqp_flow::refusal::GrantRefusal;
-use amqp_flow::windows::Windows;
-use amqp_frames::FlowBody;
 use amqp_links::credit::Credit;
-use amqp_links::marks::Marks;
-
-/// The credit after the grant, or why it is refused.
-fn granted(
-    mut receiver: ReceiverCredit,
-    credit: u32,
-    drain: bool,
-) -> Result<ReceiverCredit, Refusal>
-    ensures { MatchResult result (λ c. (first_refusal (grant_rows receiver credit) ≡ None) × (c ≡ granted credit drain receiver)) (λ e. first_refusal (grant_rows receiver credit) ≡ Some e) }
-{
-    match receiver.grant(credit, drain) {
-        Ok(()) => Ok(receiver),
-        Err(GrantRefusal::BadCredit) => Err(Refusal::BadCredit),
-        Err(GrantRefusal::CreditRecedes) => Err(Refusal::CreditRecedes),
-        Err(GrantRefusal::Draining) => Err(Refusal::Draining),
-    }
-}
-
-/// The flow that tells the credit of the link with these marks.
-fn grant_flow(windows: &Windows, handle: u32, marks: &Marks, drain: bool, echo: bool) -> FlowBody
-    ensures { (l : LinkView) → handle ≡ handle_of l.ours → result ≡ grant_flow windows.now (with_marks marks.now l) drain echo }
-{
-    let mut told = link_flow(windows, handle, marks);
-    told.drain = flag(drain);
-    told.echo = flag(echo);
-    told
-}
+use amqp_steps::drafting::{Draft, draft_flow};
+use amqp_steps::grant::{grant_flow, granted};
+use amqp_steps::onlink::OnLink;
 
 impl Endpoint {
     /// The first refusal that is due, or the link as it will be.

@@ -1,10 +1,9 @@
 //! Learn: the first thing that was told of a delivery on a link on which we send is given.
 ghost use Rattle.std.specs.Prelude.{◌≡◌, ◌<◌, ◌^◌, IfOk, OnErr};
 ghost use Rattle.amqp_rules.specs.Learn.{learn_answer, learned_of, next_learn};
-ghost use Rattle.amqp_endpoint.specs.Doing.{Does, DoesOnce, Foretells, learn_plan};
-ghost use Rattle.amqp_endpoint.specs.Plan.{Checks, Makes};
+ghost use Rattle.amqp_steps.specs.Doing.{Does, DoesOnce, Foretells, learn_plan};
+ghost use Rattle.amqp_steps.specs.Plan.{Checks, Makes};
 
-use crate::done::{Done, quiet_done, quiet_reply};
 use crate::endpoint::Endpoint;
 use crate::refusal::Refusal;
 use crate::reply::{Given, Learned, Reply};
@@ -12,6 +11,7 @@ use amqp_deliveries::Telling;
 use amqp_frames::Role;
 use amqp_links::credit::same_role;
 use amqp_performatives::copying::copy_state;
+use amqp_steps::done::{Done, quiet_done, quiet_reply};
 use amqp_types::Boxed;
 use bytes::Bytes;
 use std::alloc::AllocError;

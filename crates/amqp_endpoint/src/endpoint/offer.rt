@@ -1,16 +1,16 @@
 //! Offer: the peer is told how many messages are available (part 2, 2.6.7).
 ghost use Rattle.std.specs.Prelude.{◌≡◌, [], Err, MatchResult};
 ghost use Rattle.amqp_performatives.specs.declared.bodies.Role.TheVariants.{Sender};
-ghost use Rattle.amqp_endpoint.specs.Taking.{IsTaken};
+ghost use Rattle.amqp_steps.specs.Taking.{IsTaken};
 ghost use Rattle.amqp_rules.specs.Offer.{offered, offer_answer, next_offer};
 ghost use Rattle.amqp_rules.specs.OnLink.{attached_as};
-ghost use Rattle.amqp_endpoint.specs.Drafting.{Drafts};
+ghost use Rattle.amqp_steps.specs.Drafting.{Drafts};
 
 use crate::endpoint::Endpoint;
-use crate::endpoint::drafting::{Draft, draft_flow};
-use crate::endpoint::onlink::OnLink;
-use crate::endpoint::telling::standing_flow;
 use crate::refusal::Refusal;
+use amqp_steps::drafting::{Draft, draft_flow};
+use amqp_steps::onlink::OnLink;
+use amqp_steps::telling::standing_flow;
 
 impl Endpoint {
     /// The first refusal that is due, or the link as it will be.

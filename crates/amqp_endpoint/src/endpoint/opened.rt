@@ -5,11 +5,11 @@ ghost use Rattle.amqp_rules.specs.Opened.{next_opened};
 ghost use Rattle.amqp_rules.specs.View.{initial};
 
 use crate::config::Config;
-use crate::cutting::Cutter;
 use crate::endpoint::Endpoint;
-use crate::plan::Session;
-use crate::stores::Stores;
 use amqp_flow::windows::Windows;
+use amqp_steps::cutting::Cutter;
+use amqp_steps::plan::Session;
+use amqp_steps::stores::Stores;
 use std::alloc::Global;
 
 /// The longest frame, in octets, that each peer takes.

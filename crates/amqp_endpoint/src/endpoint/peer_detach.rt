@@ -2,28 +2,19 @@
 ghost use Rattle.std.specs.Prelude.{◌≡◌, Err, IfOk, MatchResult};
 ghost use Rattle.amqp_rules.specs.PeerDetach.{detach_heard_answer, next_detach_heard, parting};
 ghost use Rattle.amqp_rules.specs.Refusing.{no_memory};
-ghost use Rattle.amqp_endpoint.specs.Answered.{IsParting};
-ghost use Rattle.amqp_endpoint.specs.Plan.{Plans};
+ghost use Rattle.amqp_steps.specs.Answered.{IsParting};
+ghost use Rattle.amqp_steps.specs.Plan.{Plans};
 
 use crate::endpoint::Endpoint;
-use crate::plan::{Plan, plan_answering, plan_quiet};
 use crate::reply::Given;
 use crate::violation::{Violation, ViolationKind};
 use amqp_deliveries::Change;
 use amqp_frames::{DetachBody, Performative};
 use amqp_links::fate::Fate;
 use amqp_links::link::Link;
+use amqp_steps::peer_detach::Parting;
+use amqp_steps::plan::{Plan, plan_answering, plan_quiet};
 use std::alloc::AllocError;
-
-/// A link that the peer leaves: it, where it is, its number, our handle of it, and whether it is attached.
-#[derive(Clone, Copy)]
-pub(crate) struct Parting<'a> {
-    pub(crate) link: &'a Link,
-    pub(crate) key: usize,
-    pub(crate) number: u32,
-    pub(crate) handle: u32,
-    pub(crate) attached: bool,
-}
 
 impl Endpoint {
     /// What the frame violates, or the link that is left.

@@ -5,11 +5,9 @@ ghost use Rattle.amqp_rules.specs.Deliveries.{disposition_of};
 ghost use Rattle.amqp_rules.specs.PeerDisposition.{disposition_answer, next_disposition};
 ghost use Rattle.amqp_rules.specs.Refusing.{no_memory};
 ghost use Rattle.amqp_rules.specs.View.{opposite};
-ghost use Rattle.amqp_endpoint.specs.Plan.{Plans};
+ghost use Rattle.amqp_steps.specs.Plan.{Plans};
 
 use crate::endpoint::Endpoint;
-use crate::endpoint::dispose::is_backwards;
-use crate::plan::{Plan, plan_quiet};
 use crate::reply::Given;
 use crate::violation::{Violation, ViolationKind};
 use amqp_deliveries::{Change, Disposition};
@@ -17,6 +15,8 @@ use amqp_frames::DispositionBody;
 use amqp_links::credit::opposite;
 use amqp_links::fate::Fate;
 use amqp_performatives::copying::copy_state;
+use amqp_steps::dispose::is_backwards;
+use amqp_steps::plan::{Plan, plan_quiet};
 use std::alloc::AllocError;
 
 /// What it says. An absent last is the first, an absent settled is false.

@@ -3,15 +3,15 @@ ghost use Rattle.std.specs.Prelude.{◌≡◌};
 ghost use Rattle.std.specs.Result.{result_err};
 ghost use Rattle.amqp_rules.specs.PeerEnd.{end_heard_answer, next_end_heard};
 ghost use Rattle.amqp_rules.specs.Refusing.{no_memory};
-ghost use Rattle.amqp_endpoint.specs.Plan.{Plans};
+ghost use Rattle.amqp_steps.specs.Plan.{Plans};
 
 use crate::endpoint::Endpoint;
-use crate::plan::{Plan, plan_answering, plan_quiet};
 use crate::reply::Given;
 use crate::violation::{Violation, ViolationKind};
 use amqp_deliveries::Change;
 use amqp_frames::{EndBody, Performative};
 use amqp_links::fate::Fate;
+use amqp_steps::plan::{Plan, plan_answering, plan_quiet};
 
 impl Endpoint {
     /// What the frame violates.

@@ -3,7 +3,7 @@ ghost use Rattle.std.specs.Prelude.{◌≡◌, find, length, option_map, slice_g
 ghost use Rattle.amqp_deliveries.specs.Change.{held_items};
 ghost use Rattle.amqp_rules.specs.Status.{status_of, waiting_shown, windows_of};
 ghost use Rattle.amqp_rules.specs.View.{has_number};
-ghost use Rattle.amqp_endpoint.specs.Plan.{tables_in};
+ghost use Rattle.amqp_steps.specs.Plan.{tables_in};
 
 use crate::endpoint::Endpoint;
 use crate::status::{LinkStatus, WindowView};

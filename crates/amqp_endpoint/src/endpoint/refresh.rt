@@ -1,15 +1,15 @@
 //! Refresh: the peer is told our window anew, and may be asked to tell its own (part 2, 2.5.6).
 ghost use Rattle.std.specs.Prelude.{◌≡◌, [], Some};
 ghost use Rattle.amqp_rules.specs.Refresh.{next_refresh, refresh_answer, refresh_body};
-ghost use Rattle.amqp_endpoint.specs.Drafting.{Drafts};
+ghost use Rattle.amqp_steps.specs.Drafting.{Drafts};
 
 use crate::endpoint::Endpoint;
-use crate::endpoint::drafting::{Draft, draft_flow};
-use crate::endpoint::telling::{flag, session_flow};
 use crate::refusal::Refusal;
 use amqp_flow::windows::Windows;
 use amqp_frames::{FlowBody, Performative};
 use amqp_links::fate::Fate;
+use amqp_steps::drafting::{Draft, draft_flow};
+use amqp_steps::telling::{flag, session_flow};
 
 fn refresh_flow(windows: &Windows, echo: bool) -> FlowBody
     ensures { Some (Performative.Flow result) ≡ refresh_body windows.now echo }

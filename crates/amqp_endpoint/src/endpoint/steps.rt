@@ -3,17 +3,17 @@ ghost use Rattle.std.specs.Prelude.{◌≡◌, ◌<◌, ◌^◌, true, false};
 ghost use Rattle.std.specs.Result.{result_err};
 ghost use Rattle.amqp_rules.specs.Answer.{own_answer, next_own, body_answer, next_body, heard_answer, is_dropped, is_end};
 ghost use Rattle.amqp_rules.specs.Refusing.{no_memory};
-ghost use Rattle.amqp_endpoint.specs.Doing.{is_planned, is_transfer};
-ghost use Rattle.amqp_endpoint.specs.Plan.{Plans};
+ghost use Rattle.amqp_steps.specs.Doing.{is_planned, is_transfer};
+ghost use Rattle.amqp_steps.specs.Plan.{Plans};
 
 use crate::endpoint::Endpoint;
-use crate::endpoint::attach::{Wanted, rejoined};
-use crate::endpoint::dispose::Said;
 use crate::op::Op;
-use crate::plan::Plan;
 use crate::refusal::Refusal;
 use crate::violation::{Violation, ViolationKind};
 use amqp_frames::{Frame, Performative};
+use amqp_steps::attach::{Wanted, rejoined};
+use amqp_steps::dispose::Said;
+use amqp_steps::plan::Plan;
 use bytes::Bytes;
 
 fn is_end(body: &Option<Performative>) -> bool

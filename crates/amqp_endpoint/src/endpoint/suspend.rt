@@ -1,33 +1,24 @@
 //! Suspend: we put a link aside (part 2, 2.6.4 and 2.6.6). What is unsettled on it is given.
-ghost use Rattle.std.specs.Prelude.{◌≡◌, None, Err, [], IfOk, MatchResult};
+ghost use Rattle.std.specs.Prelude.{◌≡◌, Err, IfOk, MatchResult};
 ghost use Rattle.amqp_links.specs.Rejoining.{all_aside};
-ghost use Rattle.amqp_rules.specs.Detach.{detach_body};
-ghost use Rattle.amqp_rules.specs.Sending.{frame_refused};
 ghost use Rattle.amqp_rules.specs.Suspend.{next_suspend, put_aside, suspend_answer};
-ghost use Rattle.amqp_endpoint.specs.Plan.{Plans};
-ghost use Rattle.amqp_endpoint.specs.Taking.{IsPutAside};
+ghost use Rattle.amqp_steps.specs.Plan.{Plans};
+ghost use Rattle.amqp_steps.specs.Taking.{IsPutAside};
 
 use crate::endpoint::Endpoint;
-use crate::plan::Plan;
 use crate::refusal::Refusal;
 use crate::reply::{Given, Suspended};
-use crate::sending::{measured_refusal, write};
 use amqp_deliveries::Change;
-use amqp_frames::{DetachBody, Performative, Role, measure_detach};
+use amqp_frames::{DetachBody, Performative, Role};
 use amqp_links::fate::Fate;
 use amqp_links::found::Found;
 use amqp_links::link::Link;
+use amqp_steps::plan::Plan;
+use amqp_steps::sending::write;
+use amqp_steps::suspend::parting_refusal;
 use amqp_types::Boxed;
 use bytes::Bytes;
 use std::alloc::AllocError;
-
-/// Why a detach that does not close the link is not sent to a peer that takes frames of `max` octets. It asks for no memory.
-fn parting_refusal(handle: u32, max: u32) -> Option<Refusal>
-    ensures { result ≡ frame_refused max (detach_body handle None None) [] }
-{
-    let error = None;
-    measured_refusal(measure_detach(handle, None, &error, max))
-}
 
 impl Endpoint {
     /// The first refusal that is due, or the link.

@@ -1,16 +1,16 @@
 //! Take: the first delivery that waits on a link on which we receive is given.
 ghost use Rattle.std.specs.Prelude.{◌≡◌, ◌<◌, ◌^◌, IfOk, OnErr};
 ghost use Rattle.amqp_rules.specs.Take.{take_answer, taken_of, next_take};
-ghost use Rattle.amqp_endpoint.specs.Doing.{Does, DoesOnce, Foretells, take_plan};
-ghost use Rattle.amqp_endpoint.specs.Plan.{Checks, Makes};
+ghost use Rattle.amqp_steps.specs.Doing.{Does, DoesOnce, Foretells, take_plan};
+ghost use Rattle.amqp_steps.specs.Plan.{Checks, Makes};
 
-use crate::done::{Done, quiet_done, quiet_reply};
 use crate::endpoint::Endpoint;
 use crate::refusal::Refusal;
 use crate::reply::{Given, Reply, Taken};
 use amqp_frames::Role;
 use amqp_links::arrival::Waiting;
 use amqp_links::credit::same_role;
+use amqp_steps::done::{Done, quiet_done, quiet_reply};
 use amqp_types::Boxed;
 use bytes::Bytes;
 use std::alloc::AllocError;

@@ -1,10 +1,10 @@
 use Rattle.std.proofs.Common.{refl, ◌∙◌}
-use Rattle.amqp_endpoint.specs.Carrying.{carry_plan}
-use Rattle.amqp_endpoint.specs.Plan.{view_of}
+use Rattle.amqp_steps.specs.Carrying.{carry_plan}
+use Rattle.amqp_steps.specs.Plan.{view_of}
 use Rattle.amqp_rules.specs.declared.op.Op.TheVariants as op
-use Rattle.amqp_endpoint.proofs.Carried.{carried-done}
-use Rattle.amqp_endpoint.proofs.Kept.{kept-after}
-use Rattle.amqp_endpoint.proofs.Parted.{own-keeps}
+use Rattle.amqp_steps.proofs.Carried.{carried-done}
+use Rattle.amqp_steps.proofs.Kept.{kept-after}
+use Rattle.amqp_steps.proofs.Parted.{own-keeps}
 use Rattle.amqp_endpoint.proofs.endpoint.Endpoint.carry.Goals as goal
 
 pub invariant_of-self : goal.invariant_of-self

@@ -1,8 +1,8 @@
 use Rattle.std.proofs.Common.{ℕ, ◌<◌, ◌≤◌, ◌*◌, ◌+◌, ◌^◌, Some, Option, length, find, ap, sym, subst, ◌∙◌, arith}
 use Rattle.amqp_rules.specs.View.{SendingView, has_number}
 use Rattle.amqp_rules.specs.Carry.{carried}
-use Rattle.amqp_endpoint.specs.Plan.{IsShort}
-use Rattle.amqp_endpoint.proofs.Carried.{found_short, carried_short}
+use Rattle.amqp_steps.specs.Plan.{IsShort}
+use Rattle.amqp_steps.proofs.Carried.{found_short, carried_short}
 use Rattle.amqp_endpoint.proofs.endpoint.Endpoint.check_carry.Goals as goal
 
 pub overflow_add-size : goal.overflow_add-size

@@ -1,5 +1,5 @@
 use Rattle.std.proofs.Common.{refl}
-use Rattle.amqp_endpoint.proofs.Flows.{link-flow-plan, marks-sending, told-by}
+use Rattle.amqp_steps.proofs.Flows.{link-flow-plan, marks-sending, told-by}
 use Rattle.amqp_endpoint.proofs.endpoint.Endpoint.check_link_flow.Goals as goal
 
 pub returns : goal.returns

@@ -2,10 +2,10 @@ use Rattle.std.proofs.Common.{◌∙◌, ◌==◌, ap, sym, find, rules}
 use Rattle.amqp_rules.specs.View.{has_number}
 use Rattle.amqp_waiting.specs.Kept.{standing_of}
 use Rattle.amqp_rules.specs.Deliveries.{is_sent_anew}
-use Rattle.amqp_endpoint.specs.Resuming.{MaySend}
-use Rattle.amqp_endpoint.specs.Plan.{view_of}
-use Rattle.amqp_endpoint.proofs.Transfers.{marks-same}
-use Rattle.amqp_endpoint.proofs.Resumes.{absent-is-plan, late-free, never, refused-frame, refused-late, refused-unclear, sent-is-plan}
+use Rattle.amqp_steps.specs.Resuming.{MaySend}
+use Rattle.amqp_steps.specs.Plan.{view_of}
+use Rattle.amqp_steps.proofs.Transfers.{marks-same}
+use Rattle.amqp_steps.proofs.Resumes.{absent-is-plan, late-free, never, refused-frame, refused-late, refused-unclear, sent-is-plan}
 use Rattle.amqp_endpoint.proofs.endpoint.Endpoint.check_resume.Goals as goal
 
 pub returns-then-is_unclear-clause-plan : goal.returns-then-is_unclear-clause-plan

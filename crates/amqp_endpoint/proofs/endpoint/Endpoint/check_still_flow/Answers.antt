@@ -1,5 +1,5 @@
 use Rattle.std.proofs.Common.{refl}
-use Rattle.amqp_endpoint.proofs.Flows.{still-flow-plan}
+use Rattle.amqp_steps.proofs.Flows.{still-flow-plan}
 use Rattle.amqp_endpoint.proofs.endpoint.Endpoint.check_still_flow.Goals as goal
 
 pub returns : goal.returns

@@ -1,7 +1,7 @@
-use Rattle.amqp_endpoint.specs.Arriving.{arriving_plan}
-use Rattle.amqp_endpoint.specs.Plan.{view_of}
-use Rattle.amqp_endpoint.proofs.Kept.{kept-after, met-after}
-use Rattle.amqp_endpoint.proofs.Transfers.{begun-so}
+use Rattle.amqp_steps.specs.Arriving.{arriving_plan}
+use Rattle.amqp_steps.specs.Plan.{view_of}
+use Rattle.amqp_steps.proofs.Kept.{kept-after, met-after}
+use Rattle.amqp_steps.proofs.Transfers.{begun-so}
 use Rattle.amqp_endpoint.proofs.endpoint.Endpoint.come_first.Goals as goal
 
 pub arrive_first-requires : goal.arrive_first-requires

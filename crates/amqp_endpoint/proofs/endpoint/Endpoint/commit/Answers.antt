@@ -1,4 +1,4 @@
-use Rattle.amqp_endpoint.proofs.Kept.{kept-after, met-after}
+use Rattle.amqp_steps.proofs.Kept.{kept-after, met-after}
 use Rattle.amqp_endpoint.proofs.endpoint.Endpoint.commit.Goals as goal
 
 pub keep-requires-clause-met : goal.keep-requires-clause-met

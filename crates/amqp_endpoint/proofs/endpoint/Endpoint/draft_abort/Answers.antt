@@ -1,4 +1,4 @@
-use Rattle.amqp_endpoint.proofs.Carried.{draft_aborted}
+use Rattle.amqp_steps.proofs.Carried.{draft_aborted}
 use Rattle.amqp_endpoint.proofs.endpoint.Endpoint.draft_abort.Goals as goal
 
 pub returns : goal.returns

@@ -2,7 +2,7 @@ use Rattle.std.proofs.Common.{◌∙◌, Some, true, refl, ap}
 use Rattle.amqp_rules.specs.Drained.{drained, drained_refusals}
 use Rattle.amqp_rules.specs.Telling.{sender_flow}
 use Rattle.amqp_rules.specs.View.{LinkView}
-use Rattle.amqp_endpoint.proofs.Sends.{draft-telling}
+use Rattle.amqp_steps.proofs.Sends.{draft-telling}
 use Rattle.amqp_endpoint.proofs.endpoint.Endpoint.draft_drained.Goals as goal
 
 pub returns : goal.returns

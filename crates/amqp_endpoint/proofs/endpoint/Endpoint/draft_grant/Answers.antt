@@ -1,7 +1,7 @@
 use Rattle.std.proofs.Common.{◌∙◌, refl, ap}
 use Rattle.amqp_rules.specs.Grant.{granted_on, grant_flow, grant_refusals}
 use Rattle.amqp_rules.specs.View.{LinkView}
-use Rattle.amqp_endpoint.proofs.Sends.{draft-telling}
+use Rattle.amqp_steps.proofs.Sends.{draft-telling}
 use Rattle.amqp_endpoint.proofs.endpoint.Endpoint.draft_grant.Goals as goal
 
 pub returns : goal.returns

@@ -3,7 +3,7 @@ use Rattle.amqp_performatives.specs.declared.bodies.Role.TheVariants.{Sender}
 use Rattle.amqp_rules.specs.Offer.{offered}
 use Rattle.amqp_rules.specs.OnLink.{attached_as}
 use Rattle.amqp_rules.specs.Telling.{flag, sender_flow}
-use Rattle.amqp_endpoint.proofs.Sends.{offer-said, draft-telling}
+use Rattle.amqp_steps.proofs.Sends.{offer-said, draft-telling}
 use Rattle.amqp_endpoint.proofs.endpoint.Endpoint.draft_offer.Goals as goal
 
 pub returns : goal.returns

@@ -1,4 +1,4 @@
-use Rattle.amqp_endpoint.proofs.Parted.{body-keeps}
+use Rattle.amqp_steps.proofs.Parted.{body-keeps}
 use Rattle.amqp_endpoint.proofs.endpoint.Endpoint.heard_planned.Goals as goal
 
 pub follow-requires-clause-apart : goal.follow-requires-clause-apart

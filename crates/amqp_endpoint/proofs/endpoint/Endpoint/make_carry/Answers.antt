@@ -1,6 +1,6 @@
 use Rattle.std.proofs.Common.{Ok, Err, refl}
-use Rattle.amqp_endpoint.proofs.Carried.{carry-draft}
-use Rattle.amqp_endpoint.proofs.Sends.{draft-plans}
+use Rattle.amqp_steps.proofs.Carried.{carry-draft}
+use Rattle.amqp_steps.proofs.Sends.{draft-plans}
 use Rattle.amqp_endpoint.proofs.endpoint.Endpoint.make_carry.Goals as goal
 
 pub returns-in-Err-cut_sharing-clause-plan : goal.returns-in-Err-cut_sharing-clause-plan

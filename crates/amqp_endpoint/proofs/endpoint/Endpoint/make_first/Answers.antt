@@ -1,6 +1,6 @@
 use Rattle.std.proofs.Common.{◌∙◌, ◌||◌, [], false, unwrap_or}
-use Rattle.amqp_endpoint.specs.Plan.{view_of}
-use Rattle.amqp_endpoint.proofs.Transfers.{brings, first-free, first-plan}
+use Rattle.amqp_steps.specs.Plan.{view_of}
+use Rattle.amqp_steps.proofs.Transfers.{brings, first-free, first-plan}
 use Rattle.amqp_endpoint.proofs.endpoint.Endpoint.make_first.Goals as goal
 
 pub returns : goal.returns

@@ -1,5 +1,5 @@
 use Rattle.std.proofs.Common.{refl}
-use Rattle.amqp_endpoint.proofs.Transfers.{later-plan}
+use Rattle.amqp_steps.proofs.Transfers.{later-plan}
 use Rattle.amqp_endpoint.proofs.endpoint.Endpoint.make_later.Goals as goal
 
 pub returns : goal.returns

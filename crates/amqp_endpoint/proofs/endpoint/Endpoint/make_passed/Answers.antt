@@ -1,4 +1,4 @@
-use Rattle.amqp_endpoint.proofs.Transfers.{passed-plan}
+use Rattle.amqp_steps.proofs.Transfers.{passed-plan}
 use Rattle.amqp_endpoint.proofs.endpoint.Endpoint.make_passed.Goals as goal
 
 pub returns : goal.returns

@@ -1,6 +1,6 @@
 use Rattle.std.proofs.Common.{Ok, Err, inl, refl}
-use Rattle.amqp_endpoint.proofs.Sends.{draft-plans}
-use Rattle.amqp_endpoint.proofs.Starts.{start-draft}
+use Rattle.amqp_steps.proofs.Sends.{draft-plans}
+use Rattle.amqp_steps.proofs.Starts.{start-draft}
 use Rattle.amqp_endpoint.proofs.endpoint.Endpoint.make_start.Goals as goal
 
 pub returns-in-Err-clause-plan : goal.returns-in-Err-clause-plan

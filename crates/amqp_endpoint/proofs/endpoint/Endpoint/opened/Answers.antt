@@ -2,11 +2,11 @@ use Rattle.std.proofs.Common.{refl}
 use Rattle.amqp_links.specs.declared.fate.Fate.TheVariants as fate
 use Rattle.amqp_deliveries.specs.declared.change.Change.TheVariants.{Stay}
 use Rattle.amqp_rules.specs.declared.reply.Given.TheVariants.{Nothing}
-use Rattle.amqp_endpoint.specs.declared.plan.Session.{Session}
-use Rattle.amqp_endpoint.specs.Plan.{quiet_plan, view_of}
-use Rattle.amqp_endpoint.proofs.Kept.{kept-after}
-use Rattle.amqp_endpoint.proofs.Parted.{quiet-keeps}
-use Rattle.amqp_endpoint.proofs.Plans.{counted-still}
+use Rattle.amqp_steps.specs.declared.plan.Session.{Session}
+use Rattle.amqp_steps.specs.Plan.{quiet_plan, view_of}
+use Rattle.amqp_steps.proofs.Kept.{kept-after}
+use Rattle.amqp_steps.proofs.Parted.{quiet-keeps}
+use Rattle.amqp_steps.proofs.Plans.{counted-still}
 use Rattle.amqp_endpoint.proofs.endpoint.Endpoint.opened.Goals as goal
 
 pub invariant_of-self : goal.invariant_of-self

@@ -1,4 +1,4 @@
-use Rattle.amqp_endpoint.proofs.Parted.{own-keeps}
+use Rattle.amqp_steps.proofs.Parted.{own-keeps}
 use Rattle.amqp_endpoint.proofs.endpoint.Endpoint.own_planned.Goals as goal
 
 pub follow-requires-clause-apart : goal.follow-requires-clause-apart

@@ -1,6 +1,6 @@
-use Rattle.amqp_endpoint.specs.Arriving.{passed_plan}
-use Rattle.amqp_endpoint.specs.Plan.{view_of}
-use Rattle.amqp_endpoint.proofs.Kept.{kept-after}
+use Rattle.amqp_steps.specs.Arriving.{passed_plan}
+use Rattle.amqp_steps.specs.Plan.{view_of}
+use Rattle.amqp_steps.proofs.Kept.{kept-after}
 use Rattle.amqp_endpoint.proofs.endpoint.Endpoint.pass.Goals as goal
 
 pub invariant_of-self : goal.invariant_of-self

@@ -1,5 +1,5 @@
-use Rattle.amqp_endpoint.specs.Attaching.{wanted_of}
-use Rattle.amqp_endpoint.proofs.Attaches.{plan-attached}
+use Rattle.amqp_steps.specs.Attaching.{wanted_of}
+use Rattle.amqp_steps.proofs.Attaches.{plan-attached}
 use Rattle.amqp_endpoint.proofs.endpoint.Endpoint.plan_attach.Goals as goal
 
 pub returns : goal.returns

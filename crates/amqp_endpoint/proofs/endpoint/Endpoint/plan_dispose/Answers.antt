@@ -1,7 +1,7 @@
 use Rattle.std.proofs.Common.{sym}
-use Rattle.amqp_endpoint.specs.Disposing.{said_in}
-use Rattle.amqp_endpoint.proofs.Disposing.{plan_said}
-use Rattle.amqp_endpoint.proofs.Sends.{none-due}
+use Rattle.amqp_steps.specs.Disposing.{said_in}
+use Rattle.amqp_steps.proofs.Disposing.{plan_said}
+use Rattle.amqp_steps.proofs.Sends.{none-due}
 use Rattle.amqp_endpoint.proofs.endpoint.Endpoint.plan_dispose.Goals as goal
 
 pub returns : goal.returns

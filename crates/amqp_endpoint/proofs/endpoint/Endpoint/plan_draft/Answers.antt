@@ -1,6 +1,6 @@
 use Rattle.std.proofs.Common.{Ok, refl}
-use Rattle.amqp_endpoint.specs.Plan.{view_of}
-use Rattle.amqp_endpoint.proofs.Sends.{draft-plans}
+use Rattle.amqp_steps.specs.Plan.{view_of}
+use Rattle.amqp_steps.proofs.Sends.{draft-plans}
 use Rattle.amqp_endpoint.proofs.endpoint.Endpoint.plan_draft.Goals as goal
 
 pub returns-in-Ok-write_sharing : goal.returns-in-Ok-write_sharing

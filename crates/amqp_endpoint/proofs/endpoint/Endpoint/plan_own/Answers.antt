@@ -2,7 +2,7 @@ use Rattle.std.proofs.Common.{◌∙◌, ap, subst}
 use Rattle.amqp_rules.specs.declared.refusal.Refusal.TheVariants.{NoMemory}
 use Rattle.amqp_rules.specs.Attach.{Wanted, attach_answer, next_attach}
 use Rattle.amqp_rules.specs.Rejoin.{rejoined}
-use Rattle.amqp_endpoint.specs.Plan.{Plans}
+use Rattle.amqp_steps.specs.Plan.{Plans}
 use Rattle.amqp_endpoint.proofs.endpoint.Endpoint.plan_own.Goals as goal
 
 pub returns-in-Attach : goal.returns-in-Attach

@@ -1,5 +1,5 @@
 use Rattle.std.proofs.Common.{sym}
-use Rattle.amqp_endpoint.proofs.Answering.{answering-plan}
+use Rattle.amqp_steps.proofs.Answering.{answering-plan}
 use Rattle.amqp_endpoint.proofs.endpoint.Endpoint.plan_peer_attach.Goals as goal
 
 pub returns-in-Ok-resuming_by_peer : goal.returns-in-Ok-resuming_by_peer

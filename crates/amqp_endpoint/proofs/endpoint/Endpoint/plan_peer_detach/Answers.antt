@@ -1,5 +1,5 @@
 use Rattle.std.proofs.Common.{rules}
-use Rattle.amqp_endpoint.proofs.Answering.{plan-gone, plan-gone-told}
+use Rattle.amqp_steps.proofs.Answering.{plan-gone, plan-gone-told}
 use Rattle.amqp_endpoint.proofs.endpoint.Endpoint.plan_peer_detach.Goals as goal
 
 pub returns-then-not-parting : goal.returns-then-not-parting

@@ -1,5 +1,5 @@
 use Rattle.std.proofs.Common.{rules}
-use Rattle.amqp_endpoint.proofs.Heard.{plan_heard}
+use Rattle.amqp_steps.proofs.Heard.{plan_heard}
 use Rattle.amqp_endpoint.proofs.endpoint.Endpoint.plan_peer_disposition.Goals as goal
 
 pub returns : goal.returns

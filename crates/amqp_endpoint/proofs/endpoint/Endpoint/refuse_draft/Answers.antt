@@ -1,6 +1,6 @@
 use Rattle.std.proofs.Common.{◌∙◌}
-use Rattle.amqp_endpoint.specs.Plan.{view_of}
-use Rattle.amqp_endpoint.proofs.Sends.{draft-refused}
+use Rattle.amqp_steps.specs.Plan.{view_of}
+use Rattle.amqp_steps.proofs.Sends.{draft-refused}
 use Rattle.amqp_endpoint.proofs.endpoint.Endpoint.refuse_draft.Goals as goal
 
 pub returns-in-Ok : goal.returns-in-Ok

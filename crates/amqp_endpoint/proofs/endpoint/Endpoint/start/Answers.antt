@@ -1,10 +1,10 @@
 use Rattle.std.proofs.Common.{refl, ◌∙◌}
-use Rattle.amqp_endpoint.specs.Plan.{view_of}
-use Rattle.amqp_endpoint.specs.Starting.{start_plan}
-use Rattle.amqp_endpoint.proofs.Kept.{kept-after, met-after}
+use Rattle.amqp_steps.specs.Plan.{view_of}
+use Rattle.amqp_steps.specs.Starting.{start_plan}
+use Rattle.amqp_steps.proofs.Kept.{kept-after, met-after}
 use Rattle.amqp_rules.specs.declared.op.Op.TheVariants as op
-use Rattle.amqp_endpoint.proofs.Parted.{own-keeps}
-use Rattle.amqp_endpoint.proofs.Starts.{started-done}
+use Rattle.amqp_steps.proofs.Parted.{own-keeps}
+use Rattle.amqp_steps.proofs.Starts.{started-done}
 use Rattle.amqp_endpoint.proofs.endpoint.Endpoint.start.Goals as goal
 
 pub start-requires : goal.start-requires

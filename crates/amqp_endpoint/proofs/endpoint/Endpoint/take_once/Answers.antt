@@ -1,8 +1,8 @@
-use Rattle.amqp_endpoint.specs.Doing.{take_plan}
-use Rattle.amqp_endpoint.specs.Plan.{view_of}
+use Rattle.amqp_steps.specs.Doing.{take_plan}
+use Rattle.amqp_steps.specs.Plan.{view_of}
 use Rattle.amqp_rules.specs.declared.op.Op.TheVariants as op
-use Rattle.amqp_endpoint.proofs.Kept.{kept-after}
-use Rattle.amqp_endpoint.proofs.Parted.{own-keeps}
+use Rattle.amqp_steps.proofs.Kept.{kept-after}
+use Rattle.amqp_steps.proofs.Parted.{own-keeps}
 use Rattle.amqp_endpoint.proofs.endpoint.Endpoint.take_once.Goals as goal
 
 pub invariant_of-self : goal.invariant_of-self

@@ -1,6 +1,6 @@
-use Rattle.amqp_endpoint.proofs.Transfers.{named-first}
+use Rattle.amqp_steps.proofs.Transfers.{named-first}
 use Rattle.amqp_rules.specs.PeerTransfer.{name_violations}
-use Rattle.amqp_endpoint.specs.Transferring.{delivery_rows}
+use Rattle.amqp_steps.specs.Transferring.{delivery_rows}
 use Rattle.amqp_endpoint.proofs.endpoint.Endpoint.taken_violation.Goals as goal
 
 pub returns-in-Some : goal.returns-in-Some

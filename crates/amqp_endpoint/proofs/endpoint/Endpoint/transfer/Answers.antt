@@ -1,6 +1,6 @@
 use Rattle.std.proofs.Common.{Some}
 use Rattle.amqp_performatives.specs.declared.performative.Performative.TheVariants.{Transfer}
-use Rattle.amqp_endpoint.proofs.Parted.{body-keeps}
+use Rattle.amqp_steps.proofs.Parted.{body-keeps}
 use Rattle.amqp_endpoint.proofs.endpoint.Endpoint.transfer.Goals as goal
 
 pub pass-requires-clause-apart : goal.pass-requires-clause-apart

@@ -1,6 +1,0 @@
-use Rattle.std.proofs.Common.{None}
-use Rattle.amqp_rules.specs.Detach.{detach_body}
-use Rattle.amqp_endpoint.proofs.endpoint.suspend.parting_refusal.Goals as goal
-
-pub returns : goal.returns
-returns c = c.measured_refusal.ensures c.args.max (detach_body c.args.handle None None) (c.measure_detach.ensures 0)
