@@ -6,7 +6,6 @@
 //! | `types` | spellings of values, both ways |
 //! | `flow` | serial numbers, windows and credit |
 //! | `performatives` | copies of each kind of body, state and error |
-//! | `decoder` | performatives in front of octets |
 //! | `frames` | frames written for what was read, and those that are not written |
 //! | `framer` | frames read, however they are cut |
 //! | `deliveries` | unsettled deliveries, and deliveries that are cut over transfers |
@@ -15,8 +14,6 @@
 //! | `growth` | each growth of memory that these calls ask for, refused in turn |
 #![tactic(auto)]
 
-#[cfg(test)]
-mod decoder;
 #[cfg(test)]
 mod deliveries;
 #[cfg(test)]

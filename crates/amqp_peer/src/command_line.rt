@@ -14,7 +14,7 @@ use std::alloc::{AllocError, Global};
 use std::convert::AsStr;
 
 /// What a command line asks for.
-#[derive(Clone, Copy, Debug, PartialEq, Eq)]
+#[derive(Clone, Copy, Debug)]
 pub enum Request {
     /// A run of `script` on a journal with these settings, of which at most so many entries are kept; none: all.
     Script(Config, Option<u32>),
@@ -28,6 +28,8 @@ pub enum Request {
     Explain(Explained),
     /// A run of `pair`.
     Pair(Options),
+    /// A run of `rows`.
+    Rows,
 }
 
 /// What the words ask for, the first of which is the program's name. The error holds what is to be told: a fault of
@@ -39,6 +41,9 @@ pub fn read_request<'a, S: AsStr>(alloc: Global, words: &'a [S]) -> Result<Reque
     let matches = command.try_get_matches_from_mut(words)?;
     if matches.subcommand_matches("frames").is_some() {
         return Ok(Request::Frames);
+    }
+    if matches.subcommand_matches("rows").is_some() {
+        return Ok(Request::Rows);
     }
     if let Some(options) = matches.subcommand_matches("trace") {
         return Ok(Request::Trace(direction_of(options), options.get_flag("raw")));
@@ -75,7 +80,8 @@ fn program<'a>(alloc: Global) -> Result<Command<'a>, AllocError> {
         .subcommand(options::frames(alloc))?
         .subcommand(options::trace(alloc)?)?
         .subcommand(options::explain(alloc)?)?
-        .subcommand(pair(alloc)?)
+        .subcommand(pair(alloc)?)?
+        .subcommand(options::rows(alloc))
 }
 
 fn pair<'a>(alloc: Global) -> Result<Command<'a>, AllocError> {

@@ -4,6 +4,8 @@
 //! |---|---|
 //! | `command_line` | what the words of a command line ask for |
 //! | `options` | the commands with their options |
+//! | `commands` | what each command does, from its input to its output |
+//! | `rows` | the command `rows`: cases of command lines with their inputs, and whether they are answered as they want |
 //! | `amqp_script::driven` | the command `conn`: lines of text on one connection, one answer each |
 //! | `amqp_script::frames` | the command `frames`: octets in hexadecimal, framed and named |
 //! | `amqp_script::trace` | the command `trace`: octets, a line for each frame |
@@ -14,23 +16,20 @@
 //! | exit status | where |
 //! |---|---|
 //! | 0 | all is done, or help was asked for |
-//! | 1 | a read, a write, a socket or an allocation failed, or an end of `pair` did not do all that it was to do; standard error has one line on it |
+//! | 1 | a read, a write, a socket or an allocation failed, or an end of `pair` did not do all that it was to do: standard error has one line on it; or a row of `rows` is answered otherwise than its case wants |
 //! | 2 | the command line is at fault, or a line was bad, or octets were no frames |
 #![tactic(auto)]
 
-pub mod command_line;
-pub mod options;
-#[cfg(test)]
-mod tests;
+ghost use Rattle.amqp_peer.specs.Requests.{IsAllowed};
 
-use amqp_pair::run_pair;
-use amqp_script::Outcome;
-use amqp_script::driven::run_conn;
-use amqp_script::frames::{Framed, Octets, run_frames};
-use amqp_script::script::run_script;
-use amqp_script::trace::{run_raw_trace, run_trace};
-use clap::error::ErrorKind;
+pub mod command_line;
+pub mod commands;
+pub mod options;
+pub mod rows;
+
 use command_line::{Request, read_request};
+use commands::{FAULT, answer, status_of_words};
+use rows::run_rows;
 use std::env::Env;
 use std::io::{BufReader, BufWriter};
 use std::net::{Net, TcpStream};
@@ -39,15 +38,9 @@ use std::sync::Wait;
 use std::thread::Threads;
 use std::{env, io};
 
-const FAULT: u8 = 1;
-
-const BAD_LINE: u8 = 2;
-
-const NO_FRAMES: u8 = 2;
-
 fn main(rt: HostRuntime) -> ExitCode {
     match run(&rt) {
-        Ok(status) => status,
+        Ok(status) => ExitCode::from(status),
         Err(fault) => {
             // A fault that cannot be told still has its status.
             let _ = eprintln!(rt; "amqp_peer: {fault}");
@@ -56,74 +49,30 @@ fn main(rt: HostRuntime) -> ExitCode {
     }
 }
 
-fn run<R>(rt: &R) -> anyhow::Result<ExitCode>
+fn run<R>(rt: &R) -> anyhow::Result<u8>
 where
     R: AllocGlobal + Env + Input + Print + Eprint + Net<Stream = TcpStream> + Threads + Wait + Sync,
 {
     let words: Vec<String> = env::args(rt)?.collect(rt.alloc())?;
     match read_request(rt.alloc(), words.as_slice()) {
-        Ok(Request::Script(config, keep)) => {
-            let mut reader = BufReader::new(rt.alloc(), rt.reader())?;
-            let mut writer = BufWriter::new(rt.alloc(), io::writer(rt))?;
-            let outcome = run_script(rt.alloc(), &config, keep, &mut reader, &mut writer)?;
-            Ok(status_of(outcome))
-        }
-        Ok(Request::Conn(config)) => {
-            let mut reader = BufReader::new(rt.alloc(), rt.reader())?;
-            let mut writer = BufWriter::new(rt.alloc(), io::writer(rt))?;
-            let outcome = run_conn(rt.alloc(), &config, &mut reader, &mut writer)?;
-            Ok(status_of(outcome))
-        }
-        Ok(Request::Frames) => {
-            let mut reader = BufReader::new(rt.alloc(), rt.reader())?;
-            let mut writer = BufWriter::new(rt.alloc(), io::writer(rt))?;
-            let outcome = run_frames(rt.alloc(), &mut reader, &mut writer)?;
-            Ok(status_of_frames(outcome))
-        }
-        Ok(Request::Trace(direction, is_raw)) => {
-            let mut reader = BufReader::new(rt.alloc(), rt.reader())?;
-            let mut writer = BufWriter::new(rt.alloc(), io::writer(rt))?;
-            let outcome = if is_raw {
-                run_raw_trace(rt.alloc(), direction, &mut reader, &mut writer)?
-            } else {
-                run_trace(rt.alloc(), direction, &mut reader, &mut writer)?
-            };
-            Ok(status_of_frames(outcome))
-        }
-        Ok(Request::Explain(explained)) => {
-            println!(rt; "{explained}")?;
-            Ok(ExitCode::SUCCESS)
-        }
-        Ok(Request::Pair(options)) => {
-            let mut writer = BufWriter::new(rt.alloc(), io::writer(rt))?;
-            run_pair(rt, rt.alloc(), &options, &mut writer)?;
-            Ok(ExitCode::SUCCESS)
-        }
+        Ok(request) => do_request(rt, request),
         Err(error) => {
             error.print(rt)?;
-            Ok(ExitCode::from(status_of_words(&error)))
+            Ok(status_of_words(&error))
         }
     }
 }
 
-/// The status of a command line that was not read: want of memory is no fault of its words.
-fn status_of_words(error: &clap::Error) -> u8 {
-    match error.kind() {
-        ErrorKind::OutOfMemory => FAULT,
-        _ => error.exit_code() as u8,
-    }
-}
-
-fn status_of_frames(framed: Framed) -> ExitCode {
-    match framed.octets {
-        Octets::Whole => status_of(framed.lines),
-        _ => ExitCode::from(NO_FRAMES),
-    }
-}
-
-fn status_of(outcome: Outcome) -> ExitCode {
-    match outcome {
-        Outcome::EachLineGood => ExitCode::SUCCESS,
-        Outcome::SomeLineBad => ExitCode::from(BAD_LINE),
+/// Does what is asked for, from standard input to standard output.
+fn do_request<R>(rt: &R, request: Request) -> anyhow::Result<u8>
+where
+    R: AllocGlobal + Input + Print + Net<Stream = TcpStream> + Threads + Wait + Sync,
+    requires { IsAllowed request }
+{
+    let mut reader = BufReader::new(rt.alloc(), rt.reader())?;
+    let mut writer = BufWriter::new(rt.alloc(), io::writer(rt))?;
+    match request {
+        Request::Rows => run_rows(rt, &mut reader, &mut writer),
+        request => answer(rt, request, &mut reader, &mut writer),
     }
 }

@@ -1,5 +1,5 @@
-//! The commands `script`, `conn`, `frames`, `trace` and `explain` with their options. Each option is made where it is added: one that is owned over the way
-//! out of another costs its proof there.
+//! The commands `script`, `conn`, `frames`, `rows`, `trace` and `explain` with their options. Each option is made where it is added: one that is owned over
+//! the way out of another costs its proof there.
 
 use amqp_rules::config::{Config, MAX_JOURNAL_LIMIT, MAX_WINDOW};
 use amqp_script::explain::{Explained, find_fault, find_refusal, find_violation};
@@ -43,6 +43,13 @@ pub fn conn<'a>(alloc: Global) -> Result<Command<'a>, AllocError> {
 pub fn frames<'a>(alloc: Global) -> Command<'a> {
     let about = "Reads octets in hexadecimal from standard input and names the frames in them";
     Command::new(alloc, "frames").about(about)
+}
+
+/// The command `rows`, which has none.
+pub fn rows<'a>(alloc: Global) -> Command<'a> {
+    let about =
+        "Reads cases from standard input and tells which of them are answered otherwise than they want";
+    Command::new(alloc, "rows").about(about)
 }
 
 /// The command `trace` with its options.

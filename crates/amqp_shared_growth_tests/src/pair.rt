@@ -1,29 +1,9 @@
-//! Runs of `pair`: what they tell, and that all their threads end where a socket is shut in mid-run.
+//! Runs of two ends over the loopback: options out of their range, and that all threads end where a socket is shut in mid-run.
 
 use amqp_pair::{Options, PairFault, connected, run_over, run_pair};
 use std::net::{Shutdown, TcpStream};
 use std::test::Fail;
 use std::thread;
-
-/// Two hundred messages, each of two transfers, whose ids wrap.
-const WRAPPING: Options = Options {
-    count: 200,
-    consumers: 4,
-    credit: 16,
-    size: 70000,
-    first_id: 4294967290,
-    keep: None,
-};
-
-/// Few entries are kept of many.
-const FORGETTING: Options = Options {
-    count: 99,
-    consumers: 2,
-    credit: 10,
-    size: 300,
-    first_id: 0,
-    keep: Some(8),
-};
 
 fn options(count: u32, consumers: u32, credit: u32, size: u32) -> Options {
     Options {
@@ -34,36 +14,6 @@ fn options(count: u32, consumers: u32, credit: u32, size: u32) -> Options {
         first_id: 0,
         keep: None,
     }
-}
-
-#[test]
-fn runs(rt: HostRuntime) -> Result<(), Fail> {
-    let alloc = rt.alloc();
-    let rows: [(Options, &[u8]); 5] = [
-        (FORGETTING, b"queued 99\nconsumed 99\naccepted 99\nleft 0\n"),
-        (
-            WRAPPING,
-            b"queued 200\nconsumed 200\naccepted 200\nleft 0\n",
-        ),
-        (
-            options(1, 1, 1, 0),
-            b"queued 1\nconsumed 1\naccepted 1\nleft 0\n",
-        ),
-        (
-            options(99, 16, 1000, 1),
-            b"queued 99\nconsumed 99\naccepted 99\nleft 0\n",
-        ),
-        (
-            options(3, 2, 1, 1000000),
-            b"queued 3\nconsumed 3\naccepted 3\nleft 0\n",
-        ),
-    ];
-    for (options, wanted) in rows {
-        let mut out: Vec<u8> = Vec::new(alloc);
-        run_pair(&rt, alloc, &options, &mut out)?;
-        assert_eq!(rt; out.as_slice(), wanted);
-    }
-    Ok(())
 }
 
 #[test]
