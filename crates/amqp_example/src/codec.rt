@@ -12,23 +12,33 @@ const MAX_FRAME: u32 = 65536;
 
 /// Writes two frames behind one another, and reads them in pieces of three sizes.
 pub fn run<R: AllocGlobal + Print>(rt: &R) -> anyhow::Result<()> {
-    let alloc = rt.alloc();
-    let mut stream = Vec::new(alloc);
-    for frame in [begin(alloc)?, transfer(alloc)?] {
-        append(&mut stream, &frame)?;
-    }
+    let stream = write(rt.alloc())?;
     println!(rt; "written: {} octets", stream.len())?;
-    for size in [1, 10, 1000] {
-        read_in_pieces(rt, stream.as_slice(), size)?;
-    }
+    read_in_three_ways(rt, stream.as_slice())?;
     show_refusal(rt)?;
     show_fault(rt)
 }
 
+/// Two frames.
+fn write(alloc: Global) -> anyhow::Result<Vec<u8>> {
+    let mut stream = Vec::new(alloc);
+    append(&mut stream, begin(alloc)?)?;
+    append(&mut stream, transfer(alloc)?)?;
+    Ok(stream)
+}
+
 /// Writes the frame behind what stands in the stream.
-fn append(stream: &mut Vec<u8>, frame: &Frame) -> anyhow::Result<()> {
-    let octets = write_frame(*stream.allocator(), frame, MAX_FRAME)?;
-    stream.extend_from_slice(octets.as_slice())?;
+fn append(stream: &mut Vec<u8>, frame: Frame) -> anyhow::Result<()> {
+    let octets = write_frame(*stream.allocator(), &frame, MAX_FRAME);
+    drop(frame);
+    stream.extend_from_slice(octets?.as_slice())?;
+    Ok(())
+}
+
+fn read_in_three_ways<R: AllocGlobal + Print>(rt: &R, stream: &[u8]) -> anyhow::Result<()> {
+    for size in [1, 10, 1000] {
+        read_in_pieces(rt, stream, size)?;
+    }
     Ok(())
 }
 
@@ -36,13 +46,25 @@ fn append(stream: &mut Vec<u8>, frame: &Frame) -> anyhow::Result<()> {
 fn read_in_pieces<R: AllocGlobal + Print>(rt: &R, stream: &[u8], size: usize) -> anyhow::Result<()>
     requires { 0 < size }
 {
-    let mut framer = Framer::new(rt.alloc(), MAX_FRAME);
-    let mut frames = Vec::new(rt.alloc());
+    let frames = read(rt.alloc(), stream, size)?;
+    println!(rt; "read in pieces of at most {size}: {} frames", frames.len())?;
+    print_frames(rt, frames.as_slice())
+}
+
+/// The frames of the stream, which is fed in pieces of this size.
+fn read(alloc: Global, stream: &[u8], size: usize) -> anyhow::Result<Vec<Frame>>
+    requires { 0 < size }
+{
+    let mut framer = Framer::new(alloc, MAX_FRAME);
+    let mut frames = Vec::new(alloc);
     for piece in stream.chunks(size) {
         framer.feed_all(piece, &mut frames)?;
     }
-    println!(rt; "read in pieces of at most {size}: {} frames", frames.len())?;
-    for frame in &frames {
+    Ok(frames)
+}
+
+fn print_frames<R: Print>(rt: &R, frames: &[Frame]) -> anyhow::Result<()> {
+    for frame in frames {
         print_frame(rt, frame)?;
     }
     Ok(())

@@ -13,6 +13,7 @@ use amqp_frames::Role;
 use amqp_journal::receipt::Receipt;
 use amqp_rules::op::Op;
 use amqp_rules::refusal::Refusal;
+use amqp_rules::reply::Given;
 use amqp_shared::{
     CloseReason, Closed, Name, NotClosed, Pass, Seed, Shared, WriterEnd, open_shared,
 };
@@ -108,7 +109,13 @@ fn does<N: Name, R: Wait>(
     op: Op,
 ) -> Option<Receipt> {
     let mut guard = shared.lock(rt);
-    match shared.call(&mut guard, pass, &op) {
+    let answer = shared.call(&mut guard, pass, &op);
+    drop(op);
+    receipt_in(answer)
+}
+
+fn receipt_in(answer: Result<(Receipt, Given), Refusal>) -> Option<Receipt> {
+    match answer {
         Ok((receipt, _)) => Some(receipt),
         Err(_) => None,
     }
