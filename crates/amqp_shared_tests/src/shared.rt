@@ -15,14 +15,14 @@ use amqp_rules::op::Op;
 use amqp_rules::refusal::Refusal;
 use amqp_rules::reply::Given;
 use amqp_shared::{
-    CloseReason, Closed, Name, NotClosed, Pass, Seed, Shared, WriterEnd, open_shared,
+    CloseReason, Closed, Locked, Name, NotClosed, Pass, Seed, Shared, WriterEnd, open_shared,
 };
 use amqp_types::{Tag, Text};
 use bytes::Bytes;
 use std::alloc::Global;
 use std::marker::Brand;
 use std::process::Abort;
-use std::sync::Wait;
+use std::sync::{MutexGuard, Wait};
 use std::test::Fail;
 use std::thread;
 use std::thread::Threads;
@@ -471,7 +471,13 @@ fn refused_start<N: Name, R: Wait>(
 ) -> Option<Refusal> {
     let start = start(alloc, [1, 0])?;
     let mut guard = shared.lock(rt);
-    match shared.call(&mut guard, pass, &start) {
+    let answer = shared.call(&mut guard, pass, &start);
+    drop(start);
+    refusal_in(answer)
+}
+
+fn refusal_in(answer: Result<(Receipt, Given), Refusal>) -> Option<Refusal> {
+    match answer {
         Ok(_) => None,
         Err(refusal) => Some(refusal),
     }
@@ -505,14 +511,27 @@ fn starts_and_learns<N: Name, R: Wait>(
     let start = start(alloc, [1, 0])?;
     let mut pass = pass;
     let mut guard = shared.lock(rt);
-    let beaten = shared.call(&mut guard, &mut pass, &Op::Beat);
-    let (guard, started) = shared.call_wait(rt, guard, &mut pass, &start);
-    let (guard, learned) = shared.call_wait(rt, guard, &mut pass, &Op::Learn { link: 0 });
+    let beaten = receipt_in(shared.call(&mut guard, &mut pass, &Op::Beat)).is_some();
+    let (guard, started) = waits_for(rt, shared, guard, &mut pass, start);
+    let (guard, learned) = waits_for(rt, shared, guard, &mut pass, Op::Learn { link: 0 });
     drop(guard);
-    if beaten.is_ok() && started.is_ok() && learned.is_ok() {
+    if beaten && started && learned {
         return Some(shared.wait_units(rt, 6));
     }
     None
+}
+
+/// Waits until the operation can be done: whether it was. What it gave is let go here.
+fn waits_for<'b, N: Name, R: Wait>(
+    rt: &R,
+    shared: &Shared<N>,
+    guard: MutexGuard<'b, Locked<N>>,
+    pass: &mut Pass<N>,
+    op: Op,
+) -> (MutexGuard<'b, Locked<N>>, bool) {
+    let (guard, answer) = shared.call_wait(rt, guard, pass, &op);
+    drop(op);
+    (guard, receipt_in(answer).is_some())
 }
 
 /// A delivery of this tag on link 0, which has its tag as its payload.
