@@ -13,8 +13,16 @@ const READS: u32 = 100;
 /// A message goes there and is accepted, one comes back, and the connection is closed.
 pub fn run<R: AllocGlobal + Print>(rt: &R) -> anyhow::Result<()> {
     let mut one = End::new(rt.alloc(), "one")?;
+    let talked = talk_with_other(rt, &mut one);
+    drop(one);
+    talked
+}
+
+fn talk_with_other<R: AllocGlobal + Print>(rt: &R, one: &mut End) -> anyhow::Result<()> {
     let mut other = End::new(rt.alloc(), "other")?;
-    talk(rt, &mut one, &mut other)
+    let talked = talk(rt, one, &mut other);
+    drop(other);
+    talked
 }
 
 fn talk<R: AllocGlobal + Print>(rt: &R, one: &mut End, other: &mut End) -> anyhow::Result<()> {

@@ -17,8 +17,16 @@ const UNITS: u32 = 8;
 /// A message is sent, taken, accepted and settled.
 pub fn run<R: AllocGlobal + Print>(rt: &R) -> anyhow::Result<()> {
     let mut sender = End::new(rt.alloc(), "sender")?;
+    let talked = talk_with_receiver(rt, &mut sender);
+    drop(sender);
+    talked
+}
+
+fn talk_with_receiver<R: AllocGlobal + Print>(rt: &R, sender: &mut End) -> anyhow::Result<()> {
     let mut receiver = End::new(rt.alloc(), "receiver")?;
-    talk(rt, &mut sender, &mut receiver)
+    let talked = talk(rt, sender, &mut receiver);
+    drop(receiver);
+    talked
 }
 
 fn talk<R: AllocGlobal + Print>(

@@ -1,5 +1,5 @@
 //! What the words of a command line ask for.
-ghost use Rattle.std.specs.Prelude.{IfOk};
+ghost use Rattle.std.specs.Prelude.{IfOk, IfSome};
 ghost use Rattle.amqp_peer.specs.Requests.{IsAllowed};
 
 use crate::options;
@@ -37,51 +37,86 @@ pub enum Request {
 pub fn read_request<'a, S: AsStr>(alloc: Global, words: &'a [S]) -> Result<Request, Error>
     ensures { IfOk result IsAllowed }
 {
+    // What is owned here is let go on no way out but the last: a function that lets much go on each is dear to prove.
     let mut command = program(alloc)?;
+    let request = read_words(&mut command, words);
+    drop(command);
+    request
+}
+
+fn read_words<'a, S: AsStr>(command: &mut Command<'a>, words: &'a [S]) -> Result<Request, Error>
+    ensures { IfOk result IsAllowed }
+{
     let matches = command.try_get_matches_from_mut(words)?;
+    let request = request_of(&matches);
+    drop(matches);
+    match request {
+        Some(request) => Ok(request),
+        None => Err(command.error(ErrorKind::ValueValidation, "a number is out of its range")?),
+    }
+}
+
+/// None where a number is out of its range.
+fn request_of(matches: &ArgMatches<'_>) -> Option<Request>
+    ensures { IfSome result IsAllowed }
+{
     if matches.subcommand_matches("frames").is_some() {
-        return Ok(Request::Frames);
+        return Some(Request::Frames);
     }
     if matches.subcommand_matches("rows").is_some() {
-        return Ok(Request::Rows);
+        return Some(Request::Rows);
     }
     if let Some(options) = matches.subcommand_matches("trace") {
-        return Ok(Request::Trace(direction_of(options), options.get_flag("raw")));
+        return Some(Request::Trace(direction_of(options), options.get_flag("raw")));
     }
     if let Some(options) = matches.subcommand_matches("explain") {
         if let Some(explained) = explained_of(options) {
-            return Ok(Request::Explain(explained));
+            return Some(Request::Explain(explained));
         }
     } else if let Some(options) = matches.subcommand_matches("pair") {
         let options = pair_options(options);
         if options.are_in_range() {
-            return Ok(Request::Pair(options));
+            return Some(Request::Pair(options));
         }
     } else if let Some(options) = matches.subcommand_matches("conn") {
         let config = config_of(options);
         if config.is_within_limits() {
-            return Ok(Request::Conn(config));
+            return Some(Request::Conn(config));
         }
     } else {
-        let config = script_config(&matches);
+        let config = script_config(matches);
         if config.is_within_limits() {
-            return Ok(Request::Script(config, kept_entries(&matches)));
+            return Some(Request::Script(config, kept_entries(matches)));
         }
     }
-    Err(command.error(ErrorKind::ValueValidation, "a number is out of its range")?)
+    None
 }
 
 fn program<'a>(alloc: Global) -> Result<Command<'a>, AllocError> {
-    Command::new(alloc, "amqp_peer")
+    let command = Command::new(alloc, "amqp_peer")
         .about("One end of an AMQP 1.0 connection")
-        .subcommand_required(true)
-        .subcommand(options::script(alloc)?)?
-        .subcommand(options::conn(alloc)?)?
-        .subcommand(options::frames(alloc))?
-        .subcommand(options::trace(alloc)?)?
-        .subcommand(options::explain(alloc)?)?
-        .subcommand(pair(alloc)?)?
-        .subcommand(options::rows(alloc))
+        .subcommand_required(true);
+    let command = with(command, options::script(alloc))?;
+    let command = with(command, options::conn(alloc))?;
+    let command = command.subcommand(options::frames(alloc))?;
+    let command = with(command, options::trace(alloc))?;
+    let command = with(command, options::explain(alloc))?;
+    let command = with(command, pair(alloc))?;
+    command.subcommand(options::rows(alloc))
+}
+
+/// The command with this one under it.
+fn with<'a>(
+    command: Command<'a>,
+    under: Result<Command<'a>, AllocError>,
+) -> Result<Command<'a>, AllocError> {
+    match under {
+        Ok(under) => command.subcommand(under),
+        Err(error) => {
+            drop(command);
+            Err(error)
+        }
+    }
 }
 
 fn pair<'a>(alloc: Global) -> Result<Command<'a>, AllocError> {

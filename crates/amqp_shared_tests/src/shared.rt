@@ -360,20 +360,37 @@ fn closes_full<N: Name, R: Wait + Abort>(rt: &R, alloc: Global, seed: Seed) -> R
     requires { IsNamed seed N.name N.parts N.ring }
 {
     let (shared, mut pass, writer) = open_shared::<N>(seed);
-    hear(rt, &shared, &mut pass, &GREETING);
-    assert!(rt; does(rt, &shared, &mut pass, Op::Begin).is_none());
+    shuts_full(rt, &shared, &mut pass);
+    let Some(passes) = alone(alloc, pass) else {
+        panic!(rt; "no memory");
+    };
+    let told = told_of(left_and_taken(shared, passes, writer));
+    assert_eq!(rt; told, Some((Phase::Closed, 0, 3)));
+    Ok(())
+}
+
+fn shuts_full<N: Name, R: Wait + Abort>(rt: &R, shared: &Shared<N>, pass: &mut Pass<N>) {
+    hear(rt, shared, pass, &GREETING);
+    assert!(rt; does(rt, shared, pass, Op::Begin).is_none());
     let mut guard = shared.lock(rt);
     assert!(rt; shared.shut(&mut guard, None).is_ok());
     drop(guard);
-    hear(rt, &shared, &mut pass, &CLOSE);
+    hear(rt, shared, pass, &CLOSE);
+}
+
+/// This pass and no other.
+fn alone<N: Name>(alloc: Global, pass: Pass<N>) -> Option<Vec<Pass<N>>> {
     let mut passes = Vec::new(alloc);
-    assert!(rt; passes.push(pass).is_ok());
-    let Some(closed) = left_and_taken(shared, passes, writer) else {
-        panic!(rt; "not closed");
-    };
-    assert!(rt; closed.conn.phase() == Phase::Closed);
-    assert_eq!(rt; (closed.taken, closed.left.len()), (0, 3));
-    Ok(())
+    passes.push(pass).ok()?;
+    Some(passes)
+}
+
+/// Where the connection is, how many units were taken, and how many are left.
+fn told_of(closed: Option<Closed>) -> Option<(Phase, u64, usize)> {
+    let closed = closed?;
+    let told = (closed.conn.phase(), closed.taken, closed.left.len());
+    drop(closed);
+    Some(told)
 }
 
 #[test]
