@@ -73,9 +73,11 @@ pub fn run_lines<R: BufRead, W: Write>(
     };
     let run = take_lines(alloc, &mut driven, reader, writer);
     let flushed = writer.flush();
+    let outcome = driven.outcome;
+    drop(driven);
     run?;
     flushed.map_err(RunFault::Write)?;
-    Ok(driven.outcome)
+    Ok(outcome)
 }
 
 /// A connection that is being driven.
