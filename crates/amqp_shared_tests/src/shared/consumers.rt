@@ -9,7 +9,9 @@ use amqp_journal::receipt::Receipt;
 use amqp_rules::op::Op;
 use amqp_rules::refusal::Refusal;
 use amqp_rules::reply::Taken;
-use amqp_shared::{Consumed, Name, Pass, Seed, Shared, Work, open_shared, run_consumers};
+use amqp_shared::{
+    Consumed, Name, Pass, Seed, Shared, Work, WriterEnd, open_shared, run_consumers,
+};
 use std::alloc::{AllocError, Global};
 use std::marker::Brand;
 use std::process::Abort;
@@ -127,16 +129,61 @@ fn settled_and_second<N: Name + Send + Sync, R: Threads + Wait + Abort + Sync>(
     let Some(own) = pass.split() else {
         panic!(rt; "no part");
     };
-    let (own, told) = ended_by_two(rt, alloc, &shared, own)?;
+    match consumes_two(rt, alloc, &shared, own) {
+        Ok(own) => {
+            closes_after_two(rt, alloc, shared, pass, own, writer);
+            Ok(())
+        }
+        Err(fail) => {
+            drop(pass);
+            drop(writer);
+            drop(shared);
+            Err(fail)
+        }
+    }
+}
+
+fn consumes_two<N: Name + Send + Sync, R: Threads + Wait + Abort + Sync>(
+    rt: &R,
+    alloc: Global,
+    shared: &Shared<N>,
+    own: Pass<N>,
+) -> Result<Pass<N>, Fail> {
+    let (own, told) = ended_by_two(rt, alloc, shared, own)?;
     assert_eq!(rt; told, (2, 2, Refusal::NotRunning));
     assert_eq!(rt; own.made(), 4);
-    let mut passes = Vec::new(alloc);
-    assert!(rt; passes.push(pass).is_ok());
-    assert!(rt; passes.push(own).is_ok());
+    Ok(own)
+}
+
+/// The journal has the disposition of the first and the grant behind it.
+fn closes_after_two<N: Name, R: Abort>(
+    rt: &R,
+    alloc: Global,
+    shared: Shared<N>,
+    pass: Pass<N>,
+    own: Pass<N>,
+    writer: WriterEnd<N>,
+) {
+    let Some(passes) = both(alloc, pass, own) else {
+        panic!(rt; "no memory");
+    };
     let Some(closed) = left_and_taken(shared, passes, writer) else {
         panic!(rt; "not closed");
     };
-    assert_eq!(rt; closed.conn.logged().journal().len(), 13);
+    let stands = stands_after_two(&closed.conn);
+    drop(closed);
+    assert_eq!(rt; stands, (13, true, true));
+}
+
+fn both<N: Name>(alloc: Global, pass: Pass<N>, own: Pass<N>) -> Option<Vec<Pass<N>>> {
+    let mut passes = Vec::new(alloc);
+    passes.push(pass).ok()?;
+    passes.push(own).ok()?;
+    Some(passes)
+}
+
+/// How many steps there are, and whether the disposition and the grant stand where they are to.
+fn stands_after_two(conn: &Conn) -> (usize, bool, bool) {
     let disposed = Op::Dispose {
         role: Role::Receiver,
         first: 0,
@@ -144,9 +191,9 @@ fn settled_and_second<N: Name + Send + Sync, R: Threads + Wait + Abort + Sync>(
         settled: false,
         state: Some(given_back()),
     };
-    assert!(rt; stands_at(&closed.conn, &disposed, 10));
-    assert!(rt; stands_at(&closed.conn, &grant(), 11));
-    Ok(())
+    let is_disposed = stands_at(conn, &disposed, 10);
+    let is_granted = stands_at(conn, &grant(), 11);
+    (conn.logged().journal().len(), is_disposed, is_granted)
 }
 
 /// The journal has this operation at this place, and it gave neither a link nor a delivery.
