@@ -62,26 +62,13 @@ fn begun(alloc: Global, heard: bool) -> Result<(Reply, Reply), Fail> {
         return Err(Fail::new("the limit"));
     }
     let mut endpoint = Endpoint::new(alloc, &CONFIG);
-    let replies = if heard {
-        hears_begin(alloc, &mut endpoint)
-    } else {
-        begins(&mut endpoint)
-    };
-    drop(endpoint);
-    replies
-}
-
-fn hears_begin(alloc: Global, endpoint: &mut Endpoint) -> Result<(Reply, Reply), Fail> {
-    let frame = begin(alloc)?;
-    let answer = endpoint.receive(&frame);
-    drop(frame);
-    match answer {
-        Ok(replies) => Ok(replies),
-        Err(_) => Err(Fail::new("a violation")),
+    if heard {
+        let frame = begin(alloc)?;
+        return match endpoint.receive(&frame) {
+            Ok(replies) => Ok(replies),
+            Err(_) => Err(Fail::new("a violation")),
+        };
     }
-}
-
-fn begins(endpoint: &mut Endpoint) -> Result<(Reply, Reply), Fail> {
     match endpoint.apply(&Op::Begin) {
         Ok(replies) => Ok(replies),
         Err(_) => Err(Fail::new("a refusal")),
