@@ -1,5 +1,6 @@
 //! How an end comes to its close, and what is left of it.
 use crate::fault::PairFault;
+use crate::gate::{Gate, Opening};
 use amqp_frames::Role;
 use amqp_shared::{Closed, Name, Pass, Shared, WriterEnd};
 use std::sync::Wait;
@@ -8,6 +9,12 @@ use std::sync::Wait;
 pub fn lose<N: Name, R: Wait>(rt: &R, shared: &Shared<N>) {
     let mut guard = shared.lock(rt);
     shared.lost(&mut guard);
+}
+
+/// Ends the connection of an end that nobody reads, and says so to who waits until it is open.
+pub fn give_up<N: Name, R: Wait>(rt: &R, shared: &Shared<N>, gate: &Gate) {
+    lose(rt, shared);
+    gate.tell(rt, Opening::Failed);
 }
 
 /// Closes the connection, or ends it where it cannot close.

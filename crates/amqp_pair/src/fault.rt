@@ -33,6 +33,8 @@ pub enum PairFault {
     Octets,
     #[error("a write failed: {0}")]
     Out(io::Error),
+    #[error("the system makes no thread")]
+    Thread,
     #[error("memory was refused")]
     NoMemory,
 }

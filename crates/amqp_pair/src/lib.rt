@@ -12,6 +12,7 @@
 //! | `beginning` | the connection as each end begins it |
 //! | `keeping` | how many entries of its journal an end keeps |
 //! | `ending` | how an end comes to its close, and what is left of it |
+//! | `beside` | a thread beside this one, and what becomes of it where the system makes none |
 //! | `gate` | what a thread waits for until its end is open |
 //! | `fault` | why a run fails |
 //!
@@ -19,11 +20,12 @@
 //! writes as many at once as wait. A thread of the one end queues messages and learns of them; consumers of the other accept them.
 //!
 //! All threads end by themselves: where the connection has closed, or its octets ended, or a read, a write or memory failed. A thread that stops for a
-//! fault ends its end's connection, which ends the others of its end, and its socket, which ends the peer. Nothing of that is proved; runs show it. A
-//! thread that the system does not make is not noticed: the others then wait for it.
+//! fault ends its end's connection, which ends the others of its end, and its socket, which ends the peer. A thread that the system does not make ends
+//! its end likewise. Nothing of that is proved; runs show it.
 #![tactic(auto)]
 
 mod beginning;
+mod beside;
 mod consuming;
 mod ending;
 mod fault;

@@ -2,6 +2,7 @@
 ghost use Rattle.std.specs.Prelude.{OnOk};
 ghost use Rattle.amqp_pair.specs.Ranges.{IsInRange};
 
+use crate::beside::beside_if_made;
 use crate::fault::PairFault;
 use crate::options::Options;
 use crate::receiver::run_receiver;
@@ -10,7 +11,6 @@ use std::alloc::Global;
 use std::io::Write;
 use std::net::{IpAddr, Ipv4Addr, Net, OpenListener, SocketAddr, TcpListener, TcpStream};
 use std::sync::Wait;
-use std::thread;
 use std::thread::Threads;
 
 /// What a run has done.
@@ -64,11 +64,14 @@ pub fn run_over<R>(
 where
     R: Threads + Wait + Sync,
 {
-    let (sent, received) = thread::join(
+    let (sent, received) = beside_if_made(
         rt,
-        || run_sender(rt, alloc, options, stream),
-        || run_receiver(rt, alloc, options, peer),
+        move || run_sender(rt, alloc, options, stream),
+        move || run_receiver(rt, alloc, options, peer),
     );
+    let Some(sent) = sent else {
+        return Err(PairFault::Thread);
+    };
     let (sent, received) = (sent?, received?);
     if received.octets != u64::from(options.count).saturating_mul(u64::from(options.size)) {
         return Err(PairFault::Octets);

@@ -3,8 +3,9 @@ ghost use Rattle.std.specs.Prelude.{◌≡◌};
 ghost use Rattle.amqp_shared.specs.Passes.{IsNamed};
 
 use crate::beginning::seed;
+use crate::beside::beside;
 use crate::consuming::{ConsumeOutcome, consume_all};
-use crate::ending::{left_of, put, take_apart};
+use crate::ending::{give_up, left_of, put, take_apart};
 use crate::fault::PairFault;
 use crate::gate::Gate;
 use crate::options::Options;
@@ -13,11 +14,11 @@ use crate::writing::{WriteOutcome, Writer, write_end};
 use amqp_frames::Role;
 use amqp_shared::{Closed, Name, Pass, Seed, Shared, WriterEnd, open_shared};
 use std::alloc::Global;
+use std::io;
 use std::marker::Brand;
 use std::net::TcpStream;
 use std::sync::Wait;
 use std::thread::Threads;
-use std::{io, thread};
 
 /// What the receiving end has done.
 #[derive(Clone, Copy)]
@@ -61,8 +62,8 @@ where
     finish(shared, ran)
 }
 
-/// What the threads of the end gave: its reader, and its writer beside its consumers.
-type Ran<N> = (ReadOutcome<N>, (WriteOutcome<N>, ConsumeOutcome<N>));
+/// What the threads of the end gave, its reader, its writer and its consumers; and whether the system made all of them.
+type Ran<N> = (ReadOutcome<N>, WriteOutcome<N>, ConsumeOutcome<N>, bool);
 
 /// Runs the end over its socket. What it owns is given away before the next that may fail: a function that owns much over several ways out is dear to prove.
 fn run_end<N, R>(
@@ -99,8 +100,8 @@ where
 
 /// What the end has done, once its threads have ended.
 fn finish<N: Name>(shared: Shared<N>, ran: Ran<N>) -> Result<Received, PairFault> {
-    let ((reading, read), ((writer, written), consumed)) = ran;
-    let (passes, counts) = outcome(read, written, consumed)?;
+    let ((reading, read), (writer, written), consumed, is_made) = ran;
+    let (passes, counts) = outcome(is_made, read, written, consumed)?;
     let closed = end_receiver(shared, reading, passes, writer)?;
     Ok(Received {
         consumed: counts.deliveries,
@@ -109,12 +110,16 @@ fn finish<N: Name>(shared: Shared<N>, ran: Ran<N>) -> Result<Received, PairFault
     })
 }
 
-/// What the consumers came to, unless the reader or the writer failed.
+/// What the consumers came to, unless the reader or the writer failed, or was not made.
 fn outcome<N: Name>(
+    is_made: bool,
     read: Result<(), ReadFault>,
     written: io::Result<()>,
     consumed: ConsumeOutcome<N>,
 ) -> ConsumeOutcome<N> {
+    if !is_made {
+        return Err(PairFault::Thread);
+    }
     read.map_err(PairFault::Read)?;
     written.map_err(PairFault::Write)?;
     consumed
@@ -130,7 +135,7 @@ fn end_receiver<N: Name>(
     take_apart(shared, passes, writer)
 }
 
-/// The reader, beside the writer and the consumers.
+/// The reader, beside the writer and the consumers. With no thread for it the end is given up, and it reads to the end behind the others.
 fn run_threads<N, R>(
     rt: &R,
     shared: &Shared<N>,
@@ -144,14 +149,20 @@ where
     N: Name + Send + Sync,
     R: Threads + Wait + Sync,
 {
-    thread::join(
+    let (read, (wrote, done, is_written), is_read) = beside(
         rt,
         move || read_end(rt, shared, reader),
-        move || write_and_consume(rt, shared, writer, passes, credit, gate),
-    )
+        move |is_read| {
+            if !is_read {
+                give_up(rt, shared, gate);
+            }
+            write_and_consume(rt, shared, writer, passes, credit, gate)
+        },
+    );
+    (read, wrote, done, is_read && is_written)
 }
 
-/// The writer, beside the consumers.
+/// The writer, beside the consumers, and whether its thread was made. With none the end is given up, and it writes behind them.
 fn write_and_consume<N, R>(
     rt: &R,
     shared: &Shared<N>,
@@ -159,16 +170,21 @@ fn write_and_consume<N, R>(
     passes: Vec<Pass<N>>,
     credit: u32,
     gate: &Gate,
-) -> (WriteOutcome<N>, ConsumeOutcome<N>)
+) -> (WriteOutcome<N>, ConsumeOutcome<N>, bool)
 where
     N: Name + Send + Sync,
     R: Threads + Wait + Sync,
 {
     let alloc = writer.alloc;
-    thread::join(
+    beside(
         rt,
         move || write_end(rt, shared, writer),
-        move || consume_all(rt, alloc, shared, passes, credit, gate),
+        move |is_written| {
+            if !is_written {
+                give_up(rt, shared, gate);
+            }
+            consume_all(rt, alloc, shared, passes, credit, gate)
+        },
     )
 }
 

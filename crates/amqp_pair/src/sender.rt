@@ -3,7 +3,8 @@ ghost use Rattle.std.specs.Prelude.{◌≡◌};
 ghost use Rattle.amqp_shared.specs.Passes.{IsNamed};
 
 use crate::beginning::seed;
-use crate::ending::{left_of, put, take_apart};
+use crate::beside::beside;
+use crate::ending::{give_up, left_of, put, take_apart};
 use crate::fault::PairFault;
 use crate::gate::Gate;
 use crate::options::Options;
@@ -14,11 +15,11 @@ use amqp_frames::Role;
 use amqp_rules::refusal::Refusal;
 use amqp_shared::{Closed, Name, Pass, Receipt, Seed, Shared, WriterEnd, open_shared};
 use std::alloc::Global;
+use std::io;
 use std::marker::Brand;
 use std::net::TcpStream;
 use std::sync::Wait;
 use std::thread::Threads;
-use std::{io, thread};
 
 /// What the sending end has done.
 #[derive(Clone, Copy)]
@@ -68,8 +69,8 @@ where
     finish(alloc, shared, messages, ran)
 }
 
-/// What the threads of the end gave: its reader, and its writer beside its messages.
-type Ran<N> = (ReadOutcome<N>, (WriteOutcome<N>, SendOutcome<N>));
+/// What the threads of the end gave, its reader, its writer and its messages; and whether the system made all of them.
+type Ran<N> = (ReadOutcome<N>, WriteOutcome<N>, SendOutcome<N>, bool);
 
 /// Runs the end over its socket. What it owns is given away before the next that may fail: a function that owns much over several ways out is dear to prove.
 fn run_end<N, R>(
@@ -111,19 +112,23 @@ fn finish<N: Name>(
     messages: &Messages,
     ran: Ran<N>,
 ) -> Result<Sent, PairFault> {
-    let ((reading, read), ((writer, written), (hand, sent))) = ran;
-    let done = outcome(read, written, sent)?;
+    let ((reading, read), (writer, written), (hand, sent), is_made) = ran;
+    let done = outcome(is_made, read, written, sent)?;
     let Hand { pass, receipts } = hand;
     let closed = end_sender(alloc, shared, reading, pass, writer)?;
     sent_of(messages, &closed, &receipts, &done)
 }
 
-/// What the messages came to, unless a thread failed.
+/// What the messages came to, unless a thread failed, or was not made.
 fn outcome(
+    is_made: bool,
     read: Result<(), ReadFault>,
     written: io::Result<()>,
     sent: Result<Done, Refusal>,
 ) -> Result<Done, PairFault> {
+    if !is_made {
+        return Err(PairFault::Thread);
+    }
     read.map_err(PairFault::Read)?;
     written.map_err(PairFault::Write)?;
     sent.map_err(PairFault::Send)
@@ -150,7 +155,7 @@ fn sent_of(
     })
 }
 
-/// The reader, beside the writer and the messages.
+/// The reader, beside the writer and the messages. With no thread for it the end is given up, and it reads to the end behind the others.
 fn run_threads<N, R>(
     rt: &R,
     shared: &Shared<N>,
@@ -164,14 +169,20 @@ where
     N: Name + Send + Sync,
     R: Threads + Wait + Sync,
 {
-    thread::join(
+    let (read, (wrote, done, is_written), is_read) = beside(
         rt,
         move || read_end(rt, shared, reader),
-        move || write_and_send(rt, shared, writer, hand, messages, gate),
-    )
+        move |is_read| {
+            if !is_read {
+                give_up(rt, shared, gate);
+            }
+            write_and_send(rt, shared, writer, hand, messages, gate)
+        },
+    );
+    (read, wrote, done, is_read && is_written)
 }
 
-/// The writer, beside the messages.
+/// The writer, beside the messages, and whether its thread was made. With none the end is given up, and it writes behind them.
 fn write_and_send<N, R>(
     rt: &R,
     shared: &Shared<N>,
@@ -179,15 +190,20 @@ fn write_and_send<N, R>(
     hand: Hand<N>,
     messages: &Messages,
     gate: &Gate,
-) -> (WriteOutcome<N>, SendOutcome<N>)
+) -> (WriteOutcome<N>, SendOutcome<N>, bool)
 where
     N: Name + Send + Sync,
     R: Threads + Wait + Sync,
 {
-    thread::join(
+    beside(
         rt,
         move || write_end(rt, shared, writer),
-        move || send_all(rt, shared, hand, messages, gate),
+        move |is_written| {
+            if !is_written {
+                give_up(rt, shared, gate);
+            }
+            send_all(rt, shared, hand, messages, gate)
+        },
     )
 }
 

@@ -3,7 +3,8 @@ ghost use Rattle.std.specs.Prelude.{IfOk, IfSome};
 ghost use Rattle.amqp_peer.specs.Requests.{IsAllowed};
 
 use crate::options;
-use crate::options::{USUAL, config_of, direction_of, explained_of};
+use crate::options::{USUAL, config_of, direction_of, exchange_of, explained_of};
+use amqp_client::exchange::Exchange;
 use amqp_endpoint::config::Config;
 use amqp_pair::{MAX_CONSUMERS, MAX_COUNT, MAX_CREDIT, MAX_SIZE, Options};
 use amqp_script::explain::Explained;
@@ -15,7 +16,7 @@ use std::convert::AsStr;
 
 /// What a command line asks for.
 #[derive(Clone, Copy, Debug)]
-pub enum Request {
+pub enum Request<'a> {
     /// A run of `script` on a journal with these settings, of which at most so many entries are kept; none: all.
     Script(Config, Option<u32>),
     /// A run of `conn` with these settings of its session.
@@ -30,11 +31,15 @@ pub enum Request {
     Pair(Options),
     /// A run of `rows`.
     Rows,
+    /// A run of `send`.
+    Send(Exchange<'a>),
+    /// A run of `receive`.
+    Receive(Exchange<'a>),
 }
 
 /// What the words ask for, the first of which is the program's name. The error holds what is to be told: a fault of
 /// the words, or the help that they asked for.
-pub fn read_request<'a, S: AsStr>(alloc: Global, words: &'a [S]) -> Result<Request, Error>
+pub fn read_request<'a, S: AsStr>(alloc: Global, words: &'a [S]) -> Result<Request<'a>, Error>
     ensures { IfOk result IsAllowed }
 {
     // What is owned here is let go on no way out but the last: a function that lets much go on each is dear to prove.
@@ -44,7 +49,7 @@ pub fn read_request<'a, S: AsStr>(alloc: Global, words: &'a [S]) -> Result<Reque
     request
 }
 
-fn read_words<'a, S: AsStr>(command: &mut Command<'a>, words: &'a [S]) -> Result<Request, Error>
+fn read_words<'a, S: AsStr>(command: &mut Command<'a>, words: &'a [S]) -> Result<Request<'a>, Error>
     ensures { IfOk result IsAllowed }
 {
     let matches = command.try_get_matches_from_mut(words)?;
@@ -57,7 +62,7 @@ fn read_words<'a, S: AsStr>(command: &mut Command<'a>, words: &'a [S]) -> Result
 }
 
 /// None where a number is out of its range.
-fn request_of(matches: &ArgMatches<'_>) -> Option<Request>
+fn request_of<'a>(matches: &ArgMatches<'a>) -> Option<Request<'a>>
     ensures { IfSome result IsAllowed }
 {
     if matches.subcommand_matches("frames").is_some() {
@@ -65,6 +70,12 @@ fn request_of(matches: &ArgMatches<'_>) -> Option<Request>
     }
     if matches.subcommand_matches("rows").is_some() {
         return Some(Request::Rows);
+    }
+    if let Some(options) = matches.subcommand_matches("send") {
+        return Some(Request::Send(exchange_of(options)?));
+    }
+    if let Some(options) = matches.subcommand_matches("receive") {
+        return Some(Request::Receive(exchange_of(options)?));
     }
     if let Some(options) = matches.subcommand_matches("trace") {
         return Some(Request::Trace(direction_of(options), options.get_flag("raw")));
@@ -102,6 +113,8 @@ fn program<'a>(alloc: Global) -> Result<Command<'a>, AllocError> {
     let command = with(command, options::trace(alloc))?;
     let command = with(command, options::explain(alloc))?;
     let command = with(command, pair(alloc))?;
+    let command = with(command, options::send(alloc))?;
+    let command = with(command, options::receive(alloc))?;
     command.subcommand(options::rows(alloc))
 }
 

@@ -2,6 +2,7 @@
 ghost use Rattle.amqp_peer.specs.Requests.{IsAllowed};
 
 use crate::command_line::Request;
+use amqp_client::exchange::{run_receive, run_send};
 use amqp_pair::run_pair;
 use amqp_script::Outcome;
 use amqp_script::driven::run_conn;
@@ -18,7 +19,7 @@ use std::thread::Threads;
 /// The status where all is done.
 pub const DONE: u8 = 0;
 
-/// The status of a run that failed, and of `rows` where a row is answered otherwise than its case wants.
+/// The status of a run that failed, of `send` where a message was not accepted, and of `rows` where a row is answered otherwise than its case wants.
 pub const FAULT: u8 = 1;
 
 /// The status where a line was bad, or octets were no frames.
@@ -27,7 +28,7 @@ pub const BAD_INPUT: u8 = 2;
 /// Does what is asked for with this input and this output, and answers the exit status. The command `rows` is not done here, so no row runs rows.
 pub fn answer<H, R: BufRead, W: Write>(
     rt: &H,
-    request: Request,
+    request: Request<'_>,
     reader: &mut R,
     writer: &mut W,
 ) -> anyhow::Result<u8>
@@ -57,6 +58,17 @@ where
         }
         Request::Pair(options) => {
             run_pair(rt, alloc, &options, writer)?;
+            Ok(DONE)
+        }
+        Request::Send(exchange) => {
+            if run_send(rt, alloc, &exchange, writer)? {
+                Ok(DONE)
+            } else {
+                Ok(FAULT)
+            }
+        }
+        Request::Receive(exchange) => {
+            run_receive(rt, alloc, &exchange, writer)?;
             Ok(DONE)
         }
         Request::Rows => bail!("a row that runs rows"),

@@ -12,11 +12,12 @@
 //! | `amqp_script::explain` | the command `explain`: numbers in words |
 //! | `amqp_script::script` | the command `script`: lines of text on one journal, one answer each |
 //! | `amqp_pair` | the command `pair`: two ends of a connection over the loopback |
+//! | `amqp_client` | the commands `send` and `receive`: messages to a peer, or from one, over TCP |
 //!
 //! | exit status | where |
 //! |---|---|
 //! | 0 | all is done, or help was asked for |
-//! | 1 | a read, a write, a socket or an allocation failed, or an end of `pair` did not do all that it was to do: standard error has one line on it; or a row of `rows` is answered otherwise than its case wants |
+//! | 1 | a read, a write, a socket or an allocation failed, or an end of `pair` did not do all that it was to do: standard error has one line on it; or a message of `send` was not accepted; or a row of `rows` is answered otherwise than its case wants |
 //! | 2 | the command line is at fault, or a line was bad, or octets were no frames |
 #![tactic(auto)]
 
@@ -64,7 +65,7 @@ where
 }
 
 /// Does what is asked for, from standard input to standard output.
-fn do_request<R>(rt: &R, request: Request) -> anyhow::Result<u8>
+fn do_request<R>(rt: &R, request: Request<'_>) -> anyhow::Result<u8>
 where
     R: AllocGlobal + Input + Print + Net<Stream = TcpStream> + Threads + Wait + Sync,
     requires { IsAllowed request }

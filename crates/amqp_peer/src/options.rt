@@ -1,6 +1,7 @@
-//! The commands `script`, `conn`, `frames`, `rows`, `trace` and `explain` with their options. Each option is made where it is added: one that is owned over
+//! The commands `script`, `conn`, `frames`, `rows`, `trace`, `explain`, `send` and `receive` with their options. Each option is made where it is added: one that is owned over
 //! the way out of another costs its proof there.
 
+use amqp_client::exchange::Exchange;
 use amqp_rules::config::{Config, MAX_JOURNAL_LIMIT, MAX_WINDOW};
 use amqp_script::explain::{Explained, find_fault, find_refusal, find_violation};
 use amqp_trace::Direction;
@@ -102,6 +103,94 @@ pub fn explained_of(options: &ArgMatches<'_>) -> Option<Explained> {
     } else {
         Some(Explained::Refusal(find_refusal(number)?))
     }
+}
+
+/// The command `send` with its options.
+pub fn send<'a>(alloc: Global) -> Result<Command<'a>, AllocError> {
+    let about = "Sends messages to a peer over TCP, and tells what became of them";
+    with_peer(alloc, Command::new(alloc, "send").about(about))?
+        .arg(usual(alloc, "size", "The octets of a message's body", "16"))?
+        .arg(flag(
+            alloc,
+            "settled",
+            "The messages go settled: nothing is told of them",
+        ))
+}
+
+/// The command `receive` with its options.
+pub fn receive<'a>(alloc: Global) -> Result<Command<'a>, AllocError> {
+    let about = "Takes messages from a peer over TCP, and accepts them";
+    let credit = "How many messages may come at a time";
+    with_peer(alloc, Command::new(alloc, "receive").about(about))?.arg(usual(
+        alloc, "credit", credit, "10",
+    ).value_parser(value_parser!(u32).range(1..)))
+}
+
+/// The command, with the options that say who the peer is, and of how many messages.
+fn with_peer<'a>(alloc: Global, command: Command<'a>) -> Result<Command<'a>, AllocError> {
+    let count = usual(alloc, "count", "How many messages", "1");
+    command
+        .arg(text(
+            alloc,
+            "address",
+            "The address at the peer, where this end begins",
+            "q",
+        ))?
+        .arg(text(
+            alloc,
+            "host",
+            "The peer's host, or the one to listen at",
+            "127.0.0.1",
+        ))?
+        .arg(port(alloc))?
+        .arg(flag(alloc, "listen", "The peer connects and begins"))?
+        .arg(count.value_parser(value_parser!(u32).range(1..)))
+}
+
+fn text<'a>(alloc: Global, name: &'static str, help: &'static str, usual: &'static str) -> Arg<'a> {
+    Arg::new(alloc, name)
+        .long(name)
+        .value_name("TEXT")
+        .default_value(usual)
+        .help(help)
+}
+
+fn port<'a>(alloc: Global) -> Arg<'a> {
+    Arg::new(alloc, "port")
+        .long("port")
+        .value_name("N")
+        .value_parser(value_parser!(u16))
+        .default_value("5672")
+        .help("The peer's port, or the one to listen at")
+}
+
+/// A number that may be left off.
+fn usual<'a>(
+    alloc: Global,
+    name: &'static str,
+    help: &'static str,
+    usual: &'static str,
+) -> Arg<'a> {
+    Arg::new(alloc, name)
+        .long(name)
+        .value_name("N")
+        .value_parser(value_parser!(u32))
+        .default_value(usual)
+        .help(help)
+}
+
+/// What `send` or `receive` is to do. What one of them has no option for is as usual.
+pub fn exchange_of<'a>(options: &ArgMatches<'a>) -> Option<Exchange<'a>> {
+    Some(Exchange {
+        host: options.get_str("host")?,
+        port: options.get_one::<u16>("port")?,
+        is_listening: options.get_flag("listen"),
+        address: options.get_str("address")?,
+        count: options.get_one::<u32>("count").unwrap_or(1),
+        size: options.get_one::<u32>("size").unwrap_or(0),
+        is_settled: options.get_flag("settled"),
+        credit: options.get_one::<u32>("credit").unwrap_or(1),
+    })
 }
 
 /// An option without a value.

@@ -129,7 +129,7 @@ where
 }
 
 /// What words ask for.
-fn show<H: AllocGlobal>(rt: &H, request: Request) -> anyhow::Result<Answer> {
+fn show<H: AllocGlobal>(rt: &H, request: Request<'_>) -> anyhow::Result<Answer> {
     let mut output = Vec::new(rt.alloc());
     writeln!(output, "{request:?}")?;
     Ok(Answer {
@@ -151,7 +151,7 @@ fn refuse<H: AllocGlobal>(rt: &H, error: &Error) -> anyhow::Result<Answer> {
 }
 
 /// What a run answers. What makes it fail stands behind that.
-fn answer_request<H>(rt: &H, case: &Case, request: Request) -> anyhow::Result<Answer>
+fn answer_request<H>(rt: &H, case: &Case, request: Request<'_>) -> anyhow::Result<Answer>
 where
     H: AllocGlobal + Net<Stream = TcpStream> + Threads + Wait + Sync,
     requires { IsAllowed request }

@@ -172,7 +172,11 @@ fn goes(
 /// The same of a new connection of the container `a`.
 fn goes_so(alloc: Global, steps: &[(Do, Said, &str)], end: Phase) -> bool {
     match connection(alloc) {
-        Ok(mut conn) => matches!(goes(alloc, &mut conn, steps, end), Ok(true)),
+        Ok(mut conn) => {
+            let went = goes(alloc, &mut conn, steps, end);
+            drop(conn);
+            matches!(went, Ok(true))
+        }
         Err(_) => false,
     }
 }
@@ -276,7 +280,9 @@ fn stands(alloc: Global, octets: &[u8], cut: usize) -> Option<(Phase, bool)> {
             let (one, other) = octets.split_at(octets.len().min(cut));
             let first = hears(&mut conn, one);
             let second = hears(&mut conn, other);
-            Some((conn.phase(), first && second))
+            let phase = conn.phase();
+            drop(conn);
+            Some((phase, first && second))
         }
         Err(_) => None,
     }
@@ -380,7 +386,11 @@ fn pumped(
         return Err(PumpFault::Conn(ConnFault::NoMemory));
     };
     match connection(alloc) {
-        Ok(mut conn) => pump(octets.as_slice(), turns, reads, writes, &mut conn),
+        Ok(mut conn) => {
+            let end = pump(octets.as_slice(), turns, reads, writes, &mut conn);
+            drop(conn);
+            end
+        }
         Err(_) => Err(PumpFault::Conn(ConnFault::NoMemory)),
     }
 }
@@ -484,7 +494,11 @@ fn called_again(
         return (refused, false, refused);
     };
     match connection(alloc) {
-        Ok(mut conn) => call_again(octets.as_slice(), failing, &mut conn),
+        Ok(mut conn) => {
+            let answer = call_again(octets.as_slice(), failing, &mut conn);
+            drop(conn);
+            answer
+        }
         Err(_) => (refused, false, refused),
     }
 }

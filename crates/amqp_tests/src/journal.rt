@@ -55,13 +55,22 @@ fn begun(alloc: Global) -> Result<Conn, Fail> {
     let Ok(mut conn) = Conn::new(alloc, config) else {
         return Err(Fail::new("no connection"));
     };
+    if hears_begin(&mut conn) {
+        return Ok(conn);
+    }
+    drop(conn);
+    Err(Fail::new("not heard"))
+}
+
+/// The header, the open and the begin of a peer.
+fn hears_begin(conn: &mut Conn) -> bool {
     let (header, open) = WHOLE.split_at(8);
     for piece in [header, open, PEER_BEGIN] {
         if conn.feed(piece).is_err() {
-            return Err(Fail::new("not heard"));
+            return false;
         }
     }
-    Ok(conn)
+    true
 }
 
 fn attach(alloc: Global) -> Result<Op, AllocError> {

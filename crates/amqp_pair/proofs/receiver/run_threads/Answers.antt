@@ -6,8 +6,8 @@ use Rattle.amqp_pair.proofs.reading.Reader.TheSendSync as reader
 use Rattle.amqp_pair.proofs.receiver.run_threads.Goals as goal
 
 -- what the reader takes along
-pub join-requires-send-F : goal.join-requires-send-F
-join-requires-send-F g c κs within =
+pub beside-read-requires-send-F : goal.beside-read-requires-send-F
+beside-read-requires-send-F g c κs within =
     let shared = shared_sync (param 0 g.row.N) g.N.Name g.N.Ledger in
     let rt = c.type_bounds.sync-R in
     search (sendable, crosses, shared, rt, reader.the_send) depth 60 fits 100000

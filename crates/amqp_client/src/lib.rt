@@ -1,0 +1,27 @@
+//! One end of a connection that does one thing after the other, and waits for its peer: messages are sent, or taken, over whatever can be read and written.
+//!
+//! | module | what it has |
+//! |---|---|
+//! | `client` | [`Client`]: a connection with its devices; an operation is done as soon as what the peer says allows it |
+//! | `opening` | the session and its one link: asked of the peer, or answered as it asks |
+//! | `sending` | messages go out, and what became of each is learnt ([`Outcomes`]) |
+//! | `receiving` | messages are taken, and settled |
+//! | `ending` | link, session and connection end, each as agreed |
+//! | `exchange` | the commands `send` and `receive`, over TCP |
+//! | `fault` | why a client stops |
+//!
+//! Each call waits in a read until the peer has said what it needs, or the octets end. It has no clock: whoever wants one sets a time limit on the device's
+//! reads, which then fail.
+#![tactic(auto)]
+
+mod client;
+mod ending;
+pub mod exchange;
+mod fault;
+mod opening;
+mod receiving;
+mod sending;
+
+pub use client::Client;
+pub use fault::ClientFault;
+pub use sending::Outcomes;

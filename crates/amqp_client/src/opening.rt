@@ -1,0 +1,114 @@
+//! The session and its one link.
+use crate::client::{Client, LINK, had};
+use crate::fault::ClientFault;
+use amqp_conn::{Boxed, Conn, LinkEnd, Op, Refusal, Role, Sink, Source, Text, Value, ops};
+use amqp_performatives::copying::copy_value;
+use std::alloc::AllocError;
+
+/// The peer has begun its session.
+fn has_begun(conn: &Conn) -> bool {
+    conn.logged().endpoint().windows().next_in.is_some()
+}
+
+/// The role that the peer leaves to us on the link that it offers.
+fn offered_role(conn: &Conn) -> Option<Role> {
+    match conn.logged().endpoint().status(LINK) {
+        Some(status) => Some(status.role),
+        None => None,
+    }
+}
+
+/// An attach that answers the peer's: with its name, its source and its target (part 2, 2.6.3). None where it offers no link.
+fn answer_of(conn: &Conn) -> Result<Option<Op>, AllocError> {
+    let Some(link) = conn.logged().endpoint().link_of(LINK) else {
+        return Ok(None);
+    };
+    match link.theirs() {
+        Some(theirs) => attach_like(link.name(), link.role(), theirs),
+        None => Ok(None),
+    }
+}
+
+fn attach_like(name: &Text, role: Role, theirs: &LinkEnd) -> Result<Option<Op>, AllocError> {
+    let (source, target) = termini_of(theirs)?;
+    match name.clone() {
+        Ok(name) => Ok(Some(ops::attach(name, role, source, target))),
+        Err(error) => Err(error),
+    }
+}
+
+/// Copies of source and target.
+fn termini_of(end: &LinkEnd) -> Result<(Option<Boxed<Value>>, Option<Boxed<Value>>), AllocError> {
+    let source = copy_value(&end.source)?;
+    let target = copy_value(&end.target)?;
+    Ok((source, target))
+}
+
+impl<S: Source, K: Sink> Client<S, K> {
+    /// Begins the session, and attaches a link of this name, for this role of ours, with this address at the peer.
+    ///
+    /// # Errors
+    ///
+    /// Those of `apply`, and `NoMemory`.
+    pub fn open(&mut self, name: &Text, role: Role, address: &Text) -> Result<(), ClientFault> {
+        let attach = had(self.attach(name, role, address))?;
+        self.begin_and(attach)
+    }
+
+    fn attach(&self, name: &Text, role: Role, address: &Text) -> Result<Op, AllocError> {
+        let (source, target) = match role {
+            Role::Sender => (name, address),
+            Role::Receiver => (address, name),
+        };
+        let source = ops::source(self.alloc, source.clone()?)?;
+        let target = ops::target(self.alloc, target.clone()?)?;
+        Ok(ops::attach(name.clone()?, role, Some(source), Some(target)))
+    }
+
+    fn begin_and(&mut self, attach: Op) -> Result<(), ClientFault> {
+        match self.perform(Op::Begin) {
+            Ok(()) => self.perform(attach),
+            Err(fault) => {
+                drop(attach);
+                Err(fault)
+            }
+        }
+    }
+
+    /// Waits until the peer has begun its session and offers a link, and answers both, for this role of ours.
+    ///
+    /// # Errors
+    ///
+    /// `Refused` by `WrongRole` where the peer has the same role, those of `apply`, and `NoMemory`.
+    pub fn answer(&mut self, role: Role) -> Result<(), ClientFault> {
+        self.await_begin()?;
+        self.perform(Op::Begin)?;
+        if self.await_offer()? != role {
+            return Err(ClientFault::Refused(Refusal::WrongRole));
+        }
+        match had(answer_of(&self.conn))? {
+            Some(attach) => self.perform(attach),
+            None => Err(ClientFault::Refused(Refusal::NoLink)),
+        }
+    }
+
+    fn await_begin(&mut self) -> Result<(), ClientFault> {
+        for _ in 0..u64::MAX {
+            if has_begun(&self.conn) {
+                break;
+            }
+            self.turn()?;
+        }
+        Ok(())
+    }
+
+    fn await_offer(&mut self) -> Result<Role, ClientFault> {
+        for _ in 0..u64::MAX {
+            if let Some(role) = offered_role(&self.conn) {
+                return Ok(role);
+            }
+            self.turn()?;
+        }
+        Err(ClientFault::Refused(Refusal::NoLink))
+    }
+}

@@ -1,0 +1,101 @@
+//! Messages are taken, and settled.
+use crate::client::{Client, LINK};
+use crate::fault::ClientFault;
+use amqp_conn::{Boxed, DeliveryState, Given, Left, Op, Role, Sink, Source, Taken, ops};
+
+fn taken_of(given: Given) -> Option<Boxed<Taken>> {
+    match given {
+        Given::Taken(taken) => Some(taken),
+        _ => None,
+    }
+}
+
+fn left_of(left: Left) -> Option<Boxed<Taken>> {
+    match left {
+        Left::Delivery(_, taken) => Some(taken),
+        Left::Outcome(_, _) => None,
+    }
+}
+
+impl<S: Source, K: Sink> Client<S, K> {
+    /// Gives the peer credit for so many messages.
+    ///
+    /// # Errors
+    ///
+    /// Those of `apply`.
+    pub fn grant(&mut self, credit: u32) -> Result<(), ClientFault> {
+        self.perform(ops::grant(LINK, credit))
+    }
+
+    /// How many messages the peer may still send.
+    pub fn credit(&self) -> u32 {
+        match self.conn.logged().endpoint().status(LINK) {
+            Some(status) => status.credit,
+            None => 0,
+        }
+    }
+
+    /// Takes the next message, as soon as it is there; also one that came before an end of the link. It is to be settled by its id, unless it came settled.
+    ///
+    /// # Errors
+    ///
+    /// Those of `apply`.
+    pub fn take(&mut self) -> Result<Boxed<Taken>, ClientFault> {
+        for _ in 0..u64::MAX {
+            if let Some(taken) = self.take_once()? {
+                return Ok(taken);
+            }
+        }
+        Err(ClientFault::Closed)
+    }
+
+    /// What the link gives, or what it left where it is gone.
+    fn take_once(&mut self) -> Result<Option<Boxed<Taken>>, ClientFault> {
+        let op = ops::take(LINK);
+        let answer = self.apply(&op);
+        drop(op);
+        match answer {
+            Ok(given) => Ok(taken_of(given)),
+            Err(fault) => self.take_left(fault),
+        }
+    }
+
+    fn take_left(&mut self, fault: ClientFault) -> Result<Option<Boxed<Taken>>, ClientFault> {
+        match self.left(Role::Receiver, fault) {
+            Ok(left) => Ok(left_of(left)),
+            Err(fault) => Err(fault),
+        }
+    }
+
+    /// Tells the peer what becomes of the message with this id, and settles it (part 2, 2.6.12); where the link is gone nothing more is
+    /// told of it.
+    ///
+    /// # Errors
+    ///
+    /// Those of `apply`.
+    pub fn settle_as(&mut self, id: u32, state: DeliveryState) -> Result<(), ClientFault> {
+        if self.is_gone() {
+            drop(state);
+            return Ok(());
+        }
+        self.perform(Op::Dispose {
+            role: Role::Receiver,
+            first: id,
+            last: id,
+            settled: true,
+            state: Some(state),
+        })
+    }
+
+    /// Renews the window of transfers where half of it is used (part 2, 2.5.6).
+    ///
+    /// # Errors
+    ///
+    /// Those of `apply`.
+    pub fn renew_window(&mut self) -> Result<(), ClientFault> {
+        if self.conn.logged().endpoint().windows().incoming > self.window / 2 {
+            return Ok(());
+        }
+        self.perform(Op::Refresh { echo: false })
+    }
+}

@@ -1,0 +1,232 @@
+//! Messages go out, and what became of each is learnt.
+ghost use Rattle.std.specs.Prelude.{◌<◌};
+
+use crate::client::{Client, LINK};
+use crate::fault::ClientFault;
+use amqp_conn::{
+    Bytes, DeliveryState, Given, Learned, Left, Op, Refusal, Role, Sink, Source, Tag, ops,
+};
+
+/// What a transfer takes of a frame beside its payload, in octets, and more.
+const HEAD: u32 = 128;
+
+/// The most octets of one transfer.
+const MOST: u32 = 65536;
+
+/// What became of messages.
+#[derive(Clone, Copy, Debug, PartialEq, Eq)]
+pub struct Outcomes {
+    pub accepted: u64,
+    pub rejected: u64,
+    pub released: u64,
+    pub modified: u64,
+    /// Settled without an outcome.
+    pub unknown: u64,
+}
+
+/// What was told of a delivery.
+#[derive(Clone, Copy)]
+struct Told {
+    id: u32,
+    settled: bool,
+    outcome: Outcome,
+}
+
+#[derive(Clone, Copy, PartialEq, Eq)]
+enum Outcome {
+    Accepted,
+    Rejected,
+    Released,
+    Modified,
+    /// A state that is no outcome, or none.
+    None,
+}
+
+impl Outcomes {
+    /// Of no message.
+    pub const NONE: Outcomes = Outcomes {
+        accepted: 0,
+        rejected: 0,
+        released: 0,
+        modified: 0,
+        unknown: 0,
+    };
+
+    fn count(&mut self, outcome: Outcome) {
+        let counted = match outcome {
+            Outcome::Accepted => &mut self.accepted,
+            Outcome::Rejected => &mut self.rejected,
+            Outcome::Released => &mut self.released,
+            Outcome::Modified => &mut self.modified,
+            Outcome::None => &mut self.unknown,
+        };
+        *counted = counted.saturating_add(1);
+    }
+}
+
+fn outcome_of(state: &Option<DeliveryState>) -> Outcome {
+    match state {
+        Some(DeliveryState::Accepted) => Outcome::Accepted,
+        Some(DeliveryState::Rejected(_)) => Outcome::Rejected,
+        Some(DeliveryState::Released) => Outcome::Released,
+        Some(DeliveryState::Modified { .. }) => Outcome::Modified,
+        _ => Outcome::None,
+    }
+}
+
+fn told_by(given: &Given) -> Option<Told> {
+    match given {
+        Given::Learned(learned) => Some(told_of(learned.get())),
+        _ => None,
+    }
+}
+
+fn told_of(learned: &Learned) -> Told {
+    Told {
+        id: learned.id,
+        settled: learned.settled,
+        outcome: outcome_of(&learned.state),
+    }
+}
+
+/// What a link that is gone left. Nothing is settled on it any more.
+fn told_last(left: &Left) -> Option<Told> {
+    match left {
+        Left::Outcome(_, learned) => {
+            let told = told_of(learned.get());
+            Some(Told {
+                settled: true,
+                ..told
+            })
+        }
+        Left::Delivery(_, _) => None,
+    }
+}
+
+/// So many octets of the message from this place on; it shares them.
+fn part(message: &Bytes, from: usize, most: usize) -> Result<Bytes, ClientFault> {
+    let from = from.min(message.len());
+    let end = from.saturating_add(most).min(message.len());
+    match message.slice(from..end) {
+        Ok(part) => Ok(part),
+        Err(_) => Err(ClientFault::NoMemory),
+    }
+}
+
+impl<S: Source, K: Sink> Client<S, K> {
+    /// How many octets of a message one transfer takes: as the peer's frames have room.
+    fn in_a_transfer(&self) -> usize
+        ensures { 0 < result }
+    {
+        let frame = self.conn.logged().endpoint().max_frame();
+        frame.min(MOST).saturating_sub(HEAD).max(1) as usize
+    }
+
+    /// Sends a message as one delivery, in as many transfers as the peer's frames ask for, as its credit and its window allow. Its tag is the number in four
+    /// octets.
+    ///
+    /// # Errors
+    ///
+    /// Those of `apply`, and `NoMemory`. A message that was begun may be unfinished then.
+    pub fn send(&mut self, number: u32, message: &Bytes, settled: bool) -> Result<(), ClientFault> {
+        let most = self.in_a_transfer();
+        self.start(number, message, most, settled)?;
+        for from in (most..message.len()).step_by(most) {
+            self.carry(message, from, most)?;
+        }
+        Ok(())
+    }
+
+    fn start(
+        &mut self,
+        number: u32,
+        message: &Bytes,
+        most: usize,
+        settled: bool,
+    ) -> Result<(), ClientFault> {
+        let Some(tag) = Tag::new(&number.to_be_bytes()) else {
+            return Err(ClientFault::Refused(Refusal::NotWritable));
+        };
+        let more = most < message.len();
+        match part(message, 0, most) {
+            Ok(payload) => self.perform(Op::Start {
+                link: LINK,
+                tag,
+                format: 0,
+                settled,
+                payload,
+                more,
+            }),
+            Err(fault) => Err(fault),
+        }
+    }
+
+    fn carry(&mut self, message: &Bytes, from: usize, most: usize) -> Result<(), ClientFault> {
+        let more = from.saturating_add(most) < message.len();
+        match part(message, from, most) {
+            Ok(payload) => self.perform(Op::Carry {
+                link: LINK,
+                payload,
+                more,
+            }),
+            Err(fault) => Err(fault),
+        }
+    }
+
+    /// Learns what became of the next message that the peer tells of, and settles it where the peer has not. What came before an end of the link is had, too.
+    ///
+    /// # Errors
+    ///
+    /// Those of `apply`.
+    pub fn learn(&mut self, outcomes: &mut Outcomes) -> Result<(), ClientFault> {
+        for _ in 0..u64::MAX {
+            if let Some(told) = self.learn_once()? {
+                if told.settled || told.outcome != Outcome::None {
+                    outcomes.count(told.outcome);
+                    return self.settle(told);
+                }
+            }
+        }
+        Ok(())
+    }
+
+    /// What is told next: by the link, or by what it left where it is gone.
+    fn learn_once(&mut self) -> Result<Option<Told>, ClientFault> {
+        let op = ops::learn(LINK);
+        let answer = self.apply(&op);
+        drop(op);
+        match answer {
+            Ok(given) => {
+                let told = told_by(&given);
+                drop(given);
+                Ok(told)
+            }
+            Err(fault) => self.learn_left(fault),
+        }
+    }
+
+    fn learn_left(&mut self, fault: ClientFault) -> Result<Option<Told>, ClientFault> {
+        match self.left(Role::Sender, fault) {
+            Ok(left) => {
+                let told = told_last(&left);
+                drop(left);
+                Ok(told)
+            }
+            Err(fault) => Err(fault),
+        }
+    }
+
+    /// Settles the delivery, unless the peer has (part 2, 2.6.12).
+    fn settle(&mut self, told: Told) -> Result<(), ClientFault> {
+        if told.settled {
+            return Ok(());
+        }
+        self.perform(Op::Dispose {
+            role: Role::Sender,
+            first: told.id,
+            last: told.id,
+            settled: true,
+            state: None,
+        })
+    }
+}
