@@ -1,5 +1,5 @@
 //! What a peer said: of itself, in its newest frame, and of why it ended something.
-ghost use Rattle.std.specs.Prelude.{◌≡◌, option_map};
+ghost use Rattle.std.specs.Prelude.{◌≡◌, None, option_map};
 ghost use Rattle.amqp_conn.specs.Saying.{open_in, close_in, error_of_close, error_in, newest, heard_in, heard_by, ended_by};
 ghost use Rattle.amqp_conn.specs.Kinds.{kind_of};
 
@@ -51,6 +51,14 @@ pub(crate) fn kind_of(body: &Option<Performative>) -> Kind
     }
 }
 
+/// Nothing, and what is not wanted is dropped as a whole: variant by variant that would be dear to prove.
+fn none_of<T>(other: Option<Performative>) -> Option<T>
+    ensures { result ≡ None }
+{
+    drop(other);
+    None
+}
+
 /// The open of a frame that has one.
 pub(crate) fn open_in(frame: Frame) -> Option<Boxed<OpenBody>>
     ensures { result ≡ open_in frame.body }
@@ -58,7 +66,7 @@ pub(crate) fn open_in(frame: Frame) -> Option<Boxed<OpenBody>>
     let Frame { body, .. } = frame;
     match body {
         Some(Performative::Open(body)) => Some(body),
-        _ => None,
+        other => none_of(other),
     }
 }
 
@@ -69,7 +77,7 @@ pub(crate) fn close_in(frame: Frame) -> Option<CloseBody>
     let Frame { body, .. } = frame;
     match body {
         Some(Performative::Close(body)) => Some(body),
-        _ => None,
+        other => none_of(other),
     }
 }
 
