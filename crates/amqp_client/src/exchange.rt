@@ -254,7 +254,8 @@ pub fn receive_all<S: Source, K: Sink>(
     Ok(received)
 }
 
-/// Credit is given again where half of it is used, and never for more messages than are still wanted.
+/// Credit is given again once it is used up, and never for more messages than are still wanted. Sooner would spare a wait, but some peers then take more than
+/// they were granted.
 fn renew<S: Source, K: Sink>(
     client: &mut Client<S, K>,
     exchange: &Exchange<'_>,
@@ -263,10 +264,8 @@ fn renew<S: Source, K: Sink>(
     if client.is_gone() {
         return Ok(());
     }
-    let most = exchange.credit.min(wanted);
-    let left = client.credit();
-    if left < most && left <= most / 2 {
-        client.grant(most)?;
+    if client.credit() == 0 {
+        client.grant(exchange.credit.min(wanted))?;
     }
     client.renew_window()
 }

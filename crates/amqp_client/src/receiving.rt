@@ -1,7 +1,7 @@
 //! Messages are taken, and settled.
 use crate::client::{Client, LINK};
 use crate::fault::ClientFault;
-use amqp_conn::{Boxed, DeliveryState, Given, Left, Op, Role, Sink, Source, Taken, ops};
+use amqp_conn::{Boxed, DeliveryState, Given, Left, Op, Refusal, Role, Sink, Source, Taken, ops};
 
 fn taken_of(given: Given) -> Option<Boxed<Taken>> {
     match given {
@@ -67,8 +67,8 @@ impl<S: Source, K: Sink> Client<S, K> {
         }
     }
 
-    /// Tells the peer what becomes of the message with this id, and settles it (part 2, 2.6.12); where the link is gone nothing more is
-    /// told of it.
+    /// Tells the peer what becomes of the message with this id, and settles it (part 2, 2.6.12). Where the peer has settled it, or the link is being left,
+    /// nothing more is told of it.
     ///
     /// # Errors
     ///
@@ -78,13 +78,17 @@ impl<S: Source, K: Sink> Client<S, K> {
             drop(state);
             return Ok(());
         }
-        self.perform(Op::Dispose {
+        let told = self.perform(Op::Dispose {
             role: Role::Receiver,
             first: id,
             last: id,
             settled: true,
             state: Some(state),
-        })
+        });
+        match told {
+            Err(ClientFault::Refused(Refusal::NothingHeld)) => Ok(()),
+            told => told,
+        }
     }
 
     /// Renews the window of transfers where half of it is used (part 2, 2.5.6).

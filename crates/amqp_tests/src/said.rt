@@ -110,9 +110,15 @@ fn show(conn: &Conn) -> Shown {
 
 fn receives(alloc: Global, conn: &mut Conn) -> Result<(), AllocError> {
     let name = Text::new(alloc, "q")?;
-    drop(conn.apply(&ops::attach(name, Role::Receiver, None, None)));
-    drop(conn.apply(&ops::grant(0, 1)));
+    goes(conn, ops::attach(name, Role::Receiver, None, None));
+    goes(conn, ops::grant(0, 1));
     Ok(())
+}
+
+fn goes(conn: &mut Conn, op: Op) {
+    let answer = conn.apply(&op);
+    drop(op);
+    drop(answer);
 }
 
 fn does(alloc: Global, conn: &mut Conn, what: Do) -> Result<(), AllocError> {
