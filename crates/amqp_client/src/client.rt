@@ -12,6 +12,8 @@ pub struct Client<S, K> {
     pub(crate) conn: Conn,
     /// The incoming window, in transfers.
     pub(crate) window: u32,
+    /// Our attach went out: from here on a session that is not mapped is one that the peer has ended.
+    pub(crate) is_opened: bool,
     pump: Pump,
     source: S,
     sink: K,
@@ -21,10 +23,10 @@ pub struct Client<S, K> {
 pub(crate) const LINK: u32 = 0;
 
 /// What the peer says may change it.
-fn is_early(refusal: Refusal) -> bool {
+fn is_early(refusal: Refusal, is_opened: bool) -> bool {
     match refusal {
+        Refusal::NotMapped => !is_opened,
         Refusal::NotRunning
-        | Refusal::NotMapped
         | Refusal::NotAttached
         | Refusal::NoCredit
         | Refusal::NoWindow
@@ -51,6 +53,7 @@ impl<S: Source + Drop, K: Sink + Drop> Client<S, K> {
                 alloc,
                 conn,
                 window,
+                is_opened: false,
                 pump: Pump::new(),
                 source,
                 sink,
@@ -101,7 +104,7 @@ impl<S: Source, K: Sink> Client<S, K> {
         for _ in 0..u64::MAX {
             match self.conn.apply(op) {
                 Ok(given) => return Ok(given),
-                Err(refusal) if is_early(refusal) => self.turn()?,
+                Err(refusal) if is_early(refusal, self.is_opened) => self.turn()?,
                 Err(refusal) => return Err(ClientFault::Refused(refusal)),
             }
         }

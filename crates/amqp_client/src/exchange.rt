@@ -2,7 +2,9 @@
 use crate::client::Client;
 use crate::fault::ClientFault;
 use crate::sending::Outcomes;
-use amqp_conn::{Bytes, Config, DeliveryState, FromStd, Role, Sink, Source, Text};
+use amqp_conn::{
+    AmqpError, Bytes, Config, Conn, DeliveryState, FromStd, Role, Sink, Source, Text, error_of,
+};
 use amqp_messages::{Message, write_message};
 use std::alloc::{AllocError, Global};
 use std::io;
@@ -83,7 +85,9 @@ where
 {
     let mut client = meet(rt, alloc, exchange)?;
     let sent = send_all(alloc, &mut client, exchange);
+    let told = tell_error(out, &client, sent.is_err());
     drop(client);
+    told.map_err(ExchangeFault::Out)?;
     let outcomes = sent?;
     tell_sent(out, &outcomes).map_err(ExchangeFault::Out)?;
     Ok(exchange.is_settled || outcomes.accepted == u64::from(exchange.count))
@@ -105,8 +109,41 @@ where
 {
     let mut client = meet(rt, alloc, exchange)?;
     let received = receive_all(alloc, &mut client, exchange);
+    let told = tell_error(out, &client, received.is_err());
     drop(client);
+    told.map_err(ExchangeFault::Out)?;
     tell_received(out, received?).map_err(ExchangeFault::Out)
+}
+
+/// Where it failed: the error that the peer told by its close, or by the frame that came last.
+fn tell_error<S: Source, K: Sink, W: Write>(
+    out: &mut W,
+    client: &Client<S, K>,
+    has_failed: bool,
+) -> io::Result<()> {
+    match last_error(client.conn()) {
+        Some(error) if has_failed => tell_condition(out, error),
+        _ => Ok(()),
+    }
+}
+
+fn last_error(conn: &Conn) -> Option<&AmqpError> {
+    if let Some(error) = conn.ended_by() {
+        return Some(error);
+    }
+    match conn.heard() {
+        Some(frame) => error_of(frame),
+        None => None,
+    }
+}
+
+fn tell_condition<W: Write>(out: &mut W, error: &AmqpError) -> io::Result<()> {
+    write!(out, "told {}", error.condition.as_str())?;
+    if let Some(description) = &error.description {
+        write!(out, " {}", description.as_str())?;
+    }
+    writeln!(out)?;
+    out.flush()
 }
 
 fn tell_sent<W: Write>(out: &mut W, outcomes: &Outcomes) -> io::Result<()> {

@@ -67,12 +67,18 @@ impl<S: Source, K: Sink> Client<S, K> {
 
     fn begin_and(&mut self, attach: Op) -> Result<(), ClientFault> {
         match self.perform(Op::Begin) {
-            Ok(()) => self.perform(attach),
+            Ok(()) => self.perform_attach(attach),
             Err(fault) => {
                 drop(attach);
                 Err(fault)
             }
         }
+    }
+
+    fn perform_attach(&mut self, attach: Op) -> Result<(), ClientFault> {
+        self.perform(attach)?;
+        self.is_opened = true;
+        Ok(())
     }
 
     /// Waits until the peer has begun its session and offers a link, and answers both, for this role of ours.
@@ -87,7 +93,7 @@ impl<S: Source, K: Sink> Client<S, K> {
             return Err(ClientFault::Refused(Refusal::WrongRole));
         }
         match had(answer_of(&self.conn))? {
-            Some(attach) => self.perform(attach),
+            Some(attach) => self.perform_attach(attach),
             None => Err(ClientFault::Refused(Refusal::NoLink)),
         }
     }
