@@ -1,5 +1,5 @@
-//! Tests of an endpoint, its journal, a connection and two ends in memory, in one crate above them, as those of the libraries below stand in
-//! `amqp_codec_tests`. They show what no clause says: octets of known connections, faults of devices, and that each call succeeds where memory is there.
+//! Tests of an endpoint, its journal and a connection, in one crate above them, as those of the libraries below stand in `amqp_codec_tests`. They
+//! show what no clause says: octets of known connections, faults of devices, and that each call succeeds where memory is there.
 //!
 //! | module | of |
 //! |---|---|
@@ -9,11 +9,6 @@
 //! | `ends` | what came before an end is had once |
 //! | `said` | what the peer said of itself, and of why it ended something |
 //! | `told` | what both attaches told of a link |
-//! | `growth` | each growth refused in turn |
-//! | `hostile` | a peer that breaks the rules, and devices that fail |
-//! | `world` | two ends that speak with each other |
-//!
-//! They are one crate, since each crate of tests reads all code below it before its first function.
 #![tactic(auto)]
 
 #[cfg(test)]
@@ -23,14 +18,8 @@ mod endpoint;
 #[cfg(test)]
 mod ends;
 #[cfg(test)]
-mod growth;
-#[cfg(test)]
-mod hostile;
-#[cfg(test)]
 mod journal;
 #[cfg(test)]
 mod said;
 #[cfg(test)]
 mod told;
-#[cfg(test)]
-mod world;

@@ -1,6 +1,6 @@
 //! Two deliveries of A's, with the ids 4294967295 and 0, on a link that A sends on and B receives on.
 
-use crate::world::calls::{Notes, does, hears};
+use crate::calls::{Notes, does, hears};
 use amqp_frames::{DeliveryState, Role};
 use amqp_rules::config::Config;
 use amqp_rules::op::{Op, Rejoin};

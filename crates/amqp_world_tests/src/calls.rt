@@ -1,6 +1,6 @@
 //! Calls on two ends, answered by yes or no, with a count of what came about.
 
-use crate::world::dice::Dice;
+use crate::dice::Dice;
 use amqp_rules::op::Op;
 use amqp_rules::reply::Given;
 use amqp_world::refusal::HearRefusal;

@@ -10,12 +10,21 @@
 //! | `lists` | what both journals say of deliveries |
 //! | `calls` | calls, answered by yes or no |
 //! | `dice` | the same numbers in each run |
+#![tactic(auto)]
 
+#[cfg(test)]
 mod acting;
+#[cfg(test)]
 mod calls;
+#[cfg(test)]
 mod dice;
+#[cfg(test)]
 mod growth;
+#[cfg(test)]
 mod lists;
+#[cfg(test)]
 mod passing;
+#[cfg(test)]
 mod random;
+#[cfg(test)]
 mod rejoining;

@@ -10,11 +10,19 @@
 //! | `sessions` | whole sessions, cut short and with octets replaced |
 //! | `devices` | a pump whose devices fail at each place, and move one octet at a time |
 //! | `bounds` | what a peer can make a connection keep |
+#![tactic(auto)]
 
+#[cfg(test)]
 mod bounds;
+#[cfg(test)]
 mod devices;
+#[cfg(test)]
 mod frames;
+#[cfg(test)]
 mod peer;
+#[cfg(test)]
 mod sessions;
+#[cfg(test)]
 mod text;
+#[cfg(test)]
 mod violations;

@@ -1,8 +1,8 @@
 //! Two ends that do what the dice say, and hear each other when the dice say so.
 
-use crate::world::acting::{FIRST, accept_all, turn};
-use crate::world::calls::{Notes, Tally, does, hears};
-use crate::world::lists::{count, count_taken, has_complete, journal, judge, source};
+use crate::acting::{FIRST, accept_all, turn};
+use crate::calls::{Notes, Tally, does, hears};
+use crate::lists::{count, count_taken, has_complete, journal, judge, source};
 use amqp_frames::Role;
 use amqp_rules::config::Config;
 use amqp_rules::op::Op;

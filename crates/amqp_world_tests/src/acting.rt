@@ -1,8 +1,8 @@
 //! Operations that the dice choose among those that are due, mostly.
 
-use crate::world::calls::{Notes, does, hears};
-use crate::world::dice::Dice;
-use crate::world::lists::{is_outcome, journal, source};
+use crate::calls::{Notes, does, hears};
+use crate::dice::Dice;
+use crate::lists::{is_outcome, journal, source};
 use amqp_frames::{DeliveryState, Role};
 use amqp_rules::op::Op;
 use amqp_rules::status::{LinkPhase, LinkStatus};
