@@ -69,11 +69,12 @@ impl From<AllocError> for ExchangeFault {
 
 type Tcp = Client<FromStd<TcpStream>, FromStd<TcpStream>>;
 
-/// Sends messages, learns what became of each, and tells it in a line: whether each was accepted, or sent settled.
+/// Sends messages, learns what became of each, and tells in four lines how many were accepted, rejected, released and modified. True where each was accepted,
+/// or they went settled.
 ///
 /// # Errors
 ///
-/// Where a socket fails or the peer ends, an operation is refused, memory is, or the line cannot be written.
+/// Where a socket fails or the peer ends, an operation is refused, memory is, or a line cannot be written. What error the peer told is told in a line before.
 pub fn run_send<R, W: Write>(
     rt: &R,
     alloc: Global,
@@ -93,7 +94,7 @@ where
     Ok(exchange.is_settled || outcomes.accepted == u64::from(exchange.count))
 }
 
-/// Takes messages, accepts each, and tells in a line how many there were.
+/// Takes messages, accepts each, and tells in two lines how many there were, and how many octets they had.
 ///
 /// # Errors
 ///
