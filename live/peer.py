@@ -1,8 +1,9 @@
 #!/usr/bin/python3
-"""One end by Qpid Proton, for live/run: peer.py send|receive listen|connect PORT COUNT SIZE OUTCOME [--settled].
+"""One end by Qpid Proton, for live/run: peer.py send|receive listen|connect PORT COUNT SIZE OUTCOME [--settled] [--labelled] [--late].
 
 It sends or takes COUNT messages of SIZE octets, tells the outcome (accept, release, reject, modify) of each that it takes, and
-prints one line: how many it had, or was told to be accepted.
+prints one line: how many it had, or was told to be accepted. With --labelled its messages are durable and have properties, and
+those that it takes count where they have the same. With --late it wants to hear something each second, and sends after three.
 """
 import sys
 
@@ -10,6 +11,7 @@ from proton import Delivery, Message
 from proton.handlers import MessagingHandler
 from proton.reactor import AtLeastOnce, AtMostOnce, Container
 
+LABELS = {"id": "m", "subject": "s", "correlation_id": "c", "reply_to": "r", "content_type": "text/plain", "durable": True}
 OUTCOMES = {"accept": Delivery.ACCEPTED, "release": Delivery.RELEASED, "reject": Delivery.REJECTED, "modify": Delivery.MODIFIED}
 
 
@@ -18,6 +20,7 @@ class End(MessagingHandler):
         super().__init__(auto_accept=False, prefetch=0)
         self.role, self.side, self.port, count, size, self.outcome = words[:6]
         self.count, self.size, self.is_settled = int(count), int(size), "--settled" in words
+        self.is_labelled, self.is_late = "--labelled" in words, "--late" in words
         self.begun = self.done = 0
         self.acceptor = None
 
@@ -33,22 +36,46 @@ class End(MessagingHandler):
         else:
             event.container.create_receiver(connection, "q", options=how)
 
+    def on_connection_bound(self, event):
+        if self.is_late:
+            event.transport.idle_timeout = 1
+
     def on_link_opened(self, event):
         if event.link.is_receiver:
             event.link.flow(10)
 
     def on_sendable(self, event):
-        while event.sender.credit and self.begun < self.count:
-            delivery = event.sender.send(Message(body=b"x" * self.size))
+        if self.is_late:
+            self.is_late, self.sender = False, event.sender
+            event.container.schedule(3, self)
+        else:
+            self.send(event.sender)
+
+    def on_timer_task(self, event):
+        self.send(self.sender)
+
+    def on_link_flow(self, event):
+        if event.link.is_sender and event.link.drain_mode:
+            self.send(event.link)
+            event.link.drained()
+
+    def send(self, sender):
+        labels = LABELS | {"properties": {"n": 7}} if self.is_labelled else {}
+        while sender.credit and self.begun < self.count:
+            delivery = sender.send(Message(body=b"x" * self.size, **labels))
             if self.is_settled:
                 delivery.settle()
             self.begun += 1
+
+    def is_wanted(self, message):
+        labels = LABELS if self.is_labelled else {}
+        return len(bytes(message.body)) == self.size and all(getattr(message, name) == value for name, value in labels.items())
 
     def on_message(self, event):
         if not event.delivery.settled:
             event.delivery.update(OUTCOMES[self.outcome])
             event.delivery.settle()
-        if len(bytes(event.message.body)) == self.size:
+        if self.is_wanted(event.message):
             self.done += 1
         event.receiver.flow(1)
         if self.side == "connect" and self.done == self.count:

@@ -1,13 +1,19 @@
 //! A connection with its devices.
 use crate::fault::ClientFault;
+use crate::waits::Waits;
 use amqp_conn::{
-    Config, Conn, Given, Left, Op, Pump, PumpEnd, PumpFault, Refusal, Role, Sink, Source,
+    Config, Conn, FromStd, Given, Left, Op, Phase, Pump, PumpEnd, PumpFault, Refusal, Role, Sink,
+    Source,
 };
 use std::alloc::{AllocError, Global};
+use std::io::{ErrorKind, Read, Write};
 
-/// One end of a connection over a source and a sink, for a program that does one thing after the other. Its journal's entries are let go as it goes on.
+/// One end of a connection over a reader and a writer, for a program that does one thing after the other. Its journal's entries are let go as it goes on.
+///
+/// A read may end with `WouldBlock` or `TimedOut` where nothing came for a [`TICK`](crate::TICK): such reads are the clock by which a beat is sent (part 2,
+/// 2.4.5) and a silent peer is left.
 #[derive(Drop)]
-pub struct Client<S, K> {
+pub struct Client<R, W> {
     pub(crate) alloc: Global,
     pub(crate) conn: Conn,
     /// The incoming window, in transfers.
@@ -15,12 +21,16 @@ pub struct Client<S, K> {
     /// Our attach went out: from here on a session that is not mapped is one that the peer has ended.
     pub(crate) is_opened: bool,
     pump: Pump,
-    source: S,
-    sink: K,
+    source: FromStd<R>,
+    sink: FromStd<W>,
+    waits: Waits,
 }
 
 /// The number of the one link.
 pub(crate) const LINK: u32 = 0;
+
+/// What the header of a SASL layer begins with (part 5, 5.3.1). No frame does: it would have more octets than any end takes.
+const SASL: [u8; 5] = [0x41, 0x4d, 0x51, 0x50, 3];
 
 /// What the peer says may change it.
 fn is_early(refusal: Refusal, is_opened: bool) -> bool {
@@ -35,8 +45,9 @@ fn is_early(refusal: Refusal, is_opened: bool) -> bool {
     }
 }
 
-impl<S: Source + Drop, K: Sink + Drop> Client<S, K> {
-    /// A connection of these settings over the devices. Nothing was written or read yet.
+impl<R: Drop, W: Drop> Client<R, W> {
+    /// A connection of these settings over the devices. Nothing was written or read yet. A peer of which nothing comes for so many seconds is left; none: it is
+    /// waited for.
     ///
     /// # Errors
     ///
@@ -44,9 +55,10 @@ impl<S: Source + Drop, K: Sink + Drop> Client<S, K> {
     pub fn new(
         alloc: Global,
         config: Config,
-        source: S,
-        sink: K,
-    ) -> Result<Client<S, K>, ClientFault> {
+        patience: Option<u32>,
+        reader: R,
+        writer: W,
+    ) -> Result<Client<R, W>, ClientFault> {
         let window = config.window;
         match Conn::new(alloc, config) {
             Ok(conn) => Ok(Client {
@@ -55,31 +67,83 @@ impl<S: Source + Drop, K: Sink + Drop> Client<S, K> {
                 window,
                 is_opened: false,
                 pump: Pump::new(),
-                source,
-                sink,
+                source: FromStd::new(reader),
+                sink: FromStd::new(writer),
+                waits: Waits::new(patience),
             }),
             Err(fault) => Err(ClientFault::Start(fault)),
         }
     }
 }
 
-impl<S: Source, K: Sink> Client<S, K> {
+impl<R: Read, W: Write> Client<R, W> {
     /// The connection, to be read.
     pub fn conn(&self) -> &Conn {
         &self.conn
     }
 
-    /// What was put out is written, and octets are read once, at most 4096, and fed.
+    /// What was put out is written, and octets are read once, at most 4096, and fed. Where the read ended in vain the turn is over, too. A beat is put out where
+    /// one is due.
     ///
     /// # Errors
     ///
-    /// `Closed` where the connection has ended, `EndOfInput` where the octets have, and `Pump`.
+    /// `Closed` where the connection has ended, `EndOfInput` where the octets have, `Silent` where the peer has said nothing for too long, `Sasl`, and `Pump`.
     pub fn turn(&mut self) -> Result<(), ClientFault> {
         match self.run_once() {
-            Ok(PumpEnd::TurnsOver) => Ok(()),
-            Ok(PumpEnd::Closed) => Err(ClientFault::Closed),
-            Ok(PumpEnd::EndOfInput) => Err(ClientFault::EndOfInput),
-            Err(fault) => Err(ClientFault::Pump(fault)),
+            Ok(PumpEnd::TurnsOver) => self.waits.hear(),
+            Ok(PumpEnd::Closed) => return Err(ClientFault::Closed),
+            Ok(PumpEnd::EndOfInput) => return Err(ClientFault::EndOfInput),
+            Err(fault) => self.wait_on(fault)?,
+        }
+        self.beat_if_due();
+        Ok(())
+    }
+
+    /// A read that ended in vain is no fault, until there were too many.
+    fn wait_on(&mut self, fault: PumpFault) -> Result<(), ClientFault> {
+        if fault != PumpFault::Read || !self.has_waited() {
+            return Err(self.fault_of(fault));
+        }
+        if self.waits.is_over() {
+            self.leave();
+            return Err(ClientFault::Silent);
+        }
+        Ok(())
+    }
+
+    /// Where the connection fell by its header, what was read and not fed says whether that was the header of a SASL layer.
+    fn fault_of(&self, fault: PumpFault) -> ClientFault {
+        if self.pump.rest().starts_with(&SASL) {
+            ClientFault::Sasl
+        } else {
+            ClientFault::Pump(fault)
+        }
+    }
+
+    /// Whether the read that failed ended since nothing came.
+    fn has_waited(&mut self) -> bool {
+        match self.source.take_error() {
+            Some(error) => {
+                let kind = error.kind();
+                drop(error);
+                kind == ErrorKind::WouldBlock || kind == ErrorKind::TimedOut
+            }
+            None => false,
+        }
+    }
+
+    /// Sends a beat where nothing of ours went out for long enough. One that is refused is tried again at the next turn.
+    fn beat_if_due(&mut self) {
+        let idle_time_out = match self.conn.peer() {
+            Some(open) => open.idle_time_out,
+            None => None,
+        };
+        let put_out = self.conn.logged().put_out();
+        if self.waits.is_beat_due(put_out, idle_time_out) && self.conn.phase() == Phase::Running {
+            match self.conn.apply(&Op::Beat) {
+                Ok(given) => drop(given),
+                Err(_) => {}
+            }
         }
     }
 
@@ -93,6 +157,14 @@ impl<S: Source, K: Sink> Client<S, K> {
         self.conn.forget();
         self.pump
             .run(&mut self.source, &mut self.sink, &mut self.conn, 1)
+    }
+
+    /// Writes what was put out, as far as that can be done. What is read on the way is fed.
+    pub(crate) fn write_out(&mut self) {
+        match self.run_once() {
+            Ok(_) => {}
+            Err(_) => {}
+        }
     }
 
     /// Does the operation as soon as what the peer says allows it.

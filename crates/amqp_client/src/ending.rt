@@ -1,9 +1,25 @@
 //! Link, session and connection end, each as agreed.
 use crate::client::{Client, LINK};
 use crate::fault::ClientFault;
-use amqp_conn::{Op, Phase, Refusal, Sink, Source, ops};
+use amqp_conn::{AmqpError, Boxed, Op, Phase, Refusal, Text, ops};
+use std::alloc::{AllocError, Global};
+use std::io::{Read, Write};
 
-impl<S: Source, K: Sink> Client<S, K> {
+/// What a peer is told that has said nothing for too long (part 2, 2.4.5 and 2.8.15).
+fn silence(alloc: Global) -> Result<Boxed<AmqpError>, AllocError> {
+    let condition = Text::new(alloc, "amqp:resource-limit-exceeded")?;
+    let description = Text::new(alloc, "nothing was heard for too long")?;
+    Boxed::new(
+        alloc,
+        AmqpError {
+            condition,
+            description: Some(description),
+            info: None,
+        },
+    )
+}
+
+impl<R: Read, W: Write> Client<R, W> {
     /// Detaches, ends and closes; each is awaited. Where the peer has closed first, that is the end, too.
     ///
     /// # Errors
@@ -45,6 +61,17 @@ impl<S: Source, K: Sink> Client<S, K> {
             self.turn()?;
         }
         Ok(())
+    }
+
+    /// Closes the connection of a peer that is silent. It is told so where it still reads; its answer is not awaited.
+    pub(crate) fn leave(&mut self) {
+        match silence(self.alloc) {
+            Ok(error) => match self.conn.close(Some(error)) {
+                Ok(()) => self.write_out(),
+                Err(_) => {}
+            },
+            Err(_) => {}
+        }
     }
 
     /// The close goes out behind the end, and the peer's is awaited.

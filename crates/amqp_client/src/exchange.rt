@@ -1,15 +1,16 @@
 //! The commands `send` and `receive`: messages to a peer, or from one, over TCP.
+use crate::bodies::{Bodies, Labels};
 use crate::client::Client;
 use crate::fault::ClientFault;
+use crate::printing::{Printed, write_taken};
 use crate::sending::Outcomes;
-use amqp_conn::{
-    AmqpError, Bytes, Config, Conn, DeliveryState, FromStd, Role, Sink, Source, Text, error_of,
-};
-use amqp_messages::{Message, write_message};
+use crate::waits::TICK;
+use amqp_conn::{AmqpError, Boxed, Config, Conn, DeliveryState, Role, Taken, Text, error_of};
 use std::alloc::{AllocError, Global};
 use std::io;
-use std::io::Write;
+use std::io::{BufRead, Read, Write};
 use std::net::{Net, OpenListener, TcpListener, TcpStream};
+use std::time::Duration;
 use thiserror::Error;
 
 /// So many messages are sent before it is learnt what became of them.
@@ -24,14 +25,46 @@ pub struct Exchange<'a> {
     pub is_listening: bool,
     /// Of the source or the target at the peer, where this end begins.
     pub address: &'a str,
-    /// How many messages.
+    /// This end's name, which is the link's, too.
+    pub container_id: &'a str,
+    /// The longest frame that this end takes, in octets: 512 at least.
+    pub max_frame: u32,
+    /// How many messages, but where `is_lines`.
     pub count: u32,
-    /// The octets of a message's body, for `send`.
+    /// A peer of which nothing comes for so many seconds is left; none: it is waited for.
+    pub patience: Option<u32>,
+    /// The octets of a message's body, for `send`, but where `is_lines`.
     pub size: u32,
+    /// Each line of the input is a message, for `send`.
+    pub is_lines: bool,
+    /// What each message tells beside its body, for `send`.
+    pub labels: Labels<'a>,
     /// Each message is sent settled, for `send`.
     pub is_settled: bool,
     /// How many messages may come at a time, for `receive`: 1 at least.
     pub credit: u32,
+    /// When credit is given, for `receive`.
+    pub renewal: Renewal,
+    /// What is printed of each message, for `receive`.
+    pub printed: Printed,
+}
+
+/// When `receive` gives credit.
+#[derive(Clone, Copy, Debug, PartialEq, Eq)]
+pub enum Renewal {
+    /// Again once it is used up: some peers take more than they were granted where it is given sooner.
+    AtZero,
+    /// Again once half of it is used.
+    AtHalf,
+    /// Until the peer gives it up: what is there is taken, and no message is waited for.
+    Drain,
+}
+
+/// What `send` has done.
+#[derive(Clone, Copy, Debug, PartialEq, Eq)]
+pub struct Sent {
+    pub count: u64,
+    pub outcomes: Outcomes,
 }
 
 /// What `receive` had.
@@ -40,6 +73,8 @@ pub struct Received {
     pub count: u64,
     /// Of whole messages, with the heads of their sections.
     pub octets: u64,
+    /// Of these messages, those that the peer was not told to be accepted, since the link was gone: it may send them again.
+    pub unsettled: u64,
 }
 
 /// Why an exchange fails.
@@ -49,6 +84,8 @@ pub enum ExchangeFault {
     Socket(io::Error),
     #[error("{0}")]
     Client(ClientFault),
+    #[error("a line cannot be read: {0}")]
+    In(io::Error),
     #[error("a write failed: {0}")]
     Out(io::Error),
     #[error("memory was refused")]
@@ -67,34 +104,37 @@ impl From<AllocError> for ExchangeFault {
     }
 }
 
-type Tcp = Client<FromStd<TcpStream>, FromStd<TcpStream>>;
+type Tcp = Client<TcpStream, TcpStream>;
 
-/// Sends messages, learns what became of each, and tells in four lines how many were accepted, rejected, released and modified. True where each was accepted,
-/// or they went settled.
+/// Sends messages, learns what became of each, and tells in six lines how many there were, and how many were accepted, rejected, released, modified, and settled
+/// without an outcome. True where each was accepted, or they went settled.
 ///
 /// # Errors
 ///
-/// Where a socket fails or the peer ends, an operation is refused, memory is, or a line cannot be written. What error the peer told is told in a line before.
-pub fn run_send<R, W: Write>(
+/// Where a socket fails or the peer ends, an operation is refused, memory is, or a line cannot be read or written. What error the peer told is told in a line
+/// before.
+pub fn run_send<R, I: BufRead, W: Write>(
     rt: &R,
     alloc: Global,
     exchange: &Exchange<'_>,
+    input: &mut I,
     out: &mut W,
 ) -> Result<bool, ExchangeFault>
 where
     R: Net<Stream = TcpStream>,
 {
     let mut client = meet(rt, alloc, exchange)?;
-    let sent = send_all(alloc, &mut client, exchange);
+    let sent = send_all(alloc, &mut client, exchange, input);
     let told = tell_error(out, &client, sent.is_err());
     drop(client);
     told.map_err(ExchangeFault::Out)?;
-    let outcomes = sent?;
-    tell_sent(out, &outcomes).map_err(ExchangeFault::Out)?;
-    Ok(exchange.is_settled || outcomes.accepted == u64::from(exchange.count))
+    let sent = sent?;
+    tell_sent(out, &sent).map_err(ExchangeFault::Out)?;
+    Ok(exchange.is_settled || sent.outcomes.accepted == sent.count)
 }
 
-/// Takes messages, accepts each, and tells in two lines how many there were, and how many octets they had.
+/// Takes messages, prints what is asked for of each, accepts it, and tells in three lines how many there were, how many octets they had, and how many could not be
+/// accepted; but where bodies are printed nothing beside them. True where each was accepted, or came settled.
 ///
 /// # Errors
 ///
@@ -104,22 +144,26 @@ pub fn run_receive<R, W: Write>(
     alloc: Global,
     exchange: &Exchange<'_>,
     out: &mut W,
-) -> Result<(), ExchangeFault>
+) -> Result<bool, ExchangeFault>
 where
     R: Net<Stream = TcpStream>,
 {
     let mut client = meet(rt, alloc, exchange)?;
-    let received = receive_all(alloc, &mut client, exchange);
+    let received = receive_all(alloc, &mut client, exchange, out);
     let told = tell_error(out, &client, received.is_err());
     drop(client);
     told.map_err(ExchangeFault::Out)?;
-    tell_received(out, received?).map_err(ExchangeFault::Out)
+    let received = received?;
+    if exchange.printed != Printed::Bodies {
+        tell_received(out, received).map_err(ExchangeFault::Out)?;
+    }
+    Ok(received.unsettled == 0)
 }
 
 /// Where it failed: the error that the peer told by its close, or by the frame that came last.
-fn tell_error<S: Source, K: Sink, W: Write>(
-    out: &mut W,
-    client: &Client<S, K>,
+fn tell_error<R: Read, W: Write, O: Write>(
+    out: &mut O,
+    client: &Client<R, W>,
     has_failed: bool,
 ) -> io::Result<()> {
     match last_error(client.conn()) {
@@ -147,17 +191,21 @@ fn tell_condition<W: Write>(out: &mut W, error: &AmqpError) -> io::Result<()> {
     out.flush()
 }
 
-fn tell_sent<W: Write>(out: &mut W, outcomes: &Outcomes) -> io::Result<()> {
+fn tell_sent<W: Write>(out: &mut W, sent: &Sent) -> io::Result<()> {
+    let outcomes = &sent.outcomes;
+    writeln!(out, "sent {}", sent.count)?;
     writeln!(out, "accepted {}", outcomes.accepted)?;
     writeln!(out, "rejected {}", outcomes.rejected)?;
     writeln!(out, "released {}", outcomes.released)?;
     writeln!(out, "modified {}", outcomes.modified)?;
+    writeln!(out, "unknown {}", outcomes.unknown)?;
     out.flush()
 }
 
 fn tell_received<W: Write>(out: &mut W, received: Received) -> io::Result<()> {
     writeln!(out, "received {}", received.count)?;
     writeln!(out, "octets {}", received.octets)?;
+    writeln!(out, "unsettled {}", received.unsettled)?;
     out.flush()
 }
 
@@ -168,7 +216,7 @@ fn meet<R: Net<Stream = TcpStream>>(
     exchange: &Exchange<'_>,
 ) -> Result<Tcp, ExchangeFault> {
     let stream = stream_of(rt, exchange).map_err(ExchangeFault::Socket)?;
-    client_over(alloc, stream)
+    client_over(alloc, stream, exchange)
 }
 
 fn stream_of<R: Net<Stream = TcpStream>>(rt: &R, exchange: &Exchange<'_>) -> io::Result<TcpStream> {
@@ -182,142 +230,287 @@ fn stream_of<R: Net<Stream = TcpStream>>(rt: &R, exchange: &Exchange<'_>) -> io:
     Ok(stream)
 }
 
-/// An end over the stream, under the program's name.
-pub fn client_over(alloc: Global, stream: TcpStream) -> Result<Tcp, ExchangeFault> {
-    let source = stream.try_clone().map_err(ExchangeFault::Socket)?;
-    let config = Config::new(Text::new(alloc, "amqp_peer")?);
-    Ok(Client::new(alloc, config, FromStd::new(source), FromStd::new(stream))?)
+/// An end over the stream. Its reads wait for a [`TICK`]; the peer is told half of what it is waited for (part 2, 2.4.5).
+pub fn client_over(
+    alloc: Global,
+    stream: TcpStream,
+    exchange: &Exchange<'_>,
+) -> Result<Tcp, ExchangeFault> {
+    let patience = exchange.patience;
+    let reader = reader_of(&stream, patience).map_err(ExchangeFault::Socket)?;
+    let config = Config {
+        max_frame: exchange.max_frame,
+        idle_time_out: half_of(patience),
+        ..Config::new(Text::new(alloc, exchange.container_id)?)
+    };
+    Ok(Client::new(alloc, config, patience, reader, stream)?)
+}
+
+/// A second hand on the stream, whose reads and writes have their limits.
+fn reader_of(stream: &TcpStream, patience: Option<u32>) -> io::Result<TcpStream> {
+    stream.set_read_timeout(Some(Duration::from_millis(u64::from(TICK))))?;
+    if let Some(seconds) = patience {
+        stream.set_write_timeout(Some(Duration::from_secs(u64::from(seconds))))?;
+    }
+    stream.try_clone()
+}
+
+/// Half of so many seconds, in milliseconds.
+fn half_of(patience: Option<u32>) -> Option<u32> {
+    match patience {
+        Some(seconds) => Some(seconds.saturating_mul(500)),
+        None => None,
+    }
 }
 
 /// The session and its link.
-fn begin<S: Source, K: Sink>(
+fn begin<R: Read, W: Write>(
     alloc: Global,
-    client: &mut Client<S, K>,
+    client: &mut Client<R, W>,
     exchange: &Exchange<'_>,
     role: Role,
 ) -> Result<(), ExchangeFault> {
     if exchange.is_listening {
         return Ok(client.answer(role)?);
     }
-    let name = Text::new(alloc, "amqp_peer")?;
+    let name = Text::new(alloc, exchange.container_id)?;
     let address = Text::new(alloc, exchange.address)?;
     Ok(client.open(&name, role, &address)?)
-}
-
-/// The octets, which others may share.
-fn shared(octets: Vec<u8>) -> Result<Bytes, AllocError> {
-    match Bytes::from_vec(octets) {
-        Ok(shared) => Ok(shared),
-        Err(_) => Err(AllocError),
-    }
-}
-
-/// A message of one data section with so many octets, each 78 hexadecimal.
-fn message_of(alloc: Global, size: u32) -> Result<Bytes, AllocError> {
-    let body = shared(vec![in alloc; 0x78u8; size as usize]?)?;
-    let message = Message::of_data(alloc, body)?;
-    let mut octets = Vec::new(alloc);
-    let written = write_message(&message, &mut octets);
-    drop(message);
-    match written {
-        Ok(()) => shared(octets),
-        Err(_) => Err(AllocError),
-    }
 }
 
 /// Sends all messages over this end, learns what became of each, and ends link, session and connection.
 ///
 /// # Errors
 ///
-/// Where the peer ends, an operation is refused, or memory is.
-pub fn send_all<S: Source, K: Sink>(
+/// Where the peer ends, an operation is refused, a line cannot be read, or memory is refused.
+pub fn send_all<R: Read, W: Write, I: BufRead>(
     alloc: Global,
-    client: &mut Client<S, K>,
+    client: &mut Client<R, W>,
     exchange: &Exchange<'_>,
-) -> Result<Outcomes, ExchangeFault> {
-    let message = message_of(alloc, exchange.size)?;
-    begin(alloc, client, exchange, Role::Sender)?;
-    let mut outcomes = Outcomes::NONE;
-    for first in (0..exchange.count).step_by(BATCH as usize) {
-        let end = first.saturating_add(BATCH).min(exchange.count);
-        send_batch(client, exchange, &message, first, end, &mut outcomes)?;
-    }
-    client.finish()?;
-    Ok(outcomes)
+    input: &mut I,
+) -> Result<Sent, ExchangeFault> {
+    let mut bodies = Bodies::new(alloc, exchange)?;
+    let sent = send_bodies(alloc, client, exchange, &mut bodies, input);
+    drop(bodies);
+    sent
 }
 
-/// Sends the messages of these numbers, and learns what became of each, unless they go settled.
-fn send_batch<S: Source, K: Sink>(
-    client: &mut Client<S, K>,
+fn send_bodies<R: Read, W: Write, I: BufRead>(
+    alloc: Global,
+    client: &mut Client<R, W>,
     exchange: &Exchange<'_>,
-    message: &Bytes,
+    bodies: &mut Bodies<'_>,
+    input: &mut I,
+) -> Result<Sent, ExchangeFault> {
+    begin(alloc, client, exchange, Role::Sender)?;
+    let mut sent = Sent {
+        count: 0,
+        outcomes: Outcomes::NONE,
+    };
+    for first in (0..u32::MAX).step_by(BATCH as usize) {
+        let count = send_batch(client, exchange, bodies, input, first)?;
+        if !exchange.is_settled {
+            learn_batch(client, first, count, &mut sent.outcomes)?;
+        }
+        sent.count = sent.count.saturating_add(u64::from(count));
+        if count < BATCH {
+            break;
+        }
+    }
+    client.finish()?;
+    Ok(sent)
+}
+
+/// Sends messages from this number on, `BATCH` at most: how many. Fewer are the last ones.
+fn send_batch<R: Read, W: Write, I: BufRead>(
+    client: &mut Client<R, W>,
+    exchange: &Exchange<'_>,
+    bodies: &mut Bodies<'_>,
+    input: &mut I,
     first: u32,
-    end: u32,
+) -> Result<u32, ExchangeFault> {
+    for place in 0..BATCH {
+        let number = first.saturating_add(place);
+        if !send_next(client, exchange, bodies, input, number)? {
+            return Ok(place);
+        }
+    }
+    Ok(BATCH)
+}
+
+/// False where there is no message more.
+fn send_next<R: Read, W: Write, I: BufRead>(
+    client: &mut Client<R, W>,
+    exchange: &Exchange<'_>,
+    bodies: &mut Bodies<'_>,
+    input: &mut I,
+    number: u32,
+) -> Result<bool, ExchangeFault> {
+    match bodies.next(input)? {
+        Some(message) => {
+            let sent = client.send(number, &message, exchange.is_settled);
+            drop(message);
+            sent?;
+            Ok(true)
+        }
+        None => Ok(false),
+    }
+}
+
+/// Learns what became of so many messages from this number on: `BATCH` at most. What is told of one once more is passed over.
+fn learn_batch<R: Read, W: Write>(
+    client: &mut Client<R, W>,
+    first: u32,
+    count: u32,
     outcomes: &mut Outcomes,
 ) -> Result<(), ClientFault> {
-    for number in first..end {
-        client.send(number, message, exchange.is_settled)?;
-    }
-    if exchange.is_settled {
-        return Ok(());
-    }
-    for _ in first..end {
-        client.learn(outcomes)?;
+    let mut known = [false; BATCH as usize];
+    let mut left = count;
+    for _ in 0..u64::MAX {
+        if left == 0 {
+            break;
+        }
+        let told = client.learn()?;
+        if is_new(&mut known, told.number.wrapping_sub(first)) {
+            outcomes.count(told.outcome);
+            left = left.saturating_sub(1);
+        }
     }
     Ok(())
 }
 
-/// Takes all messages over this end, accepts each, and ends link, session and connection.
+/// Whether the one at this place was not marked yet; it is then.
+fn is_new(known: &mut [bool], place: u32) -> bool {
+    match known.get_mut(place as usize) {
+        Some(mark) => {
+            let was_known = *mark;
+            *mark = true;
+            !was_known
+        }
+        None => false,
+    }
+}
+
+/// Takes all messages over this end, prints what is asked for of each, accepts it, and ends link, session and connection.
 ///
 /// # Errors
 ///
-/// Those of `send_all`.
-pub fn receive_all<S: Source, K: Sink>(
+/// Where the peer ends, an operation is refused, a write fails, or memory is refused.
+pub fn receive_all<R: Read, W: Write, O: Write>(
     alloc: Global,
-    client: &mut Client<S, K>,
+    client: &mut Client<R, W>,
     exchange: &Exchange<'_>,
+    out: &mut O,
 ) -> Result<Received, ExchangeFault> {
     begin(alloc, client, exchange, Role::Receiver)?;
     let mut received = Received {
         count: 0,
         octets: 0,
+        unsettled: 0,
     };
-    for number in 0..exchange.count {
-        renew(client, exchange, exchange.count.saturating_sub(number))?;
-        let octets = take_and_accept(client)?;
-        received.count = received.count.saturating_add(1);
-        received.octets = received.octets.saturating_add(octets);
+    match exchange.renewal {
+        Renewal::Drain => drain_all(alloc, client, exchange, &mut received, out)?,
+        _ => take_all(alloc, client, exchange, &mut received, out)?,
     }
     client.finish()?;
     Ok(received)
 }
 
-/// Credit is given again once it is used up, and never for more messages than are still wanted. Sooner would spare a wait, but some peers then take more than
-/// they were granted.
-fn renew<S: Source, K: Sink>(
-    client: &mut Client<S, K>,
+/// Takes as many messages as are asked for.
+fn take_all<R: Read, W: Write, O: Write>(
+    alloc: Global,
+    client: &mut Client<R, W>,
+    exchange: &Exchange<'_>,
+    received: &mut Received,
+    out: &mut O,
+) -> Result<(), ExchangeFault> {
+    for number in 0..exchange.count {
+        renew(client, exchange, exchange.count.saturating_sub(number))?;
+        let taken = client.take()?;
+        accept(alloc, client, exchange.printed, taken, received, out)?;
+    }
+    Ok(())
+}
+
+/// Takes messages until the peer has no more, or there were as many as are asked for.
+fn drain_all<R: Read, W: Write, O: Write>(
+    alloc: Global,
+    client: &mut Client<R, W>,
+    exchange: &Exchange<'_>,
+    received: &mut Received,
+    out: &mut O,
+) -> Result<(), ExchangeFault> {
+    let mut given = 0;
+    for _ in 0..exchange.count {
+        renew_drain(client, exchange, received.count, &mut given)?;
+        match client.take_drained()? {
+            Some(taken) => accept(alloc, client, exchange.printed, taken, received, out)?,
+            None if last_error(client.conn()).is_some() => return Err(ClientFault::Ended.into()),
+            None => return Ok(()),
+        }
+    }
+    Ok(())
+}
+
+/// Credit is given again once so many messages were taken as were granted until now.
+fn renew_drain<R: Read, W: Write>(
+    client: &mut Client<R, W>,
+    exchange: &Exchange<'_>,
+    taken: u64,
+    given: &mut u64,
+) -> Result<(), ClientFault> {
+    if client.is_gone() {
+        return Ok(());
+    }
+    if taken == *given {
+        let wanted = u64::from(exchange.count).saturating_sub(taken);
+        let credit = wanted.min(u64::from(exchange.credit)) as u32;
+        client.drain(credit)?;
+        *given = given.saturating_add(u64::from(credit));
+    }
+    client.renew_window()
+}
+
+/// Credit is given again as is asked for, and never for more messages than are still wanted.
+fn renew<R: Read, W: Write>(
+    client: &mut Client<R, W>,
     exchange: &Exchange<'_>,
     wanted: u32,
 ) -> Result<(), ClientFault> {
     if client.is_gone() {
         return Ok(());
     }
-    if client.credit() == 0 {
+    let least = match exchange.renewal {
+        Renewal::AtHalf => exchange.credit / 2,
+        _ => 0,
+    };
+    let credit = client.credit();
+    if credit <= least && credit < wanted {
         client.grant(exchange.credit.min(wanted))?;
     }
     client.renew_window()
 }
 
-/// How many octets the message has.
-fn take_and_accept<S: Source, K: Sink>(client: &mut Client<S, K>) -> Result<u64, ClientFault> {
-    let taken = client.take()?;
+/// Counts the message, prints what is asked for of it, and accepts it unless it came settled.
+fn accept<R: Read, W: Write, O: Write>(
+    alloc: Global,
+    client: &mut Client<R, W>,
+    printed: Printed,
+    taken: Boxed<Taken>,
+    received: &mut Received,
+    out: &mut O,
+) -> Result<(), ExchangeFault> {
     let (id, is_settled, octets) = {
         let taken = taken.get();
         (taken.id, taken.settled, taken.payload.len() as u64)
     };
+    let written = write_taken(alloc, printed, &taken.get().payload, out);
     drop(taken);
-    if !is_settled {
-        client.settle_as(id, DeliveryState::Accepted)?;
+    written?;
+    received.count = received.count.saturating_add(1);
+    received.octets = received.octets.saturating_add(octets);
+    if !is_settled && !client.settle_as(id, DeliveryState::Accepted)? {
+        received.unsettled = received.unsettled.saturating_add(1);
     }
-    Ok(octets)
+    Ok(())
 }

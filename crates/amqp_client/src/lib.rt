@@ -6,22 +6,30 @@
 //! | `opening` | the session and its one link: asked of the peer, or answered as it asks |
 //! | `sending` | messages go out, and what became of each is learnt ([`Outcomes`]) |
 //! | `receiving` | messages are taken, and settled |
+//! | `waits` | how long a peer is waited for, and when it is sent a beat |
+//! | `bodies` | messages to be sent: so many of one size, or lines |
+//! | `printing` | messages that were taken, as text |
 //! | `ending` | link, session and connection end, each as agreed |
 //! | `exchange` | the commands `send` and `receive`, over TCP |
 //! | `fault` | why a client stops |
 //!
-//! Each call waits in a read until the peer has said what it needs, or the octets end. It has no clock: whoever wants one sets a time limit on the device's
-//! reads, which then fail.
+//! Each call waits in a read until the peer has said what it needs, or the octets end. It has no clock: a device whose reads end in vain after a tick is one.
 #![tactic(auto)]
 
+mod bodies;
 mod client;
 mod ending;
 pub mod exchange;
 mod fault;
 mod opening;
+mod printing;
 mod receiving;
 mod sending;
+mod waits;
 
+pub use bodies::Labels;
 pub use client::Client;
 pub use fault::ClientFault;
-pub use sending::Outcomes;
+pub use printing::Printed;
+pub use sending::{Outcome, Outcomes, Told};
+pub use waits::TICK;

@@ -1,9 +1,10 @@
 //! The session and its one link.
 use crate::client::{Client, LINK, had};
 use crate::fault::ClientFault;
-use amqp_conn::{Boxed, Conn, LinkEnd, Op, Refusal, Role, Sink, Source, Text, Value, ops};
+use amqp_conn::{Boxed, Conn, LinkEnd, Op, Refusal, Role, Text, Value, ops};
 use amqp_performatives::copying::copy_value;
 use std::alloc::AllocError;
+use std::io::{Read, Write};
 
 /// The peer has begun its session.
 fn has_begun(conn: &Conn) -> bool {
@@ -44,7 +45,7 @@ fn termini_of(end: &LinkEnd) -> Result<(Option<Boxed<Value>>, Option<Boxed<Value
     Ok((source, target))
 }
 
-impl<S: Source, K: Sink> Client<S, K> {
+impl<R: Read, W: Write> Client<R, W> {
     /// Begins the session, and attaches a link of this name, for this role of ours, with this address at the peer.
     ///
     /// # Errors

@@ -1,7 +1,8 @@
 //! Messages are taken, and settled.
 use crate::client::{Client, LINK};
 use crate::fault::ClientFault;
-use amqp_conn::{Boxed, DeliveryState, Given, Left, Op, Refusal, Role, Sink, Source, Taken, ops};
+use amqp_conn::{Boxed, DeliveryState, Given, Left, Op, Refusal, Role, Taken, ops};
+use std::io::{Read, Write};
 
 fn taken_of(given: Given) -> Option<Boxed<Taken>> {
     match given {
@@ -17,7 +18,7 @@ fn left_of(left: Left) -> Option<Boxed<Taken>> {
     }
 }
 
-impl<S: Source, K: Sink> Client<S, K> {
+impl<R: Read, W: Write> Client<R, W> {
     /// Gives the peer credit for so many messages.
     ///
     /// # Errors
@@ -25,6 +26,20 @@ impl<S: Source, K: Sink> Client<S, K> {
     /// Those of `apply`.
     pub fn grant(&mut self, credit: u32) -> Result<(), ClientFault> {
         self.perform(ops::grant(LINK, credit))
+    }
+
+    /// Gives the peer credit for so many messages, which it is to use up or to give up (part 2, 2.6.7).
+    ///
+    /// # Errors
+    ///
+    /// Those of `apply`.
+    pub fn drain(&mut self, credit: u32) -> Result<(), ClientFault> {
+        self.perform(Op::Grant {
+            link: LINK,
+            credit,
+            drain: true,
+            echo: false,
+        })
     }
 
     /// How many messages the peer may still send.
@@ -49,6 +64,47 @@ impl<S: Source, K: Sink> Client<S, K> {
         Err(ClientFault::Closed)
     }
 
+    /// Takes the next message of a link that is drained; none once the credit is used up or given up.
+    ///
+    /// # Errors
+    ///
+    /// Those of `apply`.
+    pub fn take_drained(&mut self) -> Result<Option<Boxed<Taken>>, ClientFault> {
+        for _ in 0..u64::MAX {
+            let op = ops::take(LINK);
+            let answer = self.conn.apply(&op);
+            drop(op);
+            match answer {
+                Ok(given) => return Ok(taken_of(given)),
+                Err(_) if self.is_gone() => return self.take_last(),
+                Err(Refusal::Nothing) => {}
+                Err(refusal) => return Err(ClientFault::Refused(refusal)),
+            }
+            if self.is_drained() {
+                return Ok(None);
+            }
+            self.turn()?;
+        }
+        Ok(None)
+    }
+
+    /// What the link left, which is gone.
+    fn take_last(&mut self) -> Result<Option<Boxed<Taken>>, ClientFault> {
+        match self.conn.pop_left_by(Role::Receiver, LINK) {
+            Ok(Some(left)) => Ok(left_of(left)),
+            Ok(None) => Ok(None),
+            Err(_) => Err(ClientFault::NoMemory),
+        }
+    }
+
+    /// No message may come any more, and none has begun.
+    fn is_drained(&self) -> bool {
+        match self.conn.logged().endpoint().status(LINK) {
+            Some(status) => status.credit == 0 && !status.mid,
+            None => true,
+        }
+    }
+
     /// What the link gives, or what it left where it is gone.
     fn take_once(&mut self) -> Result<Option<Boxed<Taken>>, ClientFault> {
         let op = ops::take(LINK);
@@ -67,16 +123,16 @@ impl<S: Source, K: Sink> Client<S, K> {
         }
     }
 
-    /// Tells the peer what becomes of the message with this id, and settles it (part 2, 2.6.12). Where the peer has settled it, or the link is being left,
-    /// nothing more is told of it.
+    /// Tells the peer what becomes of the message with this id, and settles it (part 2, 2.6.12). False where the link is gone: nothing is told of it then, and
+    /// the peer may send it again. Where the peer has settled it nothing more is told, and nothing is wanted.
     ///
     /// # Errors
     ///
     /// Those of `apply`.
-    pub fn settle_as(&mut self, id: u32, state: DeliveryState) -> Result<(), ClientFault> {
+    pub fn settle_as(&mut self, id: u32, state: DeliveryState) -> Result<bool, ClientFault> {
         if self.is_gone() {
             drop(state);
-            return Ok(());
+            return Ok(false);
         }
         let told = self.perform(Op::Dispose {
             role: Role::Receiver,
@@ -86,8 +142,9 @@ impl<S: Source, K: Sink> Client<S, K> {
             state: Some(state),
         });
         match told {
-            Err(ClientFault::Refused(Refusal::NothingHeld)) => Ok(()),
-            told => told,
+            Err(ClientFault::Refused(Refusal::NothingHeld)) => Ok(!self.is_gone()),
+            Err(fault) => Err(fault),
+            Ok(()) => Ok(true),
         }
     }
 

@@ -3,9 +3,8 @@ ghost use Rattle.std.specs.Prelude.{◌<◌};
 
 use crate::client::{Client, LINK};
 use crate::fault::ClientFault;
-use amqp_conn::{
-    Bytes, DeliveryState, Given, Learned, Left, Op, Refusal, Role, Sink, Source, Tag, ops,
-};
+use amqp_conn::{Bytes, DeliveryState, Given, Learned, Left, Op, Refusal, Role, Tag, ops};
+use std::io::{Read, Write};
 
 /// What a transfer takes of a frame beside its payload, in octets, and more.
 const HEAD: u32 = 128;
@@ -24,22 +23,25 @@ pub struct Outcomes {
     pub unknown: u64,
 }
 
-/// What was told of a delivery.
+/// What was told of a message.
 #[derive(Clone, Copy)]
-struct Told {
+pub struct Told {
+    /// The message's number.
+    pub number: u32,
+    pub outcome: Outcome,
     id: u32,
     settled: bool,
-    outcome: Outcome,
 }
 
-#[derive(Clone, Copy, PartialEq, Eq)]
-enum Outcome {
+/// What became of a message (part 3, 3.4).
+#[derive(Clone, Copy, Debug, PartialEq, Eq)]
+pub enum Outcome {
     Accepted,
     Rejected,
     Released,
     Modified,
-    /// A state that is no outcome, or none.
-    None,
+    /// It was settled without an outcome, or what was told is none.
+    Unknown,
 }
 
 impl Outcomes {
@@ -52,13 +54,14 @@ impl Outcomes {
         unknown: 0,
     };
 
-    fn count(&mut self, outcome: Outcome) {
+    /// One more.
+    pub fn count(&mut self, outcome: Outcome) {
         let counted = match outcome {
             Outcome::Accepted => &mut self.accepted,
             Outcome::Rejected => &mut self.rejected,
             Outcome::Released => &mut self.released,
             Outcome::Modified => &mut self.modified,
-            Outcome::None => &mut self.unknown,
+            Outcome::Unknown => &mut self.unknown,
         };
         *counted = counted.saturating_add(1);
     }
@@ -70,7 +73,7 @@ fn outcome_of(state: &Option<DeliveryState>) -> Outcome {
         Some(DeliveryState::Rejected(_)) => Outcome::Rejected,
         Some(DeliveryState::Released) => Outcome::Released,
         Some(DeliveryState::Modified { .. }) => Outcome::Modified,
-        _ => Outcome::None,
+        _ => Outcome::Unknown,
     }
 }
 
@@ -83,9 +86,18 @@ fn told_by(given: &Given) -> Option<Told> {
 
 fn told_of(learned: &Learned) -> Told {
     Told {
+        number: number_of(&learned.tag),
+        outcome: outcome_of(&learned.state),
         id: learned.id,
         settled: learned.settled,
-        outcome: outcome_of(&learned.state),
+    }
+}
+
+/// The number that `send` put into the tag.
+fn number_of(tag: &Tag) -> u32 {
+    match tag.octets().split_first_chunk::<4>() {
+        Some((number, _)) => u32::from_be_bytes(*number),
+        None => 0,
     }
 }
 
@@ -113,7 +125,7 @@ fn part(message: &Bytes, from: usize, most: usize) -> Result<Bytes, ClientFault>
     }
 }
 
-impl<S: Source, K: Sink> Client<S, K> {
+impl<R: Read, W: Write> Client<R, W> {
     /// How many octets of a message one transfer takes: as the peer's frames have room.
     fn in_a_transfer(&self) -> usize
         ensures { 0 < result }
@@ -173,21 +185,22 @@ impl<S: Source, K: Sink> Client<S, K> {
         }
     }
 
-    /// Learns what became of the next message that the peer tells of, and settles it where the peer has not. What came before an end of the link is had, too.
+    /// Learns of which message the peer tells next that it is settled or what became of it, and settles it where the peer has not. A peer may tell the one
+    /// behind the other: then both are learnt. What came before an end of the link is had, too.
     ///
     /// # Errors
     ///
     /// Those of `apply`.
-    pub fn learn(&mut self, outcomes: &mut Outcomes) -> Result<(), ClientFault> {
+    pub fn learn(&mut self) -> Result<Told, ClientFault> {
         for _ in 0..u64::MAX {
             if let Some(told) = self.learn_once()? {
-                if told.settled || told.outcome != Outcome::None {
-                    outcomes.count(told.outcome);
-                    return self.settle(told);
+                if told.settled || told.outcome != Outcome::Unknown {
+                    self.settle(told)?;
+                    return Ok(told);
                 }
             }
         }
-        Ok(())
+        Err(ClientFault::Refused(Refusal::Nothing))
     }
 
     /// What is told next: by the link, or by what it left where it is gone.
@@ -216,17 +229,21 @@ impl<S: Source, K: Sink> Client<S, K> {
         }
     }
 
-    /// Settles the delivery, unless the peer has (part 2, 2.6.12).
+    /// Settles the delivery, unless the peer has (part 2, 2.6.12), be it in a disposition that is not learnt yet.
     fn settle(&mut self, told: Told) -> Result<(), ClientFault> {
         if told.settled {
             return Ok(());
         }
-        self.perform(Op::Dispose {
+        let answer = self.perform(Op::Dispose {
             role: Role::Sender,
             first: told.id,
             last: told.id,
             settled: true,
             state: None,
-        })
+        });
+        match answer {
+            Err(ClientFault::Refused(Refusal::NothingHeld)) => Ok(()),
+            answer => answer,
+        }
     }
 }

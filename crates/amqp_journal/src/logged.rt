@@ -391,8 +391,7 @@ impl Logged {
         ensures some { IfSome result (λ x. (find (is_left_by role link) self.old.left ≡ Some x) × (self.new ≡ record self.old { left = remove_first (is_left_by role link) self.old.left })) }
         ensures none { IfNone result ((find (is_left_by role link) self.old.left ≡ None) × (self.new ≡ self.old)) }
     {
-        let place = place_of(&self.left, role, link)?;
-        self.left.remove(place)
+        take_by(&mut self.left, role, link)
     }
 
     /// How many things were left by links that are gone, and not popped.
@@ -613,6 +612,15 @@ fn is_left_by(left: &Left, role: Role, link: u32) -> bool
             Left::Outcome(_, learned) => learned.get().link == link,
         },
     }
+}
+
+/// Takes the first such thing out.
+fn take_by(left: &mut VecDeque<Left>, role: Role, link: u32) -> Option<Left>
+    ensures some { IfSome result (λ x. (find (is_left_by role link) left.old.items ≡ Some x) × (left.new.items ≡ remove_first (is_left_by role link) left.old.items)) }
+    ensures none { IfNone result ((find (is_left_by role link) left.old.items ≡ None) × (left.new ≡ left.old)) }
+{
+    let place = place_of(left, role, link)?;
+    left.remove(place)
 }
 
 /// The place of the first such thing.

@@ -3,7 +3,7 @@ ghost use Rattle.std.specs.Prelude.{IfOk, IfSome};
 ghost use Rattle.amqp_peer.specs.Requests.{IsAllowed};
 
 use crate::options;
-use crate::options::{USUAL, config_of, direction_of, exchange_of, explained_of};
+use crate::options::{USUAL, config_of, direction_of, explained_of, receive_of, send_of};
 use amqp_client::exchange::Exchange;
 use amqp_endpoint::config::Config;
 use amqp_pair::{MAX_CONSUMERS, MAX_COUNT, MAX_CREDIT, MAX_SIZE, Options};
@@ -72,10 +72,10 @@ fn request_of<'a>(matches: &ArgMatches<'a>) -> Option<Request<'a>>
         return Some(Request::Rows);
     }
     if let Some(options) = matches.subcommand_matches("send") {
-        return Some(Request::Send(exchange_of(options)?));
+        return Some(Request::Send(send_of(options)?));
     }
     if let Some(options) = matches.subcommand_matches("receive") {
-        return Some(Request::Receive(exchange_of(options)?));
+        return Some(Request::Receive(receive_of(options)?));
     }
     if let Some(options) = matches.subcommand_matches("trace") {
         return Some(Request::Trace(direction_of(options), options.get_flag("raw")));

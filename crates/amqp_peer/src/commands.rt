@@ -60,19 +60,15 @@ where
             run_pair(rt, alloc, &options, writer)?;
             Ok(DONE)
         }
-        Request::Send(exchange) => {
-            if run_send(rt, alloc, &exchange, writer)? {
-                Ok(DONE)
-            } else {
-                Ok(FAULT)
-            }
-        }
-        Request::Receive(exchange) => {
-            run_receive(rt, alloc, &exchange, writer)?;
-            Ok(DONE)
-        }
+        Request::Send(exchange) => Ok(status_if(run_send(rt, alloc, &exchange, reader, writer)?)),
+        Request::Receive(exchange) => Ok(status_if(run_receive(rt, alloc, &exchange, writer)?)),
         Request::Rows => bail!("a row that runs rows"),
     }
+}
+
+/// The status of messages that were exchanged.
+fn status_if(is_whole: bool) -> u8 {
+    if is_whole { DONE } else { FAULT }
 }
 
 /// The status of a command line that was not read: want of memory is no fault of its words.

@@ -1,12 +1,19 @@
 //! The commands `script`, `conn`, `frames`, `rows`, `trace`, `explain`, `send` and `receive` with their options. Each option is made where it is added: one that is owned over
 //! the way out of another costs its proof there.
 
-use amqp_client::exchange::Exchange;
+use amqp_client::exchange::{Exchange, Renewal};
+use amqp_client::{Labels, Printed};
 use amqp_rules::config::{Config, MAX_JOURNAL_LIMIT, MAX_WINDOW};
 use amqp_script::explain::{Explained, find_fault, find_refusal, find_violation};
 use amqp_trace::Direction;
 use clap::{Arg, ArgAction, ArgMatches, Command, value_parser};
 use std::alloc::{AllocError, Global};
+
+/// The least that a peer may be told to keep its frames to, in octets (part 2, 2.7.1).
+const MIN_MAX_FRAME: u32 = 512;
+
+/// The most seconds that a peer may be waited for, half of which it is told in milliseconds.
+const MAX_PATIENCE: i64 = 8_589_934;
 
 /// The settings where no option is given.
 pub const USUAL: Config = Config {
@@ -108,22 +115,51 @@ pub fn explained_of(options: &ArgMatches<'_>) -> Option<Explained> {
 /// The command `send` with its options.
 pub fn send<'a>(alloc: Global) -> Result<Command<'a>, AllocError> {
     let about = "Sends messages to a peer over TCP, and tells what became of them";
-    with_peer(alloc, Command::new(alloc, "send").about(about))?
-        .arg(usual(alloc, "size", "The octets of a message's body", "16"))?
-        .arg(flag(
-            alloc,
-            "settled",
-            "The messages go settled: nothing is told of them",
-        ))
+    with_labels(
+        alloc,
+        with_peer(alloc, Command::new(alloc, "send").about(about))?,
+    )?
+    .arg(usual(alloc, "size", "The octets of a message's body", "16"))?
+    .arg(flag(alloc, "lines", "Each line of standard input is a message"))?
+    .arg(flag(
+        alloc,
+        "settled",
+        "The messages go settled: nothing is told of them",
+    ))
+}
+
+/// The command, with the options that say what each message tells beside its body.
+fn with_labels<'a>(alloc: Global, command: Command<'a>) -> Result<Command<'a>, AllocError> {
+    command
+        .arg(label(alloc, "message-id", "The messages' message-id, a string"))?
+        .arg(label(alloc, "correlation-id", "Their correlation-id, a string"))?
+        .arg(label(alloc, "subject", "Their subject"))?
+        .arg(label(alloc, "reply-to", "Their reply-to"))?
+        .arg(label(alloc, "content-type", "Their content-type"))?
+        .arg(flag(alloc, "durable", "They are durable"))
+}
+
+/// A text that may be left off.
+fn label<'a>(alloc: Global, name: &'static str, help: &'static str) -> Arg<'a> {
+    Arg::new(alloc, name)
+        .long(name)
+        .value_name("TEXT")
+        .help(help)
 }
 
 /// The command `receive` with its options.
 pub fn receive<'a>(alloc: Global) -> Result<Command<'a>, AllocError> {
     let about = "Takes messages from a peer over TCP, and accepts them";
     let credit = "How many messages may come at a time";
-    with_peer(alloc, Command::new(alloc, "receive").about(about))?.arg(usual(
-        alloc, "credit", credit, "10",
-    ).value_parser(value_parser!(u32).range(1..)))
+    let half = "Gives credit again once half of it is used, and not all";
+    let lines = "Prints the body of each message, and a line's end";
+    let sections = "Prints a line for each section of each message";
+    with_peer(alloc, Command::new(alloc, "receive").about(about))?
+        .arg(usual(alloc, "credit", credit, "10").value_parser(value_parser!(u32).range(1..)))?
+        .arg(flag(alloc, "half", half))?
+        .arg(drain(alloc)?)?
+        .arg(flag(alloc, "lines", lines))?
+        .arg(flag(alloc, "sections", sections))
 }
 
 /// The command, with the options that say who the peer is, and of how many messages.
@@ -144,6 +180,9 @@ fn with_peer<'a>(alloc: Global, command: Command<'a>) -> Result<Command<'a>, All
         ))?
         .arg(port(alloc))?
         .arg(flag(alloc, "listen", "The peer connects and begins"))?
+        .arg(patience(alloc))?
+        .arg(text(alloc, "container-id", "This end's name", "amqp_peer"))?
+        .arg(max_frame(alloc))?
         .arg(count.value_parser(value_parser!(u32).range(1..)))
 }
 
@@ -153,6 +192,32 @@ fn text<'a>(alloc: Global, name: &'static str, help: &'static str, usual: &'stat
         .value_name("TEXT")
         .default_value(usual)
         .help(help)
+}
+
+fn drain<'a>(alloc: Global) -> Result<Arg<'a>, AllocError> {
+    flag(
+        alloc,
+        "drain",
+        "Takes what is there, and waits for no message",
+    )
+    .conflicts_with("half")
+}
+
+fn max_frame<'a>(alloc: Global) -> Arg<'a> {
+    Arg::new(alloc, "max-frame")
+        .long("max-frame")
+        .value_name("N")
+        .value_parser(value_parser!(u32).range(i64::from(MIN_MAX_FRAME)..))
+        .default_value("65536")
+        .help("The longest frame that this end takes, in octets")
+}
+
+fn patience<'a>(alloc: Global) -> Arg<'a> {
+    Arg::new(alloc, "timeout")
+        .long("timeout")
+        .value_name("SECONDS")
+        .value_parser(value_parser!(u32).range(1..=MAX_PATIENCE))
+        .help("After so long without an octet the peer is left")
 }
 
 fn port<'a>(alloc: Global) -> Arg<'a> {
@@ -179,18 +244,77 @@ fn usual<'a>(
         .help(help)
 }
 
-/// What `send` or `receive` is to do. What one of them has no option for is as usual.
-pub fn exchange_of<'a>(options: &ArgMatches<'a>) -> Option<Exchange<'a>> {
+/// What a `send` is to do.
+pub fn send_of<'a>(options: &ArgMatches<'a>) -> Option<Exchange<'a>> {
+    Some(Exchange {
+        size: options.get_one::<u32>("size")?,
+        is_lines: options.get_flag("lines"),
+        labels: labels_of(options),
+        is_settled: options.get_flag("settled"),
+        ..exchange_of(options)?
+    })
+}
+
+/// What a `receive` is to do.
+pub fn receive_of<'a>(options: &ArgMatches<'a>) -> Option<Exchange<'a>> {
+    Some(Exchange {
+        credit: options.get_one::<u32>("credit")?,
+        renewal: renewal_of(options),
+        printed: printed_of(options),
+        ..exchange_of(options)?
+    })
+}
+
+/// What both have options for; the rest is as usual.
+fn exchange_of<'a>(options: &ArgMatches<'a>) -> Option<Exchange<'a>> {
     Some(Exchange {
         host: options.get_str("host")?,
         port: options.get_one::<u16>("port")?,
         is_listening: options.get_flag("listen"),
         address: options.get_str("address")?,
-        count: options.get_one::<u32>("count").unwrap_or(1),
-        size: options.get_one::<u32>("size").unwrap_or(0),
-        is_settled: options.get_flag("settled"),
-        credit: options.get_one::<u32>("credit").unwrap_or(1),
+        container_id: options.get_str("container-id")?,
+        max_frame: options.get_one::<u32>("max-frame")?,
+        count: options.get_one::<u32>("count")?,
+        patience: options.get_one::<u32>("timeout"),
+        size: 0,
+        is_lines: false,
+        labels: Labels::NONE,
+        is_settled: false,
+        credit: 1,
+        renewal: Renewal::AtZero,
+        printed: Printed::Nothing,
     })
+}
+
+fn labels_of<'a>(options: &ArgMatches<'a>) -> Labels<'a> {
+    Labels {
+        is_durable: options.get_flag("durable"),
+        message_id: options.get_str("message-id"),
+        correlation_id: options.get_str("correlation-id"),
+        subject: options.get_str("subject"),
+        reply_to: options.get_str("reply-to"),
+        content_type: options.get_str("content-type"),
+    }
+}
+
+fn renewal_of(options: &ArgMatches<'_>) -> Renewal {
+    if options.get_flag("drain") {
+        Renewal::Drain
+    } else if options.get_flag("half") {
+        Renewal::AtHalf
+    } else {
+        Renewal::AtZero
+    }
+}
+
+fn printed_of(options: &ArgMatches<'_>) -> Printed {
+    if options.get_flag("sections") {
+        Printed::Sections
+    } else if options.get_flag("lines") {
+        Printed::Bodies
+    } else {
+        Printed::Nothing
+    }
 }
 
 /// An option without a value.

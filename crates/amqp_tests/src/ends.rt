@@ -5,12 +5,10 @@ use amqp_conn::*;
 use std::alloc::{AllocError, Global};
 use std::test::Fail;
 
-/// Header, open and begin of the peer, each fed by itself.
-const GREETING: [&str; 3] = [
-    "414d5150 00010000",
-    "0000001a02000000 005310c00d04 a10161 40 7000010000 600000",
-    "0000001702000000 005311c00a04 40 43 5205 707fffffff",
-];
+/// Header, open and begin of the peer.
+const GREETING: &str = "414d5150 00010000
+     0000001a02000000 005310c00d04 a10161 40 7000010000 600000
+     0000001702000000 005311c00a04 40 43 5205 707fffffff";
 
 /// The peer's attach of `q`, on which it sends, that of `p`, on which we send, and a flow that gives three credits for it.
 const LINKS: &str = "0000001a02000000 005312c00d0a a10171 43 42 404040404040 43
@@ -290,14 +288,20 @@ fn starts(alloc: Global, conn: &mut Conn, tag: u8) -> Result<(), AllocError> {
     Ok(())
 }
 
+/// Hears what this text spells, before anything is counted.
+fn hears_text(alloc: Global, conn: &mut Conn, text: &str) -> Result<(), AllocError> {
+    let octets = octets(alloc, text)?;
+    hears(conn, &mut NONE, octets.as_slice());
+    drop(octets);
+    Ok(())
+}
+
 /// Begins, attaches `p` as link 0 and `q` as link 1, grants five deliveries, and starts three.
 fn sets_up(alloc: Global, conn: &mut Conn) -> Result<(), AllocError> {
-    for text in GREETING {
-        hears(conn, &mut NONE, octets(alloc, text)?.as_slice());
-    }
+    hears_text(alloc, conn, GREETING)?;
     does(conn, &mut NONE, ops::begin());
     attaches(alloc, conn, "p", Role::Sender)?;
-    hears(conn, &mut NONE, octets(alloc, LINKS)?.as_slice());
+    hears_text(alloc, conn, LINKS)?;
     attaches(alloc, conn, "q", Role::Receiver)?;
     does(conn, &mut NONE, ops::grant(1, 5));
     for tag in 0..3 {
@@ -313,8 +317,10 @@ fn lives(alloc: Global, conn: &mut Conn, way: Way, dice: u32) -> Result<Tally, A
     sets_up(alloc, conn)?;
     let said = spoken(alloc, way, &mut dice)?;
     hears_cut(conn, &mut tally, said.as_slice(), &mut dice);
+    drop(said);
     let answer = octets(alloc, ends(conn, &mut tally, way))?;
     hears_cut(conn, &mut tally, answer.as_slice(), &mut dice);
+    drop(answer);
     pops_all(conn, &mut tally);
     Ok(tally)
 }
@@ -329,6 +335,7 @@ fn lives_at_once(
     sets_up(alloc, conn)?;
     let said = spoken(alloc, Way::Hears(end), &mut 0)?;
     hears(conn, &mut tally, said.as_slice());
+    drop(said);
     let left = conn.left_len()?;
     pops_all(conn, &mut tally);
     Ok((left, tally))

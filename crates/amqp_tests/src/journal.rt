@@ -96,7 +96,9 @@ fn operation(alloc: Global, place: u32) -> Result<Op, AllocError> {
 }
 
 fn does(conn: &mut Conn, op: Op) -> Result<(), Fail> {
-    match conn.apply(&op) {
+    let answer = conn.apply(&op);
+    drop(op);
+    match answer {
         Ok(given) => {
             drop(given);
             Ok(())

@@ -23,20 +23,33 @@ struct Told {
 
 /// A source or a target, by its code, of this address alone.
 fn is_terminus(value: &Option<Boxed<Value>>, code: u64, address: &str) -> bool {
-    let Some(value) = value else {
-        return false;
-    };
-    let Value::Described(descriptor, fields) = value.get() else {
-        return false;
-    };
-    let Value::List(fields) = fields.get() else {
-        return false;
-    };
-    let is_named = match fields.as_slice().get(0) {
-        Some(Value::Str(text)) => text.as_str() == address,
+    match value {
+        Some(value) => match value.get() {
+            Value::Described(descriptor, fields) => {
+                is_code(descriptor.get(), code) && is_address(fields.get(), address)
+            }
+            _ => false,
+        },
+        None => false,
+    }
+}
+
+fn is_code(value: &Value, code: u64) -> bool {
+    match value {
+        Value::Ulong(found) => *found == code,
         _ => false,
-    };
-    is_named && fields.len() == 1 && *descriptor.get() == Value::Ulong(code)
+    }
+}
+
+/// A list of this string alone.
+fn is_address(value: &Value, address: &str) -> bool {
+    match value {
+        Value::List(fields) => match fields.as_slice().first() {
+            Some(Value::Str(text)) => text.as_str() == address && fields.len() == 1,
+            _ => false,
+        },
+        _ => false,
+    }
 }
 
 /// The symbol `address`.
@@ -87,15 +100,30 @@ fn attach(alloc: Global) -> Result<Op, AllocError> {
 }
 
 fn does(conn: &mut Conn, op: Op) -> bool {
-    conn.apply(&op).is_ok()
+    let answer = conn.apply(&op);
+    drop(op);
+    match answer {
+        Ok(given) => {
+            drop(given);
+            true
+        }
+        Err(_) => false,
+    }
+}
+
+/// The peer's octets, each of which is used.
+fn is_heard(alloc: Global, conn: &mut Conn) -> Result<bool, AllocError> {
+    let octets = octets(alloc, HEARD)?;
+    let answer = hears(conn, octets.as_slice());
+    drop(octets);
+    Ok(answer)
 }
 
 /// What the connection shows of its first link; and again once it has attached that link and forgotten all entries.
 fn shown(alloc: Global, conn: &mut Conn) -> Result<[(Option<Told>, Option<Told>); 2], AllocError> {
     let none = (None, None);
     let mut shown = [none; 2];
-    let heard = octets(alloc, HEARD)?;
-    if !hears(conn, heard.as_slice()) || !does(conn, Op::Begin) {
+    if !is_heard(alloc, conn)? || !does(conn, Op::Begin) {
         return Ok(shown);
     }
     shown[0] = conn.logged().endpoint().link_of(0).map_or(none, told_by);

@@ -10,6 +10,7 @@
 //! | `text` | a line, which has printable characters alone |
 //!
 //! - [`frame_line`], [`header_line`]: the line of what went in a [`Direction`]; [`Protocol`]: what a header says
+//! - [`value_line`]: the line of a value
 //! - [`Line`]: its text
 //! - [`type_name`], [`field_names`], [`each_field_has_a_name`]: the table of names
 #![tactic(auto)]
@@ -23,3 +24,4 @@ mod values;
 pub use frame::{Direction, Protocol, each_field_has_a_name, frame_line, header_line};
 pub use names::{field_names, type_name};
 pub use text::Line;
+pub use values::value_line;

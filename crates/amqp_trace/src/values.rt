@@ -5,8 +5,19 @@ ghost use Rattle.amqp_trace.specs.Names.{AreNames};
 
 use crate::names::find_named;
 use crate::text::Line;
-use amqp_types::Value;
-use std::alloc::AllocError;
+use amqp_types::{MAX_DEPTH, Value};
+use std::alloc::{AllocError, Global};
+
+/// The value as text: all of it, where it lies as deep as values that are read.
+///
+/// # Errors
+///
+/// Want of memory.
+pub fn value_line(alloc: Global, value: &Value) -> Result<Line, AllocError> {
+    let mut line = Line::new(alloc);
+    put_value(&mut line, value, MAX_DEPTH)?;
+    Ok(line)
+}
 
 /// Puts the value behind the text; `..` stands for parts that lie deeper.
 #[cycle(showing)]

@@ -1,0 +1,261 @@
+//! Messages to be sent: so many of one size, or the lines of an input.
+use crate::exchange::{Exchange, ExchangeFault};
+use amqp_conn::{Bytes, Text, Value};
+use amqp_messages::{Header, Message, Properties, Section, SectionKind, write_message};
+use amqp_types::Items;
+use std::alloc::{AllocError, Global};
+use std::io::BufRead;
+
+/// What each message that is sent tells beside its body (part 3, 3.2.1 and 3.2.4).
+#[derive(Clone, Copy, Debug)]
+pub struct Labels<'a> {
+    pub is_durable: bool,
+    pub message_id: Option<&'a str>,
+    pub correlation_id: Option<&'a str>,
+    pub subject: Option<&'a str>,
+    pub reply_to: Option<&'a str>,
+    /// A symbol, as `text/plain`.
+    pub content_type: Option<&'a str>,
+}
+
+impl Labels<'_> {
+    /// None of them.
+    pub const NONE: Labels<'static> = Labels {
+        is_durable: false,
+        message_id: None,
+        correlation_id: None,
+        subject: None,
+        reply_to: None,
+        content_type: None,
+    };
+
+    fn has_properties(&self) -> bool {
+        self.message_id.is_some()
+            || self.correlation_id.is_some()
+            || self.subject.is_some()
+            || self.reply_to.is_some()
+            || self.content_type.is_some()
+    }
+}
+
+/// A text of ours, where there is one.
+fn text_of(alloc: Global, text: Option<&str>) -> Result<Option<Text>, AllocError> {
+    match text {
+        Some(text) => Ok(Some(Text::new(alloc, text)?)),
+        None => Ok(None),
+    }
+}
+
+/// A string, where there is one.
+fn string_of(alloc: Global, text: Option<&str>) -> Result<Option<Value>, AllocError> {
+    match text_of(alloc, text) {
+        Ok(Some(text)) => Ok(Some(Value::Str(text))),
+        Ok(None) => Ok(None),
+        Err(error) => Err(error),
+    }
+}
+
+fn header_of(alloc: Global) -> Result<Section, AllocError> {
+    Header {
+        durable: Some(true),
+        priority: None,
+        ttl: None,
+        first_acquirer: None,
+        delivery_count: None,
+    }
+    .to_section(alloc)
+}
+
+/// The values of properties.
+#[derive(Drop)]
+struct Told {
+    message_id: Option<Value>,
+    correlation_id: Option<Value>,
+    reply_to: Option<Value>,
+    subject: Option<Text>,
+    content_type: Option<Text>,
+}
+
+/// None of them.
+const NOTHING: Told = Told {
+    message_id: None,
+    correlation_id: None,
+    reply_to: None,
+    subject: None,
+    content_type: None,
+};
+
+fn tell(alloc: Global, labels: &Labels<'_>, told: &mut Told) -> Result<(), AllocError> {
+    told.message_id = string_of(alloc, labels.message_id)?;
+    told.correlation_id = string_of(alloc, labels.correlation_id)?;
+    told.reply_to = string_of(alloc, labels.reply_to)?;
+    told.subject = text_of(alloc, labels.subject)?;
+    told.content_type = text_of(alloc, labels.content_type)?;
+    Ok(())
+}
+
+fn lent_text(text: &Option<Text>) -> Option<&str> {
+    match text {
+        Some(text) => Some(text.as_str()),
+        None => None,
+    }
+}
+
+fn properties_of(told: &Told) -> Properties<'_> {
+    Properties {
+        message_id: told.message_id.as_ref(),
+        user_id: None,
+        to: None,
+        subject: lent_text(&told.subject),
+        reply_to: told.reply_to.as_ref(),
+        correlation_id: told.correlation_id.as_ref(),
+        content_type: lent_text(&told.content_type),
+        content_encoding: None,
+        absolute_expiry_time: None,
+        creation_time: None,
+        group_id: None,
+        group_sequence: None,
+        reply_to_group_id: None,
+    }
+}
+
+fn properties_section(alloc: Global, labels: &Labels<'_>) -> Result<Section, AllocError> {
+    let mut told = NOTHING;
+    let section = section_of(alloc, labels, &mut told);
+    drop(told);
+    section
+}
+
+fn section_of(alloc: Global, labels: &Labels<'_>, told: &mut Told) -> Result<Section, AllocError> {
+    tell(alloc, labels, told)?;
+    properties_of(told).to_section(alloc)
+}
+
+/// Puts the sections in front of a body.
+fn put_labels(
+    alloc: Global,
+    labels: &Labels<'_>,
+    sections: &mut Items<Section>,
+) -> Result<(), AllocError> {
+    if labels.is_durable {
+        sections.push(header_of(alloc)?)?;
+    }
+    if labels.has_properties() {
+        sections.push(properties_section(alloc, labels)?)?;
+    }
+    Ok(())
+}
+
+/// The sections of a message with this body, one data section, behind what the labels tell.
+fn sections_of(
+    alloc: Global,
+    labels: &Labels<'_>,
+    body: Bytes,
+) -> Result<Items<Section>, AllocError> {
+    let mut sections = Items::new(alloc);
+    let put = match put_labels(alloc, labels, &mut sections) {
+        Ok(()) => sections.push(Section {
+            kind: SectionKind::Data,
+            body: Value::Binary(body),
+        }),
+        Err(error) => {
+            drop(body);
+            Err(error)
+        }
+    };
+    match put {
+        Ok(()) => Ok(sections),
+        Err(error) => {
+            drop(sections);
+            Err(error)
+        }
+    }
+}
+
+/// The octets, which others may share.
+fn shared(octets: Vec<u8>) -> Result<Bytes, AllocError> {
+    match Bytes::from_vec(octets) {
+        Ok(shared) => Ok(shared),
+        Err(_) => Err(AllocError),
+    }
+}
+
+/// The octets of such a message.
+fn message_of(alloc: Global, labels: &Labels<'_>, body: Bytes) -> Result<Bytes, AllocError> {
+    let sections = sections_of(alloc, labels, body)?;
+    let message = Message { sections };
+    let mut octets = Vec::new(alloc);
+    let written = write_message(&message, &mut octets);
+    drop(message);
+    match written {
+        Ok(()) => shared(octets),
+        Err(_) => Err(AllocError),
+    }
+}
+
+/// Which messages are sent.
+#[derive(Drop)]
+pub(crate) struct Bodies<'a> {
+    alloc: Global,
+    labels: Labels<'a>,
+    /// What is sent again and again; none where lines of the input are.
+    same: Option<Bytes>,
+    /// How many more times.
+    left: u32,
+}
+
+impl<'a> Bodies<'a> {
+    /// The messages of this exchange.
+    pub(crate) fn new(alloc: Global, exchange: &Exchange<'a>) -> Result<Bodies<'a>, AllocError> {
+        let labels = exchange.labels;
+        let same = if exchange.is_lines {
+            None
+        } else {
+            let body = shared(vec![in alloc; 0x78u8; exchange.size as usize]?)?;
+            Some(message_of(alloc, &labels, body)?)
+        };
+        Ok(Bodies {
+            alloc,
+            labels,
+            same,
+            left: exchange.count,
+        })
+    }
+
+    /// The next message; none where there are no more.
+    ///
+    /// # Errors
+    ///
+    /// `In` where a line cannot be read, and `NoMemory`.
+    pub(crate) fn next<I: BufRead>(
+        &mut self,
+        input: &mut I,
+    ) -> Result<Option<Bytes>, ExchangeFault> {
+        match &self.same {
+            Some(same) => {
+                if self.left == 0 {
+                    return Ok(None);
+                }
+                self.left -= 1;
+                Ok(Some(same.clone()?))
+            }
+            None => self.next_line(input),
+        }
+    }
+
+    /// The next line as a message, without its end.
+    fn next_line<I: BufRead>(&self, input: &mut I) -> Result<Option<Bytes>, ExchangeFault> {
+        let mut line = Vec::new(self.alloc);
+        if let Err(error) = input.read_until(b'\n', &mut line) {
+            return Err(ExchangeFault::In(error));
+        }
+        if line.is_empty() {
+            return Ok(None);
+        }
+        if line.last() == Some(&b'\n') {
+            line.pop();
+        }
+        let body = shared(line)?;
+        Ok(Some(message_of(self.alloc, &self.labels, body)?))
+    }
+}
