@@ -1,29 +1,34 @@
 //! Many connections on one thread, over mio's poll.
 use crate::device::Socket;
+use crate::door::{Admitted, DOOR, Door, Welcome};
 use crate::handler::Handler;
 use crate::seat::Ended;
 use crate::slots::{Returned, Round, Slots};
 use crate::times::Limits;
 use amqp_conn::Conn;
-use mio::net::TcpStream;
+use mio::net::{TcpListener, TcpStream};
 use mio::{Events, Interest, Poll, Token};
 use std::alloc::{AllocError, Global};
 use std::io;
-use std::net::Net;
+use std::net::{Net, SocketAddr};
 use std::time::Duration;
 
-/// How long a turn waits at most behind one in which memory was refused, in milliseconds.
+/// How long a turn waits at most behind one in which memory was refused, or where a peer could not be let in, in milliseconds.
 const PAUSE: u64 = 10;
+
+/// How many peers are let in at once.
+const PEERS: usize = 64;
 
 /// Many connections on one thread: each over a stream of its own, which does not wait, in a slot of its own.
 ///
-/// A program adds connections, and calls `turn` and `take_ended` in a loop. Which streams are ready is told by the system, and no clause leans on it: a slot
+/// A program adds connections, or listens for peers, and calls `turn`, `admit` and `take_ended` in a loop. Which streams are ready is told by the system, and no clause leans on it: a slot
 /// that is served too often reads and writes nothing.
 #[derive(Drop)]
 pub struct Driver<H> {
     poll: Poll,
     events: Events,
     slots: Slots<Socket, H>,
+    door: Option<Door>,
     /// Memory was refused in the last turn.
     is_short: bool,
 }
@@ -47,6 +52,7 @@ impl<H: Handler + Drop> Driver<H> {
             poll,
             events: Events::with_capacity(alloc, events)?,
             slots: Slots::new(alloc),
+            door: None,
             is_short: false,
         })
     }
@@ -105,6 +111,76 @@ impl<H: Handler + Drop> Driver<H> {
         let _ = self.poll.registry().deregister(stream.stream_mut());
     }
 
+    /// From here on peers may connect at this listener, and at no other: `admit` lets them in.
+    ///
+    /// # Errors
+    ///
+    /// Where the system does not register it.
+    pub fn listen(&mut self, mut listener: TcpListener) -> io::Result<()> {
+        self.poll
+            .registry()
+            .register(&mut listener, DOOR, Interest::READABLE)?;
+        self.door = Some(Door::new(listener));
+        Ok(())
+    }
+
+    /// Lets peers in that have connected, at most 64, each into a slot of its own. One that is turned away finds its stream closed.
+    ///
+    /// # Errors
+    ///
+    /// Where the system gives no peer, mostly since a process may have no file more. Those before are let in. It waits, and is asked for in the next call.
+    pub fn admit<M: Welcome<H>>(&mut self, welcomes: &mut M) -> io::Result<Admitted> {
+        let mut admitted = Admitted {
+            added: 0,
+            turned_away: 0,
+        };
+        for _ in 0..PEERS {
+            match self.next_peer()? {
+                Some((stream, from)) => {
+                    if self.admit_one(stream, from, welcomes) {
+                        admitted.added = admitted.added.wrapping_add(1);
+                    } else {
+                        admitted.turned_away = admitted.turned_away.wrapping_add(1);
+                    }
+                }
+                None => break,
+            }
+        }
+        Ok(admitted)
+    }
+
+    fn next_peer(&mut self) -> io::Result<Option<(TcpStream, SocketAddr)>> {
+        match &mut self.door {
+            Some(door) => door.next(),
+            None => Ok(None),
+        }
+    }
+
+    fn admit_one<M: Welcome<H>>(
+        &mut self,
+        stream: TcpStream,
+        from: SocketAddr,
+        welcomes: &mut M,
+    ) -> bool {
+        match welcomes.welcome(from) {
+            Some((conn, handler)) => self.is_added(stream, conn, handler),
+            None => {
+                drop(stream);
+                false
+            }
+        }
+    }
+
+    fn is_added(&mut self, stream: TcpStream, conn: Conn, handler: H) -> bool {
+        match self.add(stream, conn, handler) {
+            Ok(_) => true,
+            Err(not_added) => {
+                drop(not_added);
+                false
+            }
+        }
+    }
+
     /// Waits at most so long for streams that are ready, or without an end, and serves each slot once that is to be served: with one read of at most 65536
     /// octets. It does not wait where a slot has more to be done.
     ///
@@ -122,20 +198,30 @@ impl<H: Handler + Drop> Driver<H> {
         let timeout = self.at_most(timeout);
         self.poll.poll(&mut self.events, timeout)?;
         for event in &self.events {
-            self.slots.wake(event.token().0);
+            if event.token() == DOOR {
+                wake_door(&mut self.door);
+            } else {
+                self.slots.wake(event.token().0);
+            }
         }
         Ok(())
     }
 
-    /// How long a turn waits: where memory was refused it lets some time pass, so that it does not spin.
+    /// How long a turn waits: not at all where there is something to do; where memory was refused or a peer could not be let in it lets some time pass, so
+    /// that it does not spin.
     fn at_most(&self, timeout: Option<Duration>) -> Option<Duration> {
-        if !self.slots.is_any_due() {
-            return timeout;
+        let (is_open, is_stuck) = match &self.door {
+            Some(door) => (door.is_open(), door.is_stuck()),
+            None => (false, false),
+        };
+        let is_due = self.slots.is_any_due();
+        if is_open || is_due && !self.is_short {
+            return Some(Duration::ZERO);
         }
-        if self.is_short {
+        if is_stuck || is_due {
             return Some(Duration::from_millis(PAUSE));
         }
-        Some(Duration::ZERO)
+        timeout
     }
 
     /// The slot under the key is served in the next turn, whether its stream is ready or not: its handler goes on.
@@ -162,5 +248,12 @@ impl<H: Handler + Drop> Driver<H> {
             }
             None => None,
         }
+    }
+}
+
+/// Peers wait at the listener, where there is one.
+fn wake_door(door: &mut Option<Door>) {
+    if let Some(door) = door {
+        door.wake();
     }
 }

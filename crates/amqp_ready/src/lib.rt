@@ -14,6 +14,7 @@
 //! | `seat` | a slot, and how far it is ([`Stage`]); what is left of it ([`Ended`]) |
 //! | `slots` | [`Slots`]: slots by key, and which of them are to be served |
 //! | `times` | how long slots may take ([`Limits`]), on a clock that the program hands in |
+//! | `door` | peers that connect ([`Welcome`], [`Admitted`]) |
 //! | `driver` | [`Driver`]: slots over mio's poll |
 //!
 //! What becomes of a slot:
@@ -24,6 +25,7 @@
 //! ```
 
 mod device;
+mod door;
 mod driver;
 mod fault;
 mod feeding;
@@ -38,6 +40,7 @@ mod slots;
 mod times;
 
 pub use device::{Moved, NonBlocking, Socket};
+pub use door::{Admitted, Welcome};
 pub use driver::{Driver, NotAdded};
 pub use fault::SlotFault;
 pub use handler::{Handler, Next};

@@ -1,7 +1,7 @@
 //! Connections over sockets of the loopback, both ends on one thread.
 use crate::peer::connection;
-use amqp_conn::{Given, Phase, Refusal};
-use amqp_ready::{Driver, Handler, Lent, Next, Round, SlotFault};
+use amqp_conn::{Conn, Given, Phase, Refusal};
+use amqp_ready::{Admitted, Driver, Handler, Lent, Next, Round, SlotFault, Welcome};
 use mio::net::{TcpListener, TcpStream};
 use std::alloc::Global;
 use std::io;
@@ -109,5 +109,70 @@ fn a_peer_that_goes_ends_its_slot_alone(rt: HostRuntime) -> Result<(), Fail> {
     );
     assert_eq!(rt; driver.slots().len(), 1);
     drop(silent);
+    Ok(())
+}
+
+/// Lets so many peers in.
+#[derive(Drop)]
+struct Lets {
+    alloc: Global,
+    left: u32,
+}
+
+impl Welcome<Closes> for Lets {
+    fn welcome(&mut self, _from: SocketAddr) -> Option<(Conn, Closes)> {
+        if self.left == 0 {
+            return None;
+        }
+        self.left -= 1;
+        match connection(self.alloc) {
+            Some(conn) => Some((conn, Closes)),
+            None => None,
+        }
+    }
+}
+
+/// Two peers at a listener of the driver's, whose near ends are its own too.
+fn listens<R: Net>(rt: &R, alloc: Global, driver: &mut Driver<Closes>) -> io::Result<bool> {
+    let here = SocketAddr::new(IpAddr::V4(Ipv4Addr::new(127, 0, 0, 1)), 0);
+    let listener = TcpListener::bind(rt, here)?;
+    let there = listener.local_addr()?;
+    driver.listen(listener)?;
+    let is_first = add(alloc, driver, TcpStream::connect(rt, there)?);
+    Ok(add(alloc, driver, TcpStream::connect(rt, there)?) && is_first)
+}
+
+/// Turns, and lets peers in, until no slot is left: what became of the peers, and how many slots ended without a fault.
+fn turn_to_all_ends(driver: &mut Driver<Closes>, lets: &mut Lets) -> io::Result<(Admitted, usize)> {
+    let mut all = Admitted {
+        added: 0,
+        turned_away: 0,
+    };
+    let mut well = 0usize;
+    for _ in 0..1000 {
+        if driver.slots().is_empty() {
+            break;
+        }
+        let _: Round = driver.turn(Some(Duration::from_secs(9)))?;
+        let admitted = driver.admit(lets)?;
+        all.added = all.added.saturating_add(admitted.added);
+        all.turned_away = all.turned_away.saturating_add(admitted.turned_away);
+        if fault_of(driver) == Some(None) {
+            well = well.saturating_add(1);
+        }
+    }
+    Ok((all, well))
+}
+
+#[test]
+fn peers_are_let_in_or_turned_away(rt: HostRuntime) -> Result<(), Fail> {
+    let alloc = rt.alloc();
+    let mut driver = Driver::new(&rt, alloc, 8)?;
+    assert!(rt; listens(&rt, alloc, &mut driver)?);
+    let mut lets = Lets { alloc, left: 1 };
+    let (admitted, well) = turn_to_all_ends(&mut driver, &mut lets)?;
+    assert_eq!(rt; admitted.added, 1);
+    assert_eq!(rt; admitted.turned_away, 1);
+    assert_eq!(rt; well, 2);
     Ok(())
 }
