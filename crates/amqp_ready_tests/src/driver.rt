@@ -1,7 +1,7 @@
 //! Connections over sockets of the loopback, both ends on one thread.
 use crate::peer::connection;
 use amqp_conn::{Conn, Given, Phase, Refusal};
-use amqp_ready::{Admitted, Driver, Handler, Lent, Next, Round, SlotFault, Welcome};
+use amqp_ready::{Admitted, Driver, Handler, Lent, Next, NotAdded, Round, SlotFault, Welcome};
 use mio::net::{TcpListener, TcpStream};
 use std::alloc::Global;
 use std::io;
@@ -54,14 +54,31 @@ fn accept(listener: &TcpListener) -> io::Result<(TcpStream, SocketAddr)> {
 /// A connection more over this stream.
 fn add(alloc: Global, driver: &mut Driver<Closes>, stream: TcpStream) -> bool {
     match connection(alloc) {
-        Some(conn) => driver.add(stream, conn, Closes).is_ok(),
-        None => false,
+        Some(conn) => is_added(driver.add(stream, conn, Closes)),
+        None => {
+            drop(stream);
+            false
+        }
+    }
+}
+
+fn is_added(answer: Result<usize, NotAdded<Closes>>) -> bool {
+    match answer {
+        Ok(_) => true,
+        Err(not_added) => {
+            drop(not_added);
+            false
+        }
     }
 }
 
 fn fault_of(driver: &mut Driver<Closes>) -> Option<Option<SlotFault>> {
     match driver.take_ended() {
-        Some(ended) => Some(ended.fault),
+        Some(ended) => {
+            let fault = ended.fault;
+            drop(ended);
+            Some(fault)
+        }
         None => None,
     }
 }
@@ -78,38 +95,31 @@ fn turn_to_an_end(driver: &mut Driver<Closes>) -> io::Result<Option<Option<SlotF
     Ok(None)
 }
 
-#[test]
-fn connections_end_over_sockets(rt: HostRuntime) -> Result<(), Fail> {
-    let alloc = rt.alloc();
-    let mut driver = Driver::new(&rt, alloc, 8)?;
-    let (near, far) = ends(&rt)?;
-    assert!(rt; add(alloc, &mut driver, near));
-    assert!(rt; add(alloc, &mut driver, far));
-    assert_eq!(rt; turn_to_an_end(&mut driver)?, Some(None));
-    assert_eq!(rt; turn_to_an_end(&mut driver)?, Some(None));
-    assert!(rt; driver.slots().is_empty());
-    Ok(())
+/// Both ends of a socket are slots of one driver, and end.
+fn both_close<R: Net>(rt: &R, alloc: Global, driver: &mut Driver<Closes>) -> io::Result<bool> {
+    let (near, far) = ends(rt)?;
+    let is_near = add(alloc, driver, near);
+    let is_far = add(alloc, driver, far);
+    let first = turn_to_an_end(driver)?;
+    let second = turn_to_an_end(driver)?;
+    let are_well = first == Some(None) && second == Some(None);
+    Ok(is_near && is_far && are_well && driver.slots().is_empty())
 }
 
-#[test]
-fn a_peer_that_goes_ends_its_slot_alone(rt: HostRuntime) -> Result<(), Fail> {
-    let alloc = rt.alloc();
-    let mut driver = Driver::new(&rt, alloc, 8)?;
-    let (near, far) = ends(&rt)?;
-    let (other, silent) = ends(&rt)?;
-    assert!(rt; add(alloc, &mut driver, near));
-    assert!(rt; add(alloc, &mut driver, other));
+/// Of two peers one goes: its slot ends, and the other does not.
+fn one_goes<R: Net>(rt: &R, alloc: Global, driver: &mut Driver<Closes>) -> io::Result<bool> {
+    let (near, far) = ends(rt)?;
+    let is_near = add(alloc, driver, near);
     drop(far);
-    let ended = turn_to_an_end(&mut driver)?;
-    assert!(rt;
-        matches!(
-            ended,
-            Some(Some(SlotFault::EndOfInput | SlotFault::Read | SlotFault::Write))
-        )
-    );
-    assert_eq!(rt; driver.slots().len(), 1);
+    let (other, silent) = ends(rt)?;
+    let is_other = add(alloc, driver, other);
+    let ended = turn_to_an_end(driver);
     drop(silent);
-    Ok(())
+    let fell = matches!(
+        ended?,
+        Some(Some(SlotFault::EndOfInput | SlotFault::Read | SlotFault::Write))
+    );
+    Ok(is_near && is_other && fell && driver.slots().len() == 1)
 }
 
 /// Lets so many peers in.
@@ -164,15 +174,48 @@ fn turn_to_all_ends(driver: &mut Driver<Closes>, lets: &mut Lets) -> io::Result<
     Ok((all, well))
 }
 
+/// Of two peers one is let in.
+fn one_is_let_in<R: Net>(rt: &R, alloc: Global, driver: &mut Driver<Closes>) -> io::Result<bool> {
+    let are_there = listens(rt, alloc, driver)?;
+    let mut lets = Lets { alloc, left: 1 };
+    let (admitted, well) = turn_to_all_ends(driver, &mut lets)?;
+    Ok(are_there && admitted.added == 1 && admitted.turned_away == 1 && well == 2)
+}
+
+#[derive(Clone, Copy)]
+enum Case {
+    BothClose,
+    OneGoes,
+    OneIsLetIn,
+}
+
+/// The case, over a driver of its own, which no way out but the last lets go.
+fn holds<R: AllocGlobal + Net>(rt: &R, case: Case) -> io::Result<bool> {
+    let alloc = rt.alloc();
+    let mut driver = Driver::new(rt, alloc, 8)?;
+    let answer = match case {
+        Case::BothClose => both_close(rt, alloc, &mut driver),
+        Case::OneGoes => one_goes(rt, alloc, &mut driver),
+        Case::OneIsLetIn => one_is_let_in(rt, alloc, &mut driver),
+    };
+    drop(driver);
+    answer
+}
+
+#[test]
+fn connections_end_over_sockets(rt: HostRuntime) -> Result<(), Fail> {
+    assert!(rt; holds(&rt, Case::BothClose)?);
+    Ok(())
+}
+
+#[test]
+fn a_peer_that_goes_ends_its_slot_alone(rt: HostRuntime) -> Result<(), Fail> {
+    assert!(rt; holds(&rt, Case::OneGoes)?);
+    Ok(())
+}
+
 #[test]
 fn peers_are_let_in_or_turned_away(rt: HostRuntime) -> Result<(), Fail> {
-    let alloc = rt.alloc();
-    let mut driver = Driver::new(&rt, alloc, 8)?;
-    assert!(rt; listens(&rt, alloc, &mut driver)?);
-    let mut lets = Lets { alloc, left: 1 };
-    let (admitted, well) = turn_to_all_ends(&mut driver, &mut lets)?;
-    assert_eq!(rt; admitted.added, 1);
-    assert_eq!(rt; admitted.turned_away, 1);
-    assert_eq!(rt; well, 2);
+    assert!(rt; holds(&rt, Case::OneIsLetIn)?);
     Ok(())
 }
