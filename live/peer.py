@@ -1,9 +1,10 @@
 #!/usr/bin/python3
-"""One end by Qpid Proton, for live/run: peer.py send|receive listen|connect PORT COUNT SIZE OUTCOME [--settled] [--labelled] [--late].
+"""One end by Qpid Proton, for live/run: peer.py send|receive listen|connect PORT COUNT SIZE OUTCOME [--settled] [--labelled] [--late] [--small].
 
 It sends or takes COUNT messages of SIZE octets, tells the outcome (accept, release, reject, modify) of each that it takes, and
 prints one line: how many it had, or was told to be accepted. With --labelled its messages are durable and have properties, and
-those that it takes count where they have the same. With --late it wants to hear something each second, and sends after three.
+those that it takes count where they have the same. With --late it wants to hear something each second, and sends after
+three. With --small it takes no frame of more than 512 octets.
 """
 import sys
 
@@ -20,7 +21,7 @@ class End(MessagingHandler):
         super().__init__(auto_accept=False, prefetch=0)
         self.role, self.side, self.port, count, size, self.outcome = words[:6]
         self.count, self.size, self.is_settled = int(count), int(size), "--settled" in words
-        self.is_labelled, self.is_late = "--labelled" in words, "--late" in words
+        self.is_labelled, self.is_late, self.is_small = "--labelled" in words, "--late" in words, "--small" in words
         self.begun = self.done = 0
         self.acceptor = None
 
@@ -39,6 +40,8 @@ class End(MessagingHandler):
     def on_connection_bound(self, event):
         if self.is_late:
             event.transport.idle_timeout = 1
+        if self.is_small:
+            event.transport.max_frame_size = 512
 
     def on_link_opened(self, event):
         if event.link.is_receiver:
