@@ -2,7 +2,7 @@
 use crate::exchange::{Exchange, ExchangeFault};
 use amqp_conn::{Bytes, Text, Value};
 use amqp_messages::{Header, Message, Properties, Section, SectionKind, write_message};
-use amqp_types::Items;
+use amqp_types::{Items, WriteFault};
 use std::alloc::{AllocError, Global};
 use std::io::BufRead;
 
@@ -181,15 +181,25 @@ fn shared(octets: Vec<u8>) -> Result<Bytes, AllocError> {
 }
 
 /// The octets of such a message.
-fn message_of(alloc: Global, labels: &Labels<'_>, body: Bytes) -> Result<Bytes, AllocError> {
+fn message_of(alloc: Global, labels: &Labels<'_>, body: Bytes) -> Result<Bytes, ExchangeFault> {
     let sections = sections_of(alloc, labels, body)?;
     let message = Message { sections };
     let mut octets = Vec::new(alloc);
     let written = write_message(&message, &mut octets);
     drop(message);
     match written {
-        Ok(()) => shared(octets),
-        Err(_) => Err(AllocError),
+        Ok(()) => Ok(shared(octets)?),
+        Err(fault) => {
+            drop(octets);
+            Err(fault_of(fault))
+        }
+    }
+}
+
+fn fault_of(fault: WriteFault) -> ExchangeFault {
+    match fault {
+        WriteFault::NotWritable => ExchangeFault::NotWritable,
+        _ => ExchangeFault::NoMemory,
     }
 }
 
@@ -206,7 +216,11 @@ pub(crate) struct Bodies<'a> {
 
 impl<'a> Bodies<'a> {
     /// The messages of this exchange.
-    pub(crate) fn new(alloc: Global, exchange: &Exchange<'a>) -> Result<Bodies<'a>, AllocError> {
+    ///
+    /// # Errors
+    ///
+    /// `NotWritable` and `NoMemory`.
+    pub(crate) fn new(alloc: Global, exchange: &Exchange<'a>) -> Result<Bodies<'a>, ExchangeFault> {
         let labels = exchange.labels;
         let same = if exchange.is_lines {
             None
@@ -226,7 +240,7 @@ impl<'a> Bodies<'a> {
     ///
     /// # Errors
     ///
-    /// `In` where a line cannot be read, and `NoMemory`.
+    /// `In` where a line cannot be read, `NotWritable` and `NoMemory`.
     pub(crate) fn next<I: BufRead>(
         &mut self,
         input: &mut I,

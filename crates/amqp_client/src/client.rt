@@ -29,7 +29,7 @@ pub struct Client<R, W> {
 /// The number of the one link.
 pub(crate) const LINK: u32 = 0;
 
-/// What the header of a SASL layer begins with (part 5, 5.3.1). No frame does: it would have more octets than any end takes.
+/// What the header of a SASL layer begins with (part 5, 5.3.1). A frame that begins so has 1095586128 octets.
 const SASL: [u8; 5] = [0x41, 0x4d, 0x51, 0x50, 3];
 
 /// What the peer says may change it.

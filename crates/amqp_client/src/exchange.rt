@@ -86,6 +86,8 @@ pub enum ExchangeFault {
     Client(ClientFault),
     #[error("a line cannot be read: {0}")]
     In(io::Error),
+    #[error("a message cannot be written: it is too long, or its content-type is not of ASCII")]
+    NotWritable,
     #[error("a write failed: {0}")]
     Out(io::Error),
     #[error("memory was refused")]
@@ -282,7 +284,7 @@ fn begin<R: Read, W: Write>(
 ///
 /// # Errors
 ///
-/// Where the peer ends, an operation is refused, a line cannot be read, or memory is refused.
+/// Where the peer ends, an operation is refused, a line cannot be read, a message cannot be written, or memory is refused.
 pub fn send_all<R: Read, W: Write, I: BufRead>(
     alloc: Global,
     client: &mut Client<R, W>,
