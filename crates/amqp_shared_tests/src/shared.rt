@@ -155,7 +155,10 @@ fn left_and_taken<N: Name>(
 ) -> Option<Closed> {
     match shared.close(passes, writer) {
         Ok(closed) => Some(closed),
-        Err(_) => None,
+        Err(refused) => {
+            drop(refused);
+            None
+        }
     }
 }
 

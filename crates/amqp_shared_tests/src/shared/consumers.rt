@@ -192,7 +192,10 @@ fn stands_after_two(conn: &Conn) -> (usize, bool, bool) {
         state: Some(given_back()),
     };
     let is_disposed = stands_at(conn, &disposed, 10);
-    let is_granted = stands_at(conn, &grant(), 11);
+    drop(disposed);
+    let granted = grant();
+    let is_granted = stands_at(conn, &granted, 11);
+    drop(granted);
     (conn.logged().journal().len(), is_disposed, is_granted)
 }
 
