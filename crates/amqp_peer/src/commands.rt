@@ -19,7 +19,7 @@ use std::thread::Threads;
 /// The status where all is done.
 pub const DONE: u8 = 0;
 
-/// The status of a run that failed, of `send` where a message was not accepted, and of `rows` where a row is answered otherwise than its case wants.
+/// The status of a run that failed, of `send` where a message was not accepted, of `receive` where one could not be, and of `rows` where a row is answered otherwise than its case wants.
 pub const FAULT: u8 = 1;
 
 /// The status where a line was bad, or octets were no frames.

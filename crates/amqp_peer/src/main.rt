@@ -17,7 +17,7 @@
 //! | exit status | where |
 //! |---|---|
 //! | 0 | all is done, or help was asked for |
-//! | 1 | a read, a write, a socket or an allocation failed, or an end of `pair` did not do all that it was to do: standard error has one line on it; or a message of `send` was not accepted; or a row of `rows` is answered otherwise than its case wants |
+//! | 1 | a read, a write, a socket or an allocation failed, or an end of `pair` did not do all that it was to do: standard error has one line on it; or a message of `send` was not accepted, or one of `receive` could not be; or a row of `rows` is answered otherwise than its case wants |
 //! | 2 | the command line is at fault, or a line was bad, or octets were no frames |
 #![tactic(auto)]
 
