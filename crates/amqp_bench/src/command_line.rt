@@ -1,6 +1,7 @@
 //! What is asked for on the command line.
 
 use crate::session::Messages;
+use crate::sockets::{Ends, Sockets};
 use clap::{Arg, ArgMatches, Command, Error, value_parser};
 use std::alloc::{AllocError, Global};
 use std::convert::AsStr;
@@ -21,15 +22,35 @@ const SHORT_MESSAGES: Messages = Messages {
     keep: None,
 };
 
+/// Over two connections, in both directions of each.
+const SHORT_SOCKETS: Sockets = Sockets {
+    ends: Ends::Both,
+    port: 0,
+    connections: 2,
+    messages: SHORT_MESSAGES,
+};
+
 /// What is to be measured.
 #[derive(Clone, Copy, Debug)]
 pub enum Request {
     /// Frames written and read, so often; one way alone where a part is named.
-    Codec { rounds: u32, part: Option<u32> },
+    Codec {
+        rounds: u32,
+        part: Option<u32>,
+    },
     /// Messages over a session, and so many sessions one after the other.
-    Session { messages: Messages, sessions: u32 },
-    /// The codec, and then messages.
-    Both { rounds: u32, messages: Messages },
+    Session {
+        messages: Messages,
+        sessions: u32,
+    },
+    /// Messages over sockets.
+    Sockets(Sockets),
+    /// The codec, and then messages, over a session and over sockets.
+    All {
+        rounds: u32,
+        messages: Messages,
+        sockets: Sockets,
+    },
 }
 
 /// What the words ask for, the first of which is the program's name.
@@ -42,10 +63,14 @@ pub fn read_request<'a, S: AsStr>(alloc: Global, words: &'a [S]) -> Result<Reque
             sessions: options.get_one::<u32>("sessions").unwrap_or(1),
         });
     }
+    if let Some(options) = matches.subcommand_matches("sockets") {
+        return Ok(Request::Sockets(read_sockets(options)));
+    }
     let Some(options) = matches.subcommand_matches("codec") else {
-        return Ok(Request::Both {
+        return Ok(Request::All {
             rounds: SHORT_ROUNDS,
             messages: SHORT_MESSAGES,
+            sockets: SHORT_SOCKETS,
         });
     };
     let rounds = options.get_one::<u32>("rounds");
@@ -68,11 +93,30 @@ fn read_messages(options: &ArgMatches<'_>) -> Messages {
     }
 }
 
+/// What the options ask for. With neither port one thread has both ends.
+fn read_sockets(options: &ArgMatches<'_>) -> Sockets {
+    let (ends, port) = match (
+        options.get_one::<u16>("connect"),
+        options.get_one::<u16>("listen"),
+    ) {
+        (Some(port), _) => (Ends::Sender, port),
+        (None, Some(port)) => (Ends::Receiver, port),
+        (None, None) => (Ends::Both, 0),
+    };
+    Sockets {
+        ends,
+        port,
+        connections: options.get_one::<u32>("connections").unwrap_or(1),
+        messages: read_messages(options),
+    }
+}
+
 fn program<'a>(alloc: Global) -> Result<Command<'a>, AllocError> {
     Command::new(alloc, "amqp_bench")
         .about("Measures one end of an AMQP 1.0 connection")
         .subcommand(codec(alloc)?)?
-        .subcommand(session(alloc)?)
+        .subcommand(session(alloc)?)?
+        .subcommand(sockets(alloc)?)
 }
 
 /// An option whose value is a number in this range. Each is made where it is added: one that is owned over the way out of another costs its proof there.
@@ -112,9 +156,58 @@ fn codec<'a>(alloc: Global) -> Result<Command<'a>, AllocError> {
 }
 
 fn session<'a>(alloc: Global) -> Result<Command<'a>, AllocError> {
+    let command = Command::new(alloc, "session").about(
+        "Sends messages over a session in memory, between two ends with their journals",
+    );
+    let command = messages(alloc, command)?;
+    command.arg(number(
+        alloc,
+        "sessions",
+        "N",
+        1,
+        1000,
+        "How many sessions, one after the other: from the second on they find memory that was used before",
+    ))
+}
+
+fn sockets<'a>(alloc: Global) -> Result<Command<'a>, AllocError> {
+    let command = Command::new(alloc, "sockets")
+        .about(
+            "Sends messages over sockets of 127.0.0.1; each end has one thread for all of its connections, or one thread has both ends",
+        )
+        .arg(port(
+            alloc,
+            "connect",
+            "Has the sending ends, and connects to this port",
+        ))?
+        .arg(port(
+            alloc,
+            "listen",
+            "Has the receiving ends, and listens at this port",
+        ))?;
+    let command = messages(alloc, command)?;
+    command.arg(number(
+        alloc,
+        "connections",
+        "N",
+        1,
+        100000,
+        "How many connections there are at once, each with messages of its own",
+    ))
+}
+
+fn port<'a>(alloc: Global, name: &'static str, help: &'static str) -> Arg<'a> {
+    Arg::new(alloc, name)
+        .long(name)
+        .value_name("PORT")
+        .value_parser(value_parser!(u16))
+        .help(help)
+}
+
+/// The options by which messages are asked for.
+fn messages<'a>(alloc: Global, command: Command<'a>) -> Result<Command<'a>, AllocError> {
     let many = 2147483647;
-    let command = Command::new(alloc, "session")
-        .about("Sends messages over a session in memory, between two ends with their journals")
+    command
         .arg(number(
             alloc,
             "count",
@@ -146,17 +239,7 @@ fn session<'a>(alloc: Global) -> Result<Command<'a>, AllocError> {
             1,
             many,
             "How many the receiver lets begin at a time",
-        ))?;
-    kept_and_repeated(alloc, command, many)
-}
-
-/// The options by which entries and memory are used again, and in what runs.
-fn kept_and_repeated<'a>(
-    alloc: Global,
-    command: Command<'a>,
-    many: u32,
-) -> Result<Command<'a>, AllocError> {
-    command
+        ))?
         .arg(number(
             alloc,
             "range",
@@ -172,13 +255,5 @@ fn kept_and_repeated<'a>(
             1,
             1073741824,
             "How many entries of its journal each end keeps at most; all where it is left off",
-        ))?
-        .arg(number(
-            alloc,
-            "sessions",
-            "N",
-            1,
-            1000,
-            "How many sessions, one after the other: from the second on they find memory that was used before",
         ))
 }

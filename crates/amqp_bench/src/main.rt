@@ -1,18 +1,23 @@
 //! Measures the codec, `amqp_bench codec --rounds N --part K`, and messages over a session in memory, `amqp_bench session --count N --size S
-//! --settled 0|1 --credit C --range R --keep K --sessions N`; with no command a short run of both. Standard output has counts, the same in each run; standard error has times.
+//! --settled 0|1 --credit C --range R --keep K --sessions N`, and over sockets of the loopback, `amqp_bench sockets --connections N` with the same; with no
+//! command a short run of all three. Standard output has counts, the same in each run; standard error has times.
 #![tactic(auto)]
 
 mod codec;
 mod command_line;
 mod end;
+mod hand;
 mod session;
+mod sockets;
 
 use clap::error::ErrorKind;
 use codec::run_codec;
 use command_line::{Request, read_request};
 use session::run_sessions;
+use sockets::run_sockets;
 use std::env;
 use std::env::Env;
+use std::net::Net;
 use std::process::ExitCode;
 use std::rt::Clock;
 
@@ -28,7 +33,7 @@ fn main(rt: HostRuntime) -> ExitCode {
 
 fn run<R>(rt: &R) -> anyhow::Result<ExitCode>
 where
-    R: AllocGlobal + Env + Print + Eprint + Clock,
+    R: AllocGlobal + Env + Print + Eprint + Clock + Net,
 {
     let words: Vec<String> = env::args(rt)?.collect(rt.alloc())?;
     match read_request(rt.alloc(), words.as_slice()) {
@@ -53,14 +58,20 @@ fn status_of_words(error: &clap::Error) -> u8 {
 
 fn measure<R>(rt: &R, request: Request) -> anyhow::Result<()>
 where
-    R: AllocGlobal + Print + Eprint + Clock,
+    R: AllocGlobal + Print + Eprint + Clock + Net,
 {
     match request {
         Request::Codec { rounds, part } => run_codec(rt, rounds, part),
         Request::Session { messages, sessions } => run_sessions(rt, messages, sessions),
-        Request::Both { rounds, messages } => {
+        Request::Sockets(sockets) => run_sockets(rt, sockets),
+        Request::All {
+            rounds,
+            messages,
+            sockets,
+        } => {
             run_codec(rt, rounds, None)?;
-            run_sessions(rt, messages, 1)
+            run_sessions(rt, messages, 1)?;
+            run_sockets(rt, sockets)
         }
     }
 }

@@ -1,9 +1,7 @@
-//! Messages over a session in memory: two ends, each an endpoint with its journal, in one thread.
+//! Messages over a connection in memory: two ends, each with its journal, in one thread.
 
 use crate::end::{End, EndFault, exchange};
-use amqp_frames::Role;
-use bytes::Bytes;
-use std::alloc::Global;
+use amqp_conn::{Bytes, Role};
 use std::rt::Clock;
 use std::time::{Duration, Instant};
 
@@ -37,7 +35,7 @@ pub struct Totals {
     pub steps: u32,
 }
 
-/// Sends the messages over a session, and again over another, so many times.
+/// Sends the messages over a connection, and again over another, so many times.
 pub fn run_sessions<R>(rt: &R, messages: Messages, sessions: u32) -> anyhow::Result<()>
 where
     R: AllocGlobal + Print + Eprint + Clock,
@@ -77,116 +75,51 @@ where
 {
     let alloc = rt.alloc();
     let payload = Bytes::from_vec(vec![in alloc; 0x78u8; messages.size as usize]?)?;
-    let mut sender = End::new(alloc, messages.keep)?;
-    let sent = send_from(rt, &mut sender, &payload, messages);
+    let mut sender = End::new(alloc, Role::Sender, messages, payload)?;
+    let sent = send_from(rt, &mut sender, messages);
     drop(sender);
     sent
 }
 
 /// Sends them to a new receiver.
-fn send_from<R>(
-    rt: &R,
-    sender: &mut End,
-    payload: &Bytes,
-    messages: Messages,
-) -> anyhow::Result<(Totals, Duration)>
+fn send_from<R>(rt: &R, sender: &mut End, messages: Messages) -> anyhow::Result<(Totals, Duration)>
 where
     R: AllocGlobal + Clock,
 {
-    let mut receiver = End::new(rt.alloc(), messages.keep)?;
-    let sent = send_timed(rt, sender, &mut receiver, payload, messages);
+    let mut receiver = End::new(rt.alloc(), Role::Receiver, messages, Bytes::new())?;
+    let sent = send_timed(rt, sender, &mut receiver);
     drop(receiver);
     sent
 }
 
-fn send_timed<R>(
-    rt: &R,
-    sender: &mut End,
-    receiver: &mut End,
-    payload: &Bytes,
-    messages: Messages,
-) -> anyhow::Result<(Totals, Duration)>
+fn send_timed<R>(rt: &R, sender: &mut End, receiver: &mut End) -> anyhow::Result<(Totals, Duration)>
 where
-    R: AllocGlobal + Clock,
+    R: Clock,
 {
     let begun = Instant::now(rt)?;
-    send_between(rt.alloc(), sender, receiver, payload, messages)?;
+    send_all(sender, receiver)?;
     let took = begun.elapsed(rt)?;
     Ok((totals_of(sender, receiver), took))
 }
 
-fn send_between(
-    alloc: Global,
-    sender: &mut End,
-    receiver: &mut End,
-    payload: &Bytes,
-    messages: Messages,
-) -> Result<(), EndFault> {
-    attach(alloc, sender, receiver, messages.settled)?;
-    send_all(sender, receiver, payload, messages)
-}
-
-fn totals_of(sender: &End, receiver: &End) -> Totals {
-    Totals {
-        taken: receiver.taken(),
-        octets: receiver.octets(),
-        learnt: sender.learnt(),
-        steps: sender.steps().saturating_add(receiver.steps()),
-    }
-}
-
-/// Both ends begin the session and attach the link.
-fn attach(
-    alloc: Global,
-    sender: &mut End,
-    receiver: &mut End,
-    settled: bool,
-) -> Result<(), EndFault> {
-    sender.begin()?;
-    exchange(sender, receiver)?;
-    receiver.begin()?;
-    exchange(receiver, sender)?;
-    sender.attach(alloc, Role::Sender, settled)?;
-    exchange(sender, receiver)?;
-    receiver.attach(alloc, Role::Receiver, settled)?;
-    exchange(receiver, sender)
-}
-
-/// Sends all messages, each time as many as there is credit for.
-fn send_all(
-    sender: &mut End,
-    receiver: &mut End,
-    payload: &Bytes,
-    messages: Messages,
-) -> Result<(), EndFault> {
-    let mut left = messages.count;
-    for _ in 0..messages.count {
-        let batch = left.min(messages.credit);
-        send_batch(sender, receiver, payload, batch, messages)?;
-        left -= batch;
-        if left == 0 {
+/// The ends take turns until both are closed, or neither has anything to say.
+fn send_all(sender: &mut End, receiver: &mut End) -> Result<(), EndFault> {
+    for _ in 0..u64::MAX {
+        sender.go_on()?;
+        let is_any = exchange(sender, receiver)?;
+        receiver.go_on()?;
+        if !exchange(receiver, sender)? && !is_any {
             break;
         }
     }
     Ok(())
 }
 
-/// Sends as many messages as the receiver gives credit for.
-fn send_batch(
-    sender: &mut End,
-    receiver: &mut End,
-    payload: &Bytes,
-    batch: u32,
-    messages: Messages,
-) -> Result<(), EndFault> {
-    receiver.grant(batch)?;
-    exchange(receiver, sender)?;
-    sender.send_many(payload, messages.settled, batch)?;
-    exchange(sender, receiver)?;
-    if messages.settled {
-        return Ok(());
+fn totals_of(sender: &End, receiver: &End) -> Totals {
+    Totals {
+        taken: receiver.counts().taken,
+        octets: receiver.counts().octets,
+        learnt: sender.counts().learnt,
+        steps: sender.steps().saturating_add(receiver.steps()),
     }
-    receiver.settle(messages.range)?;
-    exchange(receiver, sender)?;
-    sender.learn(batch)
 }

@@ -17,3 +17,4 @@ pub mod Pumps
 pub mod Telling
 pub mod Spans
 pub mod Fronts
+pub mod Performing

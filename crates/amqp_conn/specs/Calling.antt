@@ -55,6 +55,11 @@ abbrev pub Does : Core → Op → Result Given Refusal → Core → Type 0
 Does old op (Ok given) new = (reply : Reply) × (due_in old.phase old.log op ≡ Ok reply) × (given ≡ reply.given) × (new ≡ stepping (Own op) reply old)
 Does old op (Err e) new = IsRefusal refusal.NoMemory (due_in old.phase old.log op) e × (new ≡ old)
 
+-- the same where what it gives is told by the entry alone
+abbrev pub Performs : Core → Op → Result (Unit {0}) Refusal → Core → Type 0
+Performs old op (Ok done) new = (reply : Reply) × (due_in old.phase old.log op ≡ Ok reply) × (new ≡ stepping (Own op) reply old)
+Performs old op (Err e) new = IsRefusal refusal.NoMemory (due_in old.phase old.log op) e × (new ≡ old)
+
 -- # Closing
 
 -- the longest frame that the peer takes, as its open told

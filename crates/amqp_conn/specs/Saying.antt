@@ -7,6 +7,7 @@ use Rattle.amqp_performatives.specs.declared.error.AmqpError.{AmqpError}
 use Rattle.amqp_performatives.specs.declared.performative.Performative.{Performative}
 use Rattle.amqp_performatives.specs.declared.performative.Performative.TheVariants.{Open, Detach, End, Close}
 use Rattle.amqp_frames.specs.declared.frame.Frame.{Frame}
+use Rattle.amqp_rules.specs.declared.reply.Given.{Given}
 use Rattle.amqp_laws.specs.declared.entry.Entry.{Entry}
 use Rattle.amqp_laws.specs.declared.entry.Step.{Step}
 use Rattle.amqp_laws.specs.declared.entry.Step.TheVariants.{Opened, Own, Heard}
@@ -55,6 +56,11 @@ heard_in (Heard f) = Some f
 abbrev pub heard_by : Option Entry → Option Frame
 heard_by None = None
 heard_by (Some e) = heard_in e.step
+
+-- what the entry gave
+abbrev pub given_by : Option Entry → Option Given
+given_by None = None
+given_by (Some e) = Some e.reply.given
 
 -- the deliveries that the entry ended, by role and id
 abbrev pub ended_by : Option Entry → List (Role × ℕ)

@@ -12,7 +12,9 @@ use Rattle.amqp_conn.specs.declared.fed.Fed.{Fed}
 use Rattle.amqp_conn.specs.declared.phase.Phase.TheVariants as phase
 use Rattle.amqp_conn.specs.Connection.{Core, in_phase}
 use Rattle.amqp_conn.specs.Octets.{header, last_words}
-use Rattle.amqp_conn.specs.Treating.{Treatment, taken, again, ended, treat, greeted, ending}
+use Rattle.amqp_conn.specs.Treating.{Treatment, taken, again, ended, treat, greeted, hearing, ending}
+use Rattle.amqp_rules.specs.Refusing.{no_memory}
+use Rattle.amqp_journal.specs.Log.{IsRefusal, heard_due}
 use Rattle.amqp_conn.specs.Feeding.{AddsEntry, Answers}
 
 -- so is the frame treated; it was taken with so many octets, or answered, or the connection ended, or memory was refused
@@ -27,6 +29,10 @@ TreatsAs t old f used (Err e) new = (t ≡ ended e) × (new ≡ ending e old)
 
 abbrev pub Treats : Core → Frame → ℕ → Result Fed ConnFault → Core → Type 0
 Treats old f used result new = TreatsAs (treat old f) old f used result new
+
+-- so is any frame treated that violates this
+abbrev pub IsMet : Violation → Core → Result Fed ConnFault → Core → Type 0
+IsMet v old result new = (f : Frame) → (used : ℕ) → IsRefusal no_memory (heard_due old.log f) v → TreatsAs (hearing old f (heard_due old.log f)) old f used result new
 
 -- the connection ended with this fault; or memory was refused for its last close, and it stands
 abbrev pub EndsWith : ConnFault → Core → ConnFault → Core → Type 0

@@ -8,8 +8,8 @@ ghost use Rattle.amqp_conn.specs.Connection.{IsQuiet, connection, reads_frames, 
 ghost use Rattle.amqp_conn.specs.Octets.{new_core};
 ghost use Rattle.amqp_conn.specs.Feeding.{Feeds, MovesOn};
 ghost use Rattle.amqp_conn.specs.Leaving.{Gives, GivesOf, left_of, but_left};
-ghost use Rattle.amqp_conn.specs.Saying.{error_of_close, newest, heard_by, ended_by};
-ghost use Rattle.amqp_conn.specs.Calling.{IsFit, IsStartFault, Does, Closes, popped, forgotten};
+ghost use Rattle.amqp_conn.specs.Saying.{error_of_close, newest, heard_by, given_by, ended_by};
+ghost use Rattle.amqp_conn.specs.Calling.{IsFit, IsStartFault, Does, Performs, Closes, popped, forgotten};
 
 use crate::config::Config;
 use crate::fault::ConnFault;
@@ -18,7 +18,7 @@ use crate::feeding::{act, frame_shared};
 use crate::header::{fill, read_header};
 use crate::phase::Phase;
 use crate::refused::{CloseRefusal, StartFault};
-use crate::saying::{ended, heard};
+use crate::saying::{ended, error_of_close, given, heard};
 use crate::treating::{Machine, nothing};
 use amqp_frames::{AmqpError, CloseBody, Frame, Framer, OpenBody, Role};
 use amqp_journal::left::Left;
@@ -95,6 +95,15 @@ impl Conn {
         self.machine.apply(op)
     }
 
+    /// Does an operation, as `apply`, which its entry keeps: nothing is copied, and what it gives stands in the entry (`given`). A refused operation is
+    /// dropped, so `apply` is for one that is to be tried again.
+    pub fn perform(&mut self, op: Op) -> Result<(), Refusal>
+        ensures performs { Performs self.old.core op result self.new.core }
+        ensures unread { self.new.unread ≡ self.old.unread }
+    {
+        self.machine.perform(op)
+    }
+
     /// Puts out our close, with the error, and awaits the peer's (part 2, 2.4.3). What is heard until it comes is dropped.
     ///
     /// # Errors
@@ -127,7 +136,10 @@ impl Conn {
         ensures unread { self.new.unread ≡ self.old.unread }
         ensures err { OnErr result (self.new ≡ self.old) }
     {
-        self.machine.pop_left()
+        match self.machine.gather() {
+            Ok(()) => Ok(self.machine.next_left()),
+            Err(error) => Err(error),
+        }
     }
 
     /// The first that the link of this number left, a delivery of a receiver or an outcome of a sender, as `pop_left`. O(n) for n things that are left.
@@ -140,7 +152,10 @@ impl Conn {
         ensures unread { self.new.unread ≡ self.old.unread }
         ensures err { OnErr result (self.new ≡ self.old) }
     {
-        self.machine.pop_left_by(role, link)
+        match self.machine.gather() {
+            Ok(()) => Ok(self.machine.next_left_by(role, link)),
+            Err(error) => Err(error),
+        }
     }
 
     /// How many things are left, to be popped one by one.
@@ -154,7 +169,10 @@ impl Conn {
         ensures unread { self.new.unread ≡ self.old.unread }
         ensures err { OnErr result (self.new ≡ self.old) }
     {
-        self.machine.left_len()
+        match self.machine.gather() {
+            Ok(()) => Ok(self.logged().left_len()),
+            Err(error) => Err(error),
+        }
     }
 
     /// Forgets the journal's entries so far, as `Logged::forget`, with the payloads that nobody else holds. Phase,
@@ -194,7 +212,10 @@ impl Conn {
     pub fn peer(&self) -> Option<&OpenBody>
         ensures { option_map (λ b. b.now) result ≡ self.now.core.peer }
     {
-        self.machine.peer()
+        match &self.machine.peer {
+            Some(body) => Some(body.get()),
+            None => None,
+        }
     }
 
     /// The peer's close (part 2, 2.7.9), as it was heard; it stays. None until it was heard, so also where a fault or the end of the octets ended the
@@ -202,14 +223,14 @@ impl Conn {
     pub fn parting(&self) -> Option<&CloseBody>
         ensures { option_map (λ b. b.now) result ≡ self.now.core.parting }
     {
-        self.machine.parting()
+        self.machine.parting.as_ref()
     }
 
     /// Why the peer closed the connection (part 2, 2.8.14): the error of its close, where one was heard that has an error.
     pub fn ended_by(&self) -> Option<&AmqpError>
         ensures { option_map (λ e. e.now) result ≡ error_of_close self.now.core.parting }
     {
-        self.machine.ended_by()
+        error_of_close(&self.machine.parting)
     }
 
     /// The frame that the journal's newest entry heard, until the next step or `forget`. Behind a feed that made a step it is the frame that was fed:
@@ -219,6 +240,14 @@ impl Conn {
         ensures { option_map (λ f. f.now) result ≡ heard_by (newest self.now.core.log) }
     {
         heard(self.machine.logged())
+    }
+
+    /// What the journal's newest entry gave, until the next step or `forget`: behind an operation what it gave, as the delivery that was taken. None where no
+    /// entry is kept.
+    pub fn given(&self) -> Option<&Given>
+        ensures { option_map (λ g. g.now) result ≡ given_by (newest self.now.core.log) }
+    {
+        given(self.machine.logged())
     }
 
     /// The deliveries that the journal's newest entry ended, by our role and id, until the next step or `forget`: what was settled, and what was

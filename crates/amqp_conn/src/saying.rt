@@ -1,11 +1,12 @@
 //! What a peer said: of itself, in its newest frame, and of why it ended something.
 ghost use Rattle.std.specs.Prelude.{◌≡◌, None, option_map};
-ghost use Rattle.amqp_conn.specs.Saying.{open_in, close_in, error_of_close, error_in, newest, heard_in, heard_by, ended_by};
+ghost use Rattle.amqp_conn.specs.Saying.{open_in, close_in, error_of_close, error_in, newest, heard_in, heard_by, given_by, ended_by};
 ghost use Rattle.amqp_conn.specs.Kinds.{kind_of};
 
 use amqp_frames::{AmqpError, CloseBody, Frame, OpenBody, Performative, Role};
 use amqp_journal::entry::{Entry, Step};
 use amqp_journal::logged::Logged;
+use amqp_rules::reply::Given;
 use amqp_types::Boxed;
 
 /// Why a frame ends a link, the session or the connection (part 2, 2.8.14): the error of a detach, an end or a close, where it has one.
@@ -113,6 +114,16 @@ pub(crate) fn heard(logged: &Logged) -> Option<&Frame>
 {
     match newest(logged) {
         Some(entry) => heard_in(&entry.step),
+        None => None,
+    }
+}
+
+/// What the newest entry gave.
+pub(crate) fn given(logged: &Logged) -> Option<&Given>
+    ensures { option_map (λ g. g.now) result ≡ given_by (newest logged.now) }
+{
+    match newest(logged) {
+        Some(entry) => Some(&entry.reply.given),
         None => None,
     }
 }

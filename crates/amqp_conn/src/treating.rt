@@ -8,13 +8,13 @@ ghost use Rattle.amqp_rules.specs.Sending.{octets_of};
 ghost use Rattle.amqp_journal.specs.Log.{IsRefusal, heard_due, popping, forgetting, is_left_by};
 ghost use Rattle.amqp_rules.specs.View.{remove_first};
 ghost use Rattle.amqp_journal.specs.Units.{units, waiting};
-ghost use Rattle.amqp_conn.specs.Calling.{IsFit, IsStartFault, Does, Closes, peer_max};
+ghost use Rattle.amqp_conn.specs.Calling.{IsFit, IsStartFault, Does, Performs, Closes, peer_max};
 ghost use Rattle.amqp_conn.specs.Octets.{open_frame, close_frame, condition, last_words, session_of, new_core};
 ghost use Rattle.amqp_conn.specs.Connection.{in_phase, met, parted, sending};
-ghost use Rattle.amqp_conn.specs.Leaving.{Gives, GivesOf, is_ungathered, gathering, left_of, but_left};
+ghost use Rattle.amqp_conn.specs.Leaving.{is_ungathered, gathering};
 ghost use Rattle.amqp_conn.specs.Treating.{taken, greeted, sending_last, fault_of, run, await_open, await_close, hearing, answering};
-ghost use Rattle.amqp_conn.specs.Saying.{error_of_close, close_in};
-ghost use Rattle.amqp_conn.specs.Treats.{Treats, TreatsAs, EndsWith};
+ghost use Rattle.amqp_conn.specs.Saying.{close_in};
+ghost use Rattle.amqp_conn.specs.Treats.{Treats, TreatsAs, IsMet, EndsWith};
 ghost use Rattle.amqp_conn.specs.Kinds.{on_channel, closed_by};
 
 use crate::config::Config;
@@ -22,7 +22,7 @@ use crate::fault::ConnFault;
 use crate::fed::Fed;
 use crate::phase::Phase;
 use crate::refused::{CloseRefusal, StartFault};
-use crate::saying::{Kind, close_in, error_of_close, kind_of, open_in};
+use crate::saying::{Kind, close_in, kind_of, open_in};
 use crate::writing::{HEADER, close_octets, last_close, measure_ours, open_octets, plain_close};
 use amqp_frames::{
     AmqpError, CloseBody, Frame, FrameRefusal, Measured, OpenBody, Performative, Role,
@@ -51,9 +51,9 @@ pub struct Machine {
     /// What the links of the ended connection have was put behind what was left before.
     gathered: bool,
     /// The peer's open, once it was taken.
-    peer: Option<Boxed<OpenBody>>,
+    pub peer: Option<Boxed<OpenBody>>,
     /// The peer's close, once it was taken.
-    parting: Option<CloseBody>,
+    pub parting: Option<CloseBody>,
 }
 
 impl Model for Machine {
@@ -166,6 +166,19 @@ impl Machine {
         }
     }
 
+    /// Does an operation, where the connection is running; what it gives stands in its entry.
+    pub fn perform(&mut self, op: Op) -> Result<(), Refusal>
+        ensures { Performs self.old op result self.new }
+    {
+        match self.phase {
+            Phase::Running => self.logged.perform(op),
+            Phase::AwaitHeader | Phase::AwaitOpen | Phase::Closing | Phase::Closed => {
+                drop(op);
+                Err(Refusal::NotRunning)
+            }
+        }
+    }
+
     /// Puts out our close, where the connection is running.
     pub fn close(&mut self, error: Option<Boxed<AmqpError>>) -> Result<(), CloseRefusal>
         ensures { Closes self.old error result self.new }
@@ -222,7 +235,7 @@ impl Machine {
     }
 
     /// What the links of a connection have that has ended goes behind what was left before, once.
-    fn gather(&mut self) -> Result<(), AllocError>
+    pub fn gather(&mut self) -> Result<(), AllocError>
         ensures ok { OnOk result (self.new ≡ gathering self.old) }
         ensures err { OnErr result (self.new ≡ self.old) }
     {
@@ -235,7 +248,7 @@ impl Machine {
     }
 
     /// The first of what was left, where the links were asked.
-    fn next_left(&mut self) -> Option<Left>
+    pub fn next_left(&mut self) -> Option<Left>
         ensures some { IfSome result (λ x. self.old ≡ record self.new { log = record self.new.log { left = x ∷ self.new.log.left } }) }
         ensures none { IfNone result ((self.old.log.left ≡ []) × (self.new ≡ self.old)) }
     {
@@ -243,45 +256,11 @@ impl Machine {
     }
 
     /// The first that the link of this number left, where the links were asked.
-    fn next_left_by(&mut self, role: Role, link: u32) -> Option<Left>
+    pub fn next_left_by(&mut self, role: Role, link: u32) -> Option<Left>
         ensures some { IfSome result (λ x. (find (is_left_by role link) self.old.log.left ≡ Some x) × (self.new ≡ record self.old { log = record self.old.log { left = remove_first (is_left_by role link) self.old.log.left } })) }
         ensures none { IfNone result ((find (is_left_by role link) self.old.log.left ≡ None) × (self.new ≡ self.old)) }
     {
         self.logged.pop_left_by(role, link)
-    }
-
-    /// The first of what is left.
-    pub fn pop_left(&mut self) -> Result<Option<Left>, AllocError>
-        ensures gives { IfOk result (λ given. Gives self.old given self.new) }
-        ensures err { OnErr result (self.new ≡ self.old) }
-    {
-        match self.gather() {
-            Ok(()) => Ok(self.next_left()),
-            Err(error) => Err(error),
-        }
-    }
-
-    /// The first that the link of this number left, of a receiver or of a sender.
-    pub fn pop_left_by(&mut self, role: Role, link: u32) -> Result<Option<Left>, AllocError>
-        ensures gives { IfOk result (λ given. GivesOf role link self.old given self.new) }
-        ensures err { OnErr result (self.new ≡ self.old) }
-    {
-        match self.gather() {
-            Ok(()) => Ok(self.next_left_by(role, link)),
-            Err(error) => Err(error),
-        }
-    }
-
-    /// How many things are left.
-    pub fn left_len(&mut self) -> Result<usize, AllocError>
-        ensures len { IfOk result (λ n. n ≡ length (left_of self.old)) }
-        ensures still { OnOk result ((left_of self.new ≡ left_of self.old) × (but_left self.new ≡ but_left self.old)) }
-        ensures err { OnErr result (self.new ≡ self.old) }
-    {
-        match self.gather() {
-            Ok(()) => Ok(self.logged.left_len()),
-            Err(error) => Err(error),
-        }
     }
 
     /// Where the connection stands.
@@ -303,30 +282,6 @@ impl Machine {
         ensures { result.now ≡ self.now.log }
     {
         &self.logged
-    }
-
-    /// The peer's open, once it was taken.
-    pub fn peer(&self) -> Option<&OpenBody>
-        ensures { option_map (λ b. b.now) result ≡ self.now.peer }
-    {
-        match &self.peer {
-            Some(body) => Some(body.get()),
-            None => None,
-        }
-    }
-
-    /// The peer's close, once it was taken.
-    pub fn parting(&self) -> Option<&CloseBody>
-        ensures { option_map (λ b. b.now) result ≡ self.now.parting }
-    {
-        self.parting.as_ref()
-    }
-
-    /// The error of the peer's close.
-    pub fn ended_by(&self) -> Option<&AmqpError>
-        ensures { option_map (λ e. e.now) result ≡ error_of_close self.now.parting }
-    {
-        error_of_close(&self.parting)
     }
 
     /// The octets ended, or are not the header.
@@ -458,36 +413,31 @@ impl Machine {
             drop(frame);
             return Err(self.end(ConnFault::BadChannel));
         }
-        let answer = self.hear(used, &frame);
-        drop(frame);
-        answer
+        match Boxed::new(self.alloc, frame) {
+            Ok(frame) => self.hear(used, frame),
+            Err(_) => Err(ConnFault::NoMemory),
+        }
     }
 
-    fn hear(&mut self, used: usize, frame: &Frame) -> Result<Fed, ConnFault>
+    fn hear(&mut self, used: usize, frame: Boxed<Frame>) -> Result<Fed, ConnFault>
         requires { self.old.phase ≡ Phase.Running }
-        ensures { TreatsAs (hearing self.old frame.now (heard_due self.old.log frame.now)) self.old frame.now used result self.new }
+        ensures { TreatsAs (hearing self.old frame (heard_due self.old.log frame)) self.old frame used result self.new }
     {
-        match self.logged.receive(frame) {
+        match self.logged.hear(frame) {
             Ok(given) => Ok(Fed {
                 used,
                 stepped: true,
                 given,
                 violation: None,
             }),
-            Err(violation) => self.violated(used, frame, violation),
+            Err(violation) => self.violated(violation),
         }
     }
 
     /// Answers the violation by its operation, or ends the connection.
-    fn violated(
-        &mut self,
-        used: usize,
-        frame: &Frame,
-        violation: Violation,
-    ) -> Result<Fed, ConnFault>
-        requires running { self.old.phase ≡ Phase.Running }
-        requires told { IsRefusal no_memory (heard_due self.old.log frame.now) violation }
-        ensures { TreatsAs (hearing self.old frame.now (heard_due self.old.log frame.now)) self.old frame.now used result self.new }
+    fn violated(&mut self, violation: Violation) -> Result<Fed, ConnFault>
+        requires { self.old.phase ≡ Phase.Running }
+        ensures { IsMet violation self.old result self.new }
     {
         if violation.kind == ViolationKind::NoMemory {
             return Err(ConnFault::NoMemory);

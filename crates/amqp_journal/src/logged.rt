@@ -264,8 +264,8 @@ impl Logged {
         }
     }
 
-    /// Takes a frame that is heard: one entry more, or a violation that leaves all as it was. A full journal is told first, and want of
-    /// memory last. Its cost is as that of `apply`.
+    /// Takes a copy of a frame that is heard, as `hear`: one entry more, or a violation that leaves all as it was. A full journal is told first, and
+    /// want of memory last.
     pub fn receive(&mut self, frame: &Frame) -> Result<Given, Violation>
         ensures step { IfOk result (λ given. Appends self.old (step.Heard frame.now) (heard_due self.old frame.now) given self.new) }
         ensures violation { IfErr result (IsRefusal no_memory (heard_due self.old frame.now)) }
@@ -274,38 +274,14 @@ impl Logged {
         if self.endpoint.steps() >= self.config.journal_limit {
             return Err(Violation::unlinked(ViolationKind::JournalFull));
         }
-        let kept = self.left.len();
-        let heard = match room_for_heard(
-            &mut self.journal,
-            &mut self.waiting,
-            &mut self.left,
-            &self.endpoint,
-            frame,
-        ) {
-            Ok(heard) => heard,
-            Err(_) => return Err(heard_refused(&self.endpoint, frame)),
-        };
-        laws();
-        match self.endpoint.heard(frame) {
-            Ok(done) => {
-                let Done {
-                    reply,
-                    octets,
-                    given,
-                } = done;
-                self.journal.push_reserved(Entry { step: heard, reply });
-                queue(&mut self.waiting, octets);
-                Ok(given)
-            }
-            Err(violation) => {
-                drop(heard);
-                self.left.truncate(kept);
-                Err(violation)
-            }
+        match boxed(*self.journal.allocator(), frame) {
+            Ok(copy) => self.hear(copy),
+            Err(_) => Err(heard_refused(&self.endpoint, frame)),
         }
     }
 
-    /// Takes a frame that is heard, as `receive`, into its entry: the frame is not copied, and is dropped where it is not taken.
+    /// Takes a frame that is heard into its entry: one entry more, or a violation that leaves all as it was, and the frame is dropped. A full journal is
+    /// told first, and want of memory last. It costs what the endpoint's step costs, and one copy of what is given; payloads are shared.
     pub fn hear(&mut self, frame: Boxed<Frame>) -> Result<Given, Violation>
         ensures step { IfOk result (λ given. Appends self.old (step.Heard frame) (heard_due self.old frame) given self.new) }
         ensures violation { IfErr result (IsRefusal no_memory (heard_due self.old frame)) }
@@ -539,34 +515,6 @@ fn room_for_own(
     let copy = op.clone()?;
     match endpoint.leave_by_own(op, left) {
         Ok(()) => Ok(Step::Own(copy)),
-        Err(error) => {
-            drop(copy);
-            Err(error)
-        }
-    }
-}
-
-/// The same for a frame that is heard.
-fn room_for_heard(
-    journal: &mut Vec<Entry>,
-    waiting: &mut VecDeque<Bytes>,
-    left: &mut VecDeque<Left>,
-    endpoint: &Endpoint,
-    frame: &Frame,
-) -> Result<Step, AllocError>
-    ensures journal { journal.new.items ≡ journal.old.items }
-    ensures waiting { waiting.new.items ≡ waiting.old.items }
-    ensures room { OnOk result (vec_len journal.new < vec_capacity journal.new) }
-    ensures place { OnOk result (deque_len waiting.new < deque_capacity waiting.new) }
-    ensures step { IfOk result (λ s. s ≡ step.Heard frame.now) }
-    ensures left { OnOk result (left.new.items ≡ left.old.items ++ left_by_heard endpoint.now frame.now.body) }
-    ensures still { OnErr result (left.new.items ≡ left.old.items) }
-{
-    journal.reserve(1)?;
-    waiting.reserve(1)?;
-    let copy = boxed(*journal.allocator(), frame)?;
-    match endpoint.leave_by_heard(frame, left) {
-        Ok(()) => Ok(Step::Heard(copy)),
         Err(error) => {
             drop(copy);
             Err(error)

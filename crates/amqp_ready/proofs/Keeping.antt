@@ -4,7 +4,6 @@ use Rattle.std.proofs.lemmas.List.{take-append-le}
 use Rattle.amqp_performatives.specs.declared.error.AmqpError.{AmqpError}
 use Rattle.amqp_rules.specs.declared.op.Op.{Op}
 use Rattle.amqp_rules.specs.declared.reply.Reply.{Reply}
-use Rattle.amqp_rules.specs.declared.reply.Given.{Given}
 use Rattle.amqp_rules.specs.declared.refusal.Refusal.{Refusal}
 use Rattle.amqp_laws.specs.declared.entry.Entry.{Entry}
 use Rattle.amqp_laws.specs.declared.entry.Step.TheVariants.{Own}
@@ -14,7 +13,7 @@ use Rattle.amqp_conn.specs.declared.refused.CloseRefusal.{CloseRefusal}
 use Rattle.amqp_conn.specs.declared.refused.CloseRefusal.TheVariants as close
 use Rattle.amqp_conn.specs.declared.phase.Phase.TheVariants as phase
 use Rattle.amqp_conn.specs.Connection.{Core, Connection, connection, stepping, sending, in_phase}
-use Rattle.amqp_conn.specs.Calling.{Does, Closes, forgotten}
+use Rattle.amqp_conn.specs.Calling.{Performs, Closes, forgotten}
 use Rattle.amqp_conn.specs.Octets.{close_frame}
 use Rattle.amqp_rules.specs.Sending.{octets_of}
 use Rattle.amqp_conn.specs.Pumping.{joined, OnlyWrote}
@@ -70,10 +69,10 @@ same c d k u = λ i. record { core = k i; unread = u i }
 at : (c d : Connection) (k : Core) → d.core ≡ k → d.unread ≡ c.unread → kept (connection k c.unread) ≡ kept c → kept d ≡ kept c
 at c d k e u h = ap kept (same (connection k c.unread) d e u) ∙ h
 
-pub kept-does : (c d : Connection) (op : Op) (result : Result Given Refusal) → PutWithin (length c.core.log.journal) c.core.log.put → c.core.log.popped ≤ length (units c.core.log)
-    → Does c.core op result d.core → d.unread ≡ c.unread → kept d ≡ kept c
-kept-does c d op (Ok given) w s (reply, due, gives, is) u = at c d (stepping (Own op) reply c.core) is u (stepped c op reply w s)
-kept-does c d op (Err e) w s (refused, is) u = at c d c.core is u refl
+pub kept-performs : (c d : Connection) (op : Op) (result : Result (Unit {0}) Refusal) → PutWithin (length c.core.log.journal) c.core.log.put → c.core.log.popped ≤ length (units c.core.log)
+    → Performs c.core op result d.core → d.unread ≡ c.unread → kept d ≡ kept c
+kept-performs c d op (Ok done) w s (reply, due, is) u = at c d (stepping (Own op) reply c.core) is u (stepped c op reply w s)
+kept-performs c d op (Err e) w s (refused, is) u = at c d c.core is u refl
 
 pub kept-closes : (c d : Connection) (error : Option AmqpError) (result : Result (Unit {0}) CloseRefusal) → c.core.log.popped ≤ length (units c.core.log)
     → Closes c.core error result d.core → d.unread ≡ c.unread → kept d ≡ kept c

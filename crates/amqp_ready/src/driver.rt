@@ -1,13 +1,13 @@
 //! Many connections on one thread, over mio's poll.
 use crate::device::Socket;
-use crate::door::{Admitted, DOOR, Door, Welcome};
 use crate::handler::Handler;
+use crate::listener::{Admitted, LISTENER, Listening, Welcome};
 use crate::seat::Ended;
 use crate::slots::{Returned, Round, Slots};
 use crate::times::Limits;
-use amqp_conn::Conn;
+use amqp_conn::{Conn, Op, Refusal};
 use mio::net::{TcpListener, TcpStream};
-use mio::{Events, Interest, Poll, Token};
+use mio::{Events, Interest, Poll, Token, Waker};
 use std::alloc::{AllocError, Global};
 use std::io;
 use std::net::{Net, SocketAddr};
@@ -15,6 +15,9 @@ use std::time::Duration;
 
 /// How long a turn waits at most behind one in which memory was refused, or where a peer could not be let in, in milliseconds.
 const PAUSE: u64 = 10;
+
+/// What the waker tells itself by: no slot's key.
+const WAKER: Token = Token(usize::MAX - 1);
 
 /// How many peers are let in at once.
 const PEERS: usize = 64;
@@ -28,7 +31,7 @@ pub struct Driver<H> {
     poll: Poll,
     events: Events,
     slots: Slots<Socket, H>,
-    door: Option<Door>,
+    listener: Option<Listening>,
     /// Memory was refused in the last turn.
     is_short: bool,
 }
@@ -52,7 +55,7 @@ impl<H: Handler + Drop> Driver<H> {
             poll,
             events: Events::with_capacity(alloc, events)?,
             slots: Slots::new(alloc),
-            door: None,
+            listener: None,
             is_short: false,
         })
     }
@@ -62,7 +65,7 @@ impl<H: Handler + Drop> Driver<H> {
         &self.slots
     }
 
-    /// A connection more, over this stream: its key.
+    /// A connection more, over this stream: its key. What it puts out is gathered, so the system is asked to keep none of it back (TCP_NODELAY).
     ///
     /// # Errors
     ///
@@ -73,6 +76,8 @@ impl<H: Handler + Drop> Driver<H> {
         conn: Conn,
         handler: H,
     ) -> Result<usize, NotAdded<H>> {
+        // A system that cannot do so is slower, and right.
+        let _ = stream.set_nodelay(true);
         let key = self.slots.next_key();
         let both = Interest::READABLE | Interest::WRITABLE;
         match self.poll.registry().register(&mut stream, Token(key), both) {
@@ -119,8 +124,8 @@ impl<H: Handler + Drop> Driver<H> {
     pub fn listen(&mut self, mut listener: TcpListener) -> io::Result<()> {
         self.poll
             .registry()
-            .register(&mut listener, DOOR, Interest::READABLE)?;
-        self.door = Some(Door::new(listener));
+            .register(&mut listener, LISTENER, Interest::READABLE)?;
+        self.listener = Some(Listening::new(listener));
         Ok(())
     }
 
@@ -150,8 +155,8 @@ impl<H: Handler + Drop> Driver<H> {
     }
 
     fn next_peer(&mut self) -> io::Result<Option<(TcpStream, SocketAddr)>> {
-        match &mut self.door {
-            Some(door) => door.next(),
+        match &mut self.listener {
+            Some(listener) => listener.next(),
             None => Ok(None),
         }
     }
@@ -198,8 +203,8 @@ impl<H: Handler + Drop> Driver<H> {
         let timeout = self.at_most(timeout);
         self.poll.poll(&mut self.events, timeout)?;
         for event in &self.events {
-            if event.token() == DOOR {
-                wake_door(&mut self.door);
+            if event.token() == LISTENER {
+                wake_listener(&mut self.listener);
             } else {
                 self.slots.wake(event.token().0);
             }
@@ -210,8 +215,8 @@ impl<H: Handler + Drop> Driver<H> {
     /// How long a turn waits: not at all where there is something to do; where memory was refused or a peer could not be let in it lets some time pass, so
     /// that it does not spin.
     fn at_most(&self, timeout: Option<Duration>) -> Option<Duration> {
-        let (is_open, is_stuck) = match &self.door {
-            Some(door) => (door.is_open(), door.is_stuck()),
+        let (is_open, is_stuck) = match &self.listener {
+            Some(listener) => (listener.is_open(), listener.is_stuck()),
             None => (false, false),
         };
         let is_due = self.slots.is_any_due();
@@ -227,6 +232,21 @@ impl<H: Handler + Drop> Driver<H> {
     /// The slot under the key is served in the next turn, whether its stream is ready or not: its handler goes on.
     pub fn wake(&mut self, key: usize) {
         self.slots.wake(key);
+    }
+
+    /// Does an operation on the connection under the key, as `Slots::perform`; the next turn writes what it put out.
+    pub fn perform(&mut self, key: usize, op: Op) -> Option<Result<(), Refusal>> {
+        self.slots.perform(key, op)
+    }
+
+    /// Wakes a turn that waits, from whatever thread. What that thread would have done it hands on by a queue of the program's own, which the driver's thread
+    /// looks at between two turns. A driver has one, which wakes as long as it lives.
+    ///
+    /// # Errors
+    ///
+    /// Where the system has no more of them.
+    pub fn waker(&self) -> io::Result<Waker> {
+        Waker::new(self.poll.registry(), WAKER)
     }
 
     /// The clock is looked at (`Slots::tick`), in milliseconds from whatever moment. It makes no turn: the next one writes what it put out.
@@ -252,8 +272,8 @@ impl<H: Handler + Drop> Driver<H> {
 }
 
 /// Peers wait at the listener, where there is one.
-fn wake_door(door: &mut Option<Door>) {
-    if let Some(door) = door {
-        door.wake();
+fn wake_listener(listener: &mut Option<Listening>) {
+    if let Some(listener) = listener {
+        listener.wake();
     }
 }

@@ -1,11 +1,11 @@
 //! A connection, as a handler has it.
 ghost use Rattle.std.specs.Prelude.{◌≡◌, ◌≤◌, length, IfOk, OnErr};
 ghost use Rattle.amqp_journal.specs.Units.{units, PutWithin};
-ghost use Rattle.amqp_conn.specs.Calling.{Does, Closes, forgotten};
+ghost use Rattle.amqp_conn.specs.Calling.{Performs, Closes, forgotten};
 ghost use Rattle.amqp_conn.specs.Leaving.{Gives};
 ghost use Rattle.amqp_ready.specs.Lending.{kept};
 
-use amqp_conn::{AmqpError, Boxed, CloseRefusal, Conn, Given, Left, Op, Refusal};
+use amqp_conn::{AmqpError, Boxed, CloseRefusal, Conn, Left, Op, Refusal};
 use std::alloc::AllocError;
 
 /// A connection that is lent to a handler: for operations, its close and what is read of it. What it has not read, what went out of it and the frames that it
@@ -37,19 +37,17 @@ impl Lent {
         &self.conn
     }
 
-    /// Does an operation, as `Conn::apply`.
+    /// Does an operation, as `Conn::perform`: what it gives, `conn().given()` tells.
     ///
     /// # Errors
     ///
-    /// Those of `Conn::apply`: a refused operation has changed nothing.
-    pub fn perform(&mut self, op: Op) -> Result<Given, Refusal>
-        ensures does { Does self.old.conn.core op result self.new.conn.core }
+    /// Those of `Conn::apply`: a refused operation has changed nothing, and is dropped.
+    pub fn perform(&mut self, op: Op) -> Result<(), Refusal>
+        ensures performs { Performs self.old.conn.core op result self.new.conn.core }
         ensures kept { kept self.new.conn ≡ kept self.old.conn }
     {
         recall(&self.conn);
-        let answer = self.conn.apply(&op);
-        drop(op);
-        answer
+        self.conn.perform(op)
     }
 
     /// Closes the connection, as `Conn::close`.

@@ -14,7 +14,7 @@
 //! | `seat` | a slot, and how far it is ([`Stage`]); what is left of it ([`Ended`]) |
 //! | `slots` | [`Slots`]: slots by key, and which of them are to be served |
 //! | `times` | how long slots may take ([`Limits`]), on a clock that the program hands in |
-//! | `door` | peers that connect ([`Welcome`], [`Admitted`]) |
+//! | `listener` | peers that connect ([`Welcome`], [`Admitted`]) |
 //! | `driver` | [`Driver`]: slots over mio's poll |
 //!
 //! What becomes of a slot:
@@ -25,13 +25,13 @@
 //! ```
 
 mod device;
-mod door;
 mod driver;
 mod fault;
 mod feeding;
 mod handler;
 mod inbox;
 mod lent;
+mod listener;
 mod outbox;
 mod seat;
 mod sending;
@@ -40,12 +40,12 @@ mod slots;
 mod times;
 
 pub use device::{Moved, NonBlocking, Socket};
-pub use door::{Admitted, Welcome};
 pub use driver::{Driver, NotAdded};
 pub use fault::SlotFault;
 pub use handler::{Handler, Next};
 pub use inbox::{Inbox, ReadFault, Unfed};
 pub use lent::Lent;
+pub use listener::{Admitted, Welcome};
 pub use outbox::Outbox;
 pub use seat::{Ended, Stage, Turned};
 pub use sending::Flushed;

@@ -11,7 +11,7 @@ use crate::inbox::Inbox;
 use crate::sending::Flushed;
 use crate::slot::{Served, Slot};
 use crate::times::{Due, Limits, Seen, Span, Times, span_of};
-use amqp_conn::{Conn, ConnFault};
+use amqp_conn::{Conn, ConnFault, Op};
 use std::alloc::Global;
 
 /// How far a slot is.
@@ -234,7 +234,7 @@ impl<S: NonBlocking, H: Handler> Seat<S, H> {
         ensures stage { self.new.stage ≡ self.old.stage }
         ensures lent { Serves None (parts_of S.remaining S.written H.told self.old.slot) (parts_of S.remaining S.written H.told self.new.slot) }
     {
-        let _ = self.slot.beat();
+        let _ = self.slot.perform(Op::Beat);
         false
     }
 

@@ -1,7 +1,7 @@
 //! A connection with its stream.
 ghost use Rattle.std.specs.Prelude.{◌≡◌, ◌≢◌, ◌≤◌, ◌<◌, ◌⊎◌, [], Ok, None, length};
 ghost use Rattle.std.specs.Bool.{OnFalse};
-ghost use Rattle.amqp_conn.specs.Calling.{Closes, Does};
+ghost use Rattle.amqp_conn.specs.Calling.{Closes, Performs};
 ghost use Rattle.amqp_conn.specs.Pumping.{AllWent, OnlyWrote};
 ghost use Rattle.amqp_ready.specs.Serving.{fault_in, IsNoFeeds};
 ghost use Rattle.amqp_ready.specs.Slotting.{parts, Sent, Serves};
@@ -14,7 +14,7 @@ use crate::inbox::{Inbox, ReadFault, Unfed};
 use crate::lent::Lent;
 use crate::outbox::{GATHERED, Outbox};
 use crate::sending::{Flushed, flush};
-use amqp_conn::{CloseRefusal, Conn, Given, Op, Phase, Refusal};
+use amqp_conn::{CloseRefusal, Conn, Op, Phase, Refusal};
 use std::alloc::Global;
 
 /// What a read came to that did not fail.
@@ -332,16 +332,16 @@ impl<S: NonBlocking, H: Handler> Slot<S, H> {
         self.lent.close(None)
     }
 
-    /// An empty frame goes out, while the connection is open (part 2, 2.4.5).
+    /// Does an operation, as `Lent::perform`: the next turn writes what it put out.
     ///
     /// # Errors
     ///
     /// Those of `Conn::apply`: nothing has changed then.
-    pub fn beat(&mut self) -> Result<Given, Refusal>
-        ensures does { Does self.old.lent.conn.core Op.Beat result self.new.lent.conn.core }
+    pub fn perform(&mut self, op: Op) -> Result<(), Refusal>
+        ensures performs { Performs self.old.lent.conn.core op result self.new.lent.conn.core }
         ensures serves { Serves None (parts (S.remaining self.old.stream) self.old.unfed self.old.lent.conn (H.told self.old.handler) self.old.outbox (S.written self.old.stream)) (parts (S.remaining self.new.stream) self.new.unfed self.new.lent.conn (H.told self.new.handler) self.new.outbox (S.written self.new.stream)) }
     {
-        self.lent.perform(Op::Beat)
+        self.lent.perform(op)
     }
 
     /// Takes it apart: the stream, the connection and the application's part.

@@ -10,7 +10,7 @@ use crate::inbox::Inbox;
 use crate::seat::{Ended, Seat, Stage, Turned};
 use crate::slot::Slot;
 use crate::times::{Due, Limits};
-use amqp_conn::Conn;
+use amqp_conn::{Conn, Op, Refusal};
 use slab::Slab;
 use std::alloc::{AllocError, Global};
 use std::collections::VecDeque;
@@ -20,7 +20,7 @@ use std::collections::VecDeque;
 /// | call | cost, for n slots |
 /// |---|---|
 /// | `add` | O(1), and now and then a move of all to more room |
-/// | `wake`, `get`, `take_ended`, `serve` but for the turn itself | O(1) |
+/// | `wake`, `get`, `take_ended`, `perform` and `serve` but for the operation and the turn | O(1) |
 /// | `close_all`, `tick` | O(n) |
 #[derive(Drop)]
 pub struct Slots<S, H> {
@@ -304,6 +304,30 @@ impl<S: NonBlocking, H: Handler> Slots<S, H> {
     {
         if let Some(seat) = self.seats.get_mut(key) {
             let _ = seat.slot.close();
+        }
+    }
+
+    /// Does an operation on the connection under the key, as `Lent::perform`, for a program that has a reason of its own: none where no slot is there. The
+    /// slot is to be served then, which writes what it put out.
+    pub fn perform(&mut self, key: usize, op: Op) -> Option<Result<(), Refusal>>
+        ensures lent { LentAt S.remaining S.written H.told (held self.old.seats key) (held self.new.seats key) }
+        ensures others { OthersStay self.old.seats self.new.seats key }
+    {
+        let done = self.perform_one(key, op);
+        self.wake(key);
+        done
+    }
+
+    fn perform_one(&mut self, key: usize, op: Op) -> Option<Result<(), Refusal>>
+        ensures lent { LentAt S.remaining S.written H.told (held self.old.seats key) (held self.new.seats key) }
+        ensures others { OthersStay self.old.seats self.new.seats key }
+    {
+        match self.seats.get_mut(key) {
+            Some(seat) => Some(seat.slot.perform(op)),
+            None => {
+                drop(op);
+                None
+            }
         }
     }
 

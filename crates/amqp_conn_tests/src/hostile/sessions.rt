@@ -1,7 +1,7 @@
 //! Whole sessions, cut short at each octet and with each octet replaced in turn: each answer is one that may be given there, and so are those of further calls.
 
-use crate::peer::{Damage, Told, WHOLE, answers, connection, does, goes, last_tells};
-use crate::text::part;
+use crate::hostile::peer::{Damage, Told, WHOLE, answers, connection, does, goes, last_tells};
+use crate::hostile::text::part;
 use amqp_conn::{Conn, Phase};
 use std::alloc::Global;
 

@@ -1,6 +1,6 @@
 //! The peer's header and frames, by name. On the link `q`, which it calls handle 0, it sends or receives.
 
-use crate::text::part;
+use crate::hostile::text::part;
 
 /// The frames of sessions as they should be: `narrow` is a begin with handle-max 0, `holds` an attach that tells the tag 1 as accepted, `credit` gives five
 /// credits, `whole`, `second` and `third` are deliveries of one transfer with the tags 1, 2 and 3, `one`, `two` and `three` are one delivery with the tag

@@ -7,21 +7,12 @@
 //! | `conn` | a connection, and a pump over one |
 //! | `reading` | what takes no memory |
 //! | `steps`, `act`, `said`, `octets` | how a session goes through a table of steps, and what tables are written with |
-#![tactic(auto)]
 
-#[cfg(test)]
 mod act;
-#[cfg(test)]
 mod aside;
-#[cfg(test)]
 mod conn;
-#[cfg(test)]
 mod octets;
-#[cfg(test)]
 mod reading;
-#[cfg(test)]
 mod said;
-#[cfg(test)]
 mod session;
-#[cfg(test)]
 mod steps;

@@ -1,5 +1,5 @@
-//! Tests of one connection against a peer that breaks the rules, that is cut off or damaged in any octet, and that asks for much; and against devices that
-//! fail. What a clause says of one call these show of whole sessions.
+//! One connection against a peer that breaks the rules, that is cut off or damaged in any octet, and that asks for much; and against devices that fail. What
+//! a clause says of one call these show of whole sessions.
 //!
 //! | module | what it has |
 //! |---|---|
@@ -10,19 +10,11 @@
 //! | `sessions` | whole sessions, cut short and with octets replaced |
 //! | `devices` | a pump whose devices fail at each place, and move one octet at a time |
 //! | `bounds` | what a peer can make a connection keep |
-#![tactic(auto)]
 
-#[cfg(test)]
 mod bounds;
-#[cfg(test)]
 mod devices;
-#[cfg(test)]
 mod frames;
-#[cfg(test)]
 mod peer;
-#[cfg(test)]
 mod sessions;
-#[cfg(test)]
 mod text;
-#[cfg(test)]
 mod violations;

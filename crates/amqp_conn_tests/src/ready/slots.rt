@@ -1,6 +1,6 @@
 //! Slots by key over fake streams.
-use crate::fake::{Counts, Fake};
-use crate::peer::{CONTENT, OURS, PATIENT, TWICE, WHOLE, connection};
+use crate::ready::fake::{Counts, Fake};
+use crate::ready::peer::{CONTENT, OURS, PATIENT, TWICE, WHOLE, connection};
 use amqp_conn::ConnFault;
 use amqp_ready::{Ended, Limits, Next, SlotFault, Slots, Stage};
 use std::alloc::Global;

@@ -1,10 +1,10 @@
 //! A connection: what it is fed, cut and shared, what it does, and how it ends. What is not read of a frame no reader shows; the same octets, fed again,
 //! and those that come after them, then have to make what they make with ample memory.
 
-use crate::act::{Act, State, error, made};
-use crate::octets::*;
-use crate::said::{Said, Shown, left_of, refused, said_of, show};
-use crate::steps::is_same_unit;
+use crate::growth::act::{Act, State, error, made};
+use crate::growth::octets::*;
+use crate::growth::said::{Said, Shown, left_of, refused, said_of, show};
+use crate::growth::steps::is_same_unit;
 use amqp_conn::*;
 use std::alloc::{AllocError, Global};
 use std::io;

@@ -4,11 +4,11 @@
 //! `a_delivery_that_waits` and `a_delivery_that_is_taken` differ by a take of a payload that came in one transfer: by one growth, that of the box of what
 //! was taken. `parts_that_wait` and `parts_that_are_taken` differ by three, since the payload that came in three is joined.
 
-use crate::act::Act;
-use crate::octets::*;
-use crate::said::{Said, left_of, show};
-use crate::session::{BEGUN, LEFT, PEER_ENDS};
-use crate::steps::{CONFIG, Do, Steps, Way, again};
+use crate::growth::act::Act;
+use crate::growth::octets::*;
+use crate::growth::said::{Said, left_of, show};
+use crate::growth::session::{BEGUN, LEFT, PEER_ENDS};
+use crate::growth::steps::{CONFIG, Do, Steps, Way, again};
 use amqp_conn::Logged;
 use std::alloc::Global;
 

@@ -1,9 +1,9 @@
 //! Links that are put aside, by either end, and that are rejoined: what waits on them is resumed.
 
-use crate::act::{Act, State};
-use crate::octets::*;
-use crate::said::Said;
-use crate::steps::{Do, Way, goes};
+use crate::growth::act::{Act, State};
+use crate::growth::octets::*;
+use crate::growth::said::Said;
+use crate::growth::steps::{Do, Way, goes};
 use amqp_conn::{Role, Verdict};
 
 const MAPPED: &[(Do, Said)] = &[

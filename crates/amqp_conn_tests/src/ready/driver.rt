@@ -1,7 +1,8 @@
 //! Connections over sockets of the loopback, both ends on one thread.
-use crate::peer::connection;
-use amqp_conn::{Conn, Given, Phase, Refusal};
+use crate::ready::peer::connection;
+use amqp_conn::{Conn, Given, Op, Phase, Refusal};
 use amqp_ready::{Admitted, Driver, Handler, Lent, Next, NotAdded, Round, SlotFault, Welcome};
+use mio::Waker;
 use mio::net::{TcpListener, TcpStream};
 use std::alloc::Global;
 use std::io;
@@ -182,11 +183,35 @@ fn one_is_let_in<R: Net>(rt: &R, alloc: Global, driver: &mut Driver<Closes>) -> 
     Ok(are_there && admitted.added == 1 && admitted.turned_away == 1 && well == 2)
 }
 
+/// A turn that would wait is woken; and an operation of the program's own is done, or told that no connection is there.
+fn is_woken(driver: &mut Driver<Closes>) -> io::Result<bool> {
+    let waker = driver.waker()?;
+    let round = turn_woken(driver, &waker);
+    drop(waker);
+    Ok(round?.turns == 0 && driver.perform(7, Op::Beat).is_none())
+}
+
+fn turn_woken(driver: &mut Driver<Closes>, waker: &Waker) -> io::Result<Round> {
+    waker.wake()?;
+    driver.turn(None)
+}
+
+/// A connection that is not open yet refuses an operation.
+fn is_refused<R: Net>(rt: &R, alloc: Global, driver: &mut Driver<Closes>) -> io::Result<bool> {
+    let (near, far) = ends(rt)?;
+    let key = driver.slots().next_key();
+    let is_near = add(alloc, driver, near);
+    drop(far);
+    Ok(is_near && driver.perform(key, Op::Beat) == Some(Err(Refusal::NotRunning)))
+}
+
 #[derive(Clone, Copy)]
 enum Case {
     BothClose,
     OneGoes,
     OneIsLetIn,
+    Woken,
+    Refused,
 }
 
 /// The case, over a driver of its own, which no way out but the last lets go.
@@ -197,6 +222,8 @@ fn holds<R: AllocGlobal + Net>(rt: &R, case: Case) -> io::Result<bool> {
         Case::BothClose => both_close(rt, alloc, &mut driver),
         Case::OneGoes => one_goes(rt, alloc, &mut driver),
         Case::OneIsLetIn => one_is_let_in(rt, alloc, &mut driver),
+        Case::Woken => is_woken(&mut driver),
+        Case::Refused => is_refused(rt, alloc, &mut driver),
     };
     drop(driver);
     answer
@@ -217,5 +244,17 @@ fn a_peer_that_goes_ends_its_slot_alone(rt: HostRuntime) -> Result<(), Fail> {
 #[test]
 fn peers_are_let_in_or_turned_away(rt: HostRuntime) -> Result<(), Fail> {
     assert!(rt; holds(&rt, Case::OneIsLetIn)?);
+    Ok(())
+}
+
+#[test]
+fn a_turn_is_woken(rt: HostRuntime) -> Result<(), Fail> {
+    assert!(rt; holds(&rt, Case::Woken)?);
+    Ok(())
+}
+
+#[test]
+fn an_operation_is_the_connection_s(rt: HostRuntime) -> Result<(), Fail> {
+    assert!(rt; holds(&rt, Case::Refused)?);
     Ok(())
 }

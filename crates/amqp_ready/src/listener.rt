@@ -7,7 +7,7 @@ use std::io::ErrorKind;
 use std::net::SocketAddr;
 
 /// What events tell the listener by: no slot's key.
-pub(crate) const DOOR: Token = Token(usize::MAX);
+pub(crate) const LISTENER: Token = Token(usize::MAX);
 
 /// Makes a connection and the application's part for each peer that connects.
 pub trait Welcome<H> {
@@ -25,17 +25,17 @@ pub struct Admitted {
 
 /// A listener, and whether peers may wait at it.
 #[derive(Drop)]
-pub(crate) struct Door {
+pub(crate) struct Listening {
     listener: TcpListener,
     is_ready: bool,
     /// The peer that is next could not be let in, for want of files or memory.
     is_stuck: bool,
 }
 
-impl Door {
+impl Listening {
     /// Peers may wait already.
-    pub(crate) fn new(listener: TcpListener) -> Door {
-        Door {
+    pub(crate) fn new(listener: TcpListener) -> Listening {
+        Listening {
             listener,
             is_ready: true,
             is_stuck: false,

@@ -1,9 +1,9 @@
 //! A session with its journal: each operation, and each frame that is heard.
 
-use crate::act::{Act, State};
-use crate::octets::*;
-use crate::said::Said;
-use crate::steps::{Do, Way, goes};
+use crate::growth::act::{Act, State};
+use crate::growth::octets::*;
+use crate::growth::said::Said;
+use crate::growth::steps::{Do, Way, goes};
 use amqp_conn::Role;
 
 /// Both ends have begun, `p` is link 0, on which we send, and `q` link 1, on which we receive.

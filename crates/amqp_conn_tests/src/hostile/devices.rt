@@ -1,10 +1,10 @@
 //! A pump over devices of which one call fails, each call in turn: the failure is told, the same call goes on behind it, and the session ends as it would
 //! have. The devices move so many octets at a time, one as well as a whole unit.
 
-use crate::frames::frame;
-use crate::peer::{connection, does};
-use crate::sessions::SESSIONS;
-use crate::text::{octets, part};
+use crate::hostile::frames::frame;
+use crate::hostile::peer::{connection, does};
+use crate::hostile::sessions::SESSIONS;
+use crate::hostile::text::{octets, part};
 use amqp_conn::*;
 use std::alloc::Global;
 use std::io;

@@ -1,6 +1,6 @@
 //! A slot over a fake stream.
-use crate::fake::{Counts, Fake};
-use crate::peer::{OURS, TWICE, WHOLE, connection};
+use crate::ready::fake::{Counts, Fake};
+use crate::ready::peer::{OURS, TWICE, WHOLE, connection};
 use amqp_conn::*;
 use amqp_ready::{Inbox, Next, Served, Slot, SlotFault};
 use std::alloc::Global;

@@ -1,7 +1,7 @@
 use Rattle.std.proofs.Common.{refl}
 use Rattle.amqp_ready.proofs.Keeping.{kept-still, kept-gone}
 use Rattle.amqp_ready.proofs.Turning.{serves-lent}
-use Rattle.amqp_ready.proofs.slot.Slot.beat.Goals as goal
+use Rattle.amqp_ready.proofs.slot.Slot.perform.Goals as goal
 
 pub returns-clause-serves : goal.returns-clause-serves
 returns-clause-serves g c =

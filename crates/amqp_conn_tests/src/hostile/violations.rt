@@ -1,7 +1,7 @@
 //! Each violation is answered by the operation of its kind, each fault by a close, with the condition of the standard; what comes then is as it should be.
 
-use crate::peer::{WHOLE, answers, connection, goes, last_tells};
-use crate::text::{number, part};
+use crate::hostile::peer::{WHOLE, answers, connection, goes, last_tells};
+use crate::hostile::text::{number, part};
 use amqp_conn::{Conn, Phase};
 use std::alloc::Global;
 

@@ -1,7 +1,7 @@
 //! A connection that goes through a script. Its words are names of frames, which are fed, and operations of ours: `!` and a letter for each.
 
-use crate::frames::frame;
-use crate::text::{octets, part};
+use crate::hostile::frames::frame;
+use crate::hostile::text::{octets, part};
 use amqp_conn::*;
 use amqp_types::Items;
 use std::alloc::{AllocError, Global};

@@ -1,8 +1,8 @@
 //! What a peer can make a connection keep is bounded: by our journal, by the longest frame that we take, by how deep values are nested.
 
-use crate::peer::{Told, WHOLE, connection, does, goes, hears, last_tells};
-use crate::sessions::is_plain;
-use crate::text::octets;
+use crate::hostile::peer::{Told, WHOLE, connection, does, goes, hears, last_tells};
+use crate::hostile::sessions::is_plain;
+use crate::hostile::text::octets;
 use amqp_conn::{Conn, Phase};
 use std::alloc::Global;
 

@@ -1,8 +1,8 @@
 //! A session with its journal that goes through steps. Where memory is refused a step is made once more, after a look at what the readers show; a
 //! refusal and a violation are told at once, whatever is refused. Each session goes twice: one growth is refused in one of both, and they are to be the same.
 
-use crate::act::{Act, made, read};
-use crate::said::{Said, left_of, refused, said_of, show, violated};
+use crate::growth::act::{Act, made, read};
+use crate::growth::said::{Said, left_of, refused, said_of, show, violated};
 use amqp_conn::{Boxed, Frame, Given, Logged, Op, Role, Unit};
 use amqp_rules::config::Config;
 use std::alloc::Global;

@@ -1,0 +1,277 @@
+//! Messages over sockets: each end has one thread, which drives all of its connections.
+
+use crate::end::connection;
+use crate::hand::{Counts, Hand};
+use crate::session::Messages;
+use amqp_conn::{Bytes, Conn, Role};
+use amqp_ready::{Driver, Limits, Round, SlotFault, Welcome};
+use mio::net::{TcpListener, TcpStream};
+use std::alloc::{AllocError, Global};
+use std::net::{IpAddr, Ipv4Addr, Net, SocketAddr};
+use std::rt::Clock;
+use std::time::{Duration, Instant};
+
+/// How many events a turn takes at most.
+const EVENTS: usize = 1024;
+
+/// How often the clock is looked at for all connections, in milliseconds.
+const TICK: u64 = 1000;
+
+/// A peer opens within ten seconds, and closes within five; how long it is silent does not matter.
+const LIMITS: Limits = Limits {
+    open: 10000,
+    silence: u64::MAX,
+    close: 5000,
+};
+
+/// Which ends a run has.
+#[derive(Clone, Copy, Debug, PartialEq, Eq)]
+pub enum Ends {
+    /// It connects, and sends.
+    Sender,
+    /// It listens, and receives.
+    Receiver,
+    /// One thread has all of both.
+    Both,
+}
+
+/// What is sent over which connections.
+#[derive(Clone, Copy, Debug)]
+pub struct Sockets {
+    pub ends: Ends,
+    /// The port of 127.0.0.1; 0: any that is free.
+    pub port: u16,
+    pub connections: u32,
+    /// Over each connection.
+    pub messages: Messages,
+}
+
+/// What the ends have done.
+#[derive(Clone, Copy, Debug, PartialEq, Eq)]
+struct Totals {
+    begun: u64,
+    learnt: u64,
+    taken: u64,
+    octets: u64,
+    /// How many connections did not end as they may.
+    faults: u64,
+}
+
+impl Totals {
+    fn add(&mut self, counts: Counts, fault: Option<SlotFault>) {
+        self.begun = self.begun.saturating_add(u64::from(counts.begun));
+        self.learnt = self.learnt.saturating_add(u64::from(counts.learnt));
+        self.taken = self.taken.saturating_add(u64::from(counts.taken));
+        self.octets = self.octets.saturating_add(counts.octets);
+        if fault.is_some() {
+            self.faults = self.faults.saturating_add(1);
+        }
+    }
+}
+
+/// Makes the receiving end of each connection, of so many at most.
+#[derive(Drop)]
+struct Receives {
+    alloc: Global,
+    messages: Messages,
+    left: u32,
+}
+
+impl Welcome<Hand> for Receives {
+    fn welcome(&mut self, _from: SocketAddr) -> Option<(Conn, Hand)> {
+        if self.left == 0 {
+            return None;
+        }
+        self.left -= 1;
+        match connection(self.alloc, "receiver") {
+            Ok(conn) => {
+                let hand = Hand::new(self.alloc, Role::Receiver, self.messages, Bytes::new());
+                Some((conn, hand))
+            }
+            Err(_) => None,
+        }
+    }
+}
+
+/// Sends the messages over all connections. Standard output has what came of it, standard error the time.
+pub fn run_sockets<R>(rt: &R, sockets: Sockets) -> anyhow::Result<()>
+where
+    R: AllocGlobal + Print + Eprint + Clock + Net,
+{
+    let mut driver = Driver::new(rt, rt.alloc(), EVENTS)?;
+    let ran = run_driver(rt, &mut driver, sockets);
+    drop(driver);
+    let (totals, took) = ran?;
+    println!(rt;
+        "sockets begun {} learnt {} taken {} octets {} faults {}",
+        totals.begun, totals.learnt, totals.taken, totals.octets, totals.faults
+    )?;
+    tell(rt, totals, took)
+}
+
+/// Tells the time of one message, and how many there are in a second.
+fn tell<R: Eprint>(rt: &R, totals: Totals, took: Duration) -> anyhow::Result<()> {
+    let count = u128::from(totals.begun.max(totals.taken).max(1));
+    let nanoseconds = took.as_nanos().max(1);
+    let each = nanoseconds / count;
+    let each_second = count.saturating_mul(1000000000) / nanoseconds;
+    eprintln!(rt; "sockets: {each} ns a message, {each_second} a second")?;
+    Ok(())
+}
+
+/// The time is from the first connection to the end of the last one.
+fn run_driver<R>(
+    rt: &R,
+    driver: &mut Driver<Hand>,
+    sockets: Sockets,
+) -> anyhow::Result<(Totals, Duration)>
+where
+    R: AllocGlobal + Clock + Net,
+{
+    begin(rt, driver, sockets)?;
+    let mut receives = Receives {
+        alloc: rt.alloc(),
+        messages: sockets.messages,
+        left: sockets.connections,
+    };
+    await_first(driver, &mut receives)?;
+    let begun = Instant::now(rt)?;
+    let totals = turn_to_the_end(rt, driver, &mut receives, sockets, begun)?;
+    Ok((totals, begun.elapsed(rt)?))
+}
+
+/// Listens, connects, or both.
+fn begin<R>(rt: &R, driver: &mut Driver<Hand>, sockets: Sockets) -> anyhow::Result<()>
+where
+    R: AllocGlobal + Net,
+{
+    let mut there = SocketAddr::new(IpAddr::V4(Ipv4Addr::new(127, 0, 0, 1)), sockets.port);
+    if sockets.ends != Ends::Sender {
+        let listener = TcpListener::bind(rt, there)?;
+        there = listener.local_addr()?;
+        driver.listen(listener)?;
+    }
+    if sockets.ends != Ends::Receiver {
+        let size = sockets.messages.size as usize;
+        let payload = Bytes::from_vec(vec![in rt.alloc(); 0x78u8; size]?)?;
+        connect_all(rt, driver, there, sockets, &payload)?;
+    }
+    Ok(())
+}
+
+fn connect_all<R>(
+    rt: &R,
+    driver: &mut Driver<Hand>,
+    there: SocketAddr,
+    sockets: Sockets,
+    payload: &Bytes,
+) -> anyhow::Result<()>
+where
+    R: AllocGlobal + Net,
+{
+    for _ in 0..sockets.connections {
+        let stream = TcpStream::connect(rt, there)?;
+        add_sender(
+            rt.alloc(),
+            driver,
+            stream,
+            sockets.messages,
+            payload.clone()?,
+        )?;
+    }
+    Ok(())
+}
+
+fn add_sender(
+    alloc: Global,
+    driver: &mut Driver<Hand>,
+    stream: TcpStream,
+    messages: Messages,
+    payload: Bytes,
+) -> anyhow::Result<()> {
+    let conn = connection(alloc, "sender")?;
+    let hand = Hand::new(alloc, Role::Sender, messages, payload);
+    match driver.add(stream, conn, hand) {
+        Ok(_) => Ok(()),
+        Err(not_added) => {
+            drop(not_added);
+            Err(AllocError.into())
+        }
+    }
+}
+
+/// Turns until a connection is there.
+fn await_first(driver: &mut Driver<Hand>, receives: &mut Receives) -> anyhow::Result<()> {
+    for _ in 0..u64::MAX {
+        if !driver.slots().is_empty() {
+            break;
+        }
+        let _: Round = driver.turn(None)?;
+        admit(driver, receives);
+    }
+    Ok(())
+}
+
+/// Lets peers in. Those that cannot be let in now, mostly since the process may have no file more, wait.
+fn admit(driver: &mut Driver<Hand>, receives: &mut Receives) {
+    let _ = driver.admit(receives);
+}
+
+/// Turns until as many connections have ended as there are to be.
+fn turn_to_the_end<R: Clock>(
+    rt: &R,
+    driver: &mut Driver<Hand>,
+    receives: &mut Receives,
+    sockets: Sockets,
+    begun: Instant,
+) -> anyhow::Result<Totals> {
+    let mut totals = Totals {
+        begun: 0,
+        learnt: 0,
+        taken: 0,
+        octets: 0,
+        faults: 0,
+    };
+    let mut left = u64::from(sockets.connections);
+    if sockets.ends == Ends::Both {
+        left = left.saturating_mul(2);
+    }
+    let mut next = 0;
+    for _ in 0..u64::MAX {
+        if left == 0 {
+            break;
+        }
+        let _: Round = driver.turn(Some(Duration::from_millis(TICK)))?;
+        admit(driver, receives);
+        let now = begun.elapsed(rt)?.as_millis() as u64;
+        if now >= next {
+            driver.tick(LIMITS, now);
+            next = now.saturating_add(TICK);
+        }
+        left = left.saturating_sub(count_ended(driver, &mut totals));
+    }
+    Ok(totals)
+}
+
+/// Counts what those have done that have ended: how many these are.
+fn count_ended(driver: &mut Driver<Hand>, totals: &mut Totals) -> u64 {
+    let mut count = 0u64;
+    for _ in 0..u64::MAX {
+        if !count_one(driver, totals) {
+            break;
+        }
+        count = count.saturating_add(1);
+    }
+    count
+}
+
+fn count_one(driver: &mut Driver<Hand>, totals: &mut Totals) -> bool {
+    match driver.take_ended() {
+        Some(ended) => {
+            totals.add(ended.handler.counts(), ended.fault);
+            drop(ended);
+            true
+        }
+        None => false,
+    }
+}
