@@ -236,7 +236,8 @@ impl Hand {
     }
 
     fn part(&self, from: usize, to: usize) -> Result<Bytes, Refusal> {
-        match self.payload.slice(from..to) {
+        let to = to.min(self.payload.len());
+        match self.payload.slice(from.min(to)..to) {
             Ok(part) => Ok(part),
             Err(_) => Err(Refusal::NoMemory),
         }

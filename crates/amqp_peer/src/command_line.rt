@@ -3,11 +3,12 @@ ghost use Rattle.std.specs.Prelude.{IfOk, IfSome};
 ghost use Rattle.amqp_peer.specs.Requests.{IsAllowed};
 
 use crate::options;
-use crate::options::{USUAL, config_of, direction_of, explained_of, receive_of, send_of};
+use crate::options::{USUAL, config_of, direction_of, explained_of, receive_of, send_of, serve_of};
 use amqp_client::exchange::Exchange;
 use amqp_endpoint::config::Config;
 use amqp_pair::{MAX_CONSUMERS, MAX_COUNT, MAX_CREDIT, MAX_SIZE, Options};
 use amqp_script::explain::Explained;
+use amqp_serve::Serve;
 use amqp_trace::Direction;
 use clap::error::ErrorKind;
 use clap::{Arg, ArgMatches, Command, Error, value_parser};
@@ -35,6 +36,8 @@ pub enum Request<'a> {
     Send(Exchange<'a>),
     /// A run of `receive`.
     Receive(Exchange<'a>),
+    /// A run of `serve`.
+    Serve(Serve<'a>),
 }
 
 /// What the words ask for, the first of which is the program's name. The error holds what is to be told: a fault of
@@ -77,6 +80,9 @@ fn request_of<'a>(matches: &ArgMatches<'a>) -> Option<Request<'a>>
     if let Some(options) = matches.subcommand_matches("receive") {
         return Some(Request::Receive(receive_of(options)?));
     }
+    if let Some(options) = matches.subcommand_matches("serve") {
+        return Some(Request::Serve(serve_of(options)?));
+    }
     if let Some(options) = matches.subcommand_matches("trace") {
         return Some(Request::Trace(direction_of(options), options.get_flag("raw")));
     }
@@ -115,6 +121,7 @@ fn program<'a>(alloc: Global) -> Result<Command<'a>, AllocError> {
     let command = with(command, pair(alloc))?;
     let command = with(command, options::send(alloc))?;
     let command = with(command, options::receive(alloc))?;
+    let command = with(command, options::serve(alloc))?;
     command.subcommand(options::rows(alloc))
 }
 

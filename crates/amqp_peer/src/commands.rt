@@ -9,10 +9,12 @@ use amqp_script::driven::run_conn;
 use amqp_script::frames::{Framed, Octets, run_frames};
 use amqp_script::script::run_script;
 use amqp_script::trace::{run_raw_trace, run_trace};
+use amqp_serve::run_serve;
 use anyhow::bail;
 use clap::error::ErrorKind;
 use std::io::{BufRead, Write};
 use std::net::{Net, TcpStream};
+use std::rt::Clock;
 use std::sync::Wait;
 use std::thread::Threads;
 
@@ -33,7 +35,7 @@ pub fn answer<H, R: BufRead, W: Write>(
     writer: &mut W,
 ) -> anyhow::Result<u8>
 where
-    H: AllocGlobal + Net<Stream = TcpStream> + Threads + Wait + Sync,
+    H: AllocGlobal + Clock + Net<Stream = TcpStream> + Threads + Wait + Sync,
     requires { IsAllowed request }
 {
     let alloc = rt.alloc();
@@ -62,6 +64,10 @@ where
         }
         Request::Send(exchange) => Ok(status_if(run_send(rt, alloc, &exchange, reader, writer)?)),
         Request::Receive(exchange) => Ok(status_if(run_receive(rt, alloc, &exchange, writer)?)),
+        Request::Serve(serve) => {
+            run_serve(rt, alloc, serve, writer)?;
+            Ok(DONE)
+        }
         Request::Rows => bail!("a row that runs rows"),
     }
 }

@@ -13,6 +13,7 @@
 //! | `amqp_script::script` | the command `script`: lines of text on one journal, one answer each |
 //! | `amqp_pair` | the command `pair`: two ends of a connection over the loopback |
 //! | `amqp_client` | the commands `send` and `receive`: messages to a peer, or from one, over TCP |
+//! | `amqp_serve` | the command `serve`: messages in memory by address, for peers that connect |
 //!
 //! | exit status | where |
 //! |---|---|
@@ -35,6 +36,7 @@ use std::env::Env;
 use std::io::{BufReader, BufWriter};
 use std::net::{Net, TcpStream};
 use std::process::ExitCode;
+use std::rt::Clock;
 use std::sync::Wait;
 use std::thread::Threads;
 use std::{env, io};
@@ -52,7 +54,16 @@ fn main(rt: HostRuntime) -> ExitCode {
 
 fn run<R>(rt: &R) -> anyhow::Result<u8>
 where
-    R: AllocGlobal + Env + Input + Print + Eprint + Net<Stream = TcpStream> + Threads + Wait + Sync,
+    R: AllocGlobal
+        + Env
+        + Input
+        + Print
+        + Eprint
+        + Clock
+        + Net<Stream = TcpStream>
+        + Threads
+        + Wait
+        + Sync,
 {
     let words: Vec<String> = env::args(rt)?.collect(rt.alloc())?;
     match read_request(rt.alloc(), words.as_slice()) {
@@ -67,7 +78,7 @@ where
 /// Does what is asked for, from standard input to standard output.
 fn do_request<R>(rt: &R, request: Request<'_>) -> anyhow::Result<u8>
 where
-    R: AllocGlobal + Input + Print + Net<Stream = TcpStream> + Threads + Wait + Sync,
+    R: AllocGlobal + Input + Print + Clock + Net<Stream = TcpStream> + Threads + Wait + Sync,
     requires { IsAllowed request }
 {
     let mut reader = BufReader::new(rt.alloc(), rt.reader())?;

@@ -5,6 +5,7 @@ use amqp_client::exchange::{Exchange, Renewal};
 use amqp_client::{Labels, Printed};
 use amqp_rules::config::{Config, MAX_JOURNAL_LIMIT, MAX_WINDOW};
 use amqp_script::explain::{Explained, find_fault, find_refusal, find_violation};
+use amqp_serve::Serve;
 use amqp_trace::Direction;
 use clap::{Arg, ArgAction, ArgMatches, Command, value_parser};
 use std::alloc::{AllocError, Global};
@@ -162,6 +163,38 @@ pub fn receive<'a>(alloc: Global) -> Result<Command<'a>, AllocError> {
         .arg(flag(alloc, "sections", sections))
 }
 
+/// The command `serve` with its options.
+pub fn serve<'a>(alloc: Global) -> Result<Command<'a>, AllocError> {
+    let about =
+        "Listens for peers, keeps what they send in memory by address, and sends it to those that take it: for tests";
+    let count = "Ends once so many messages were sent and are done with";
+    let limit = "How many messages are kept at most";
+    Command::new(alloc, "serve")
+        .about(about)
+        .arg(text(
+            alloc,
+            "host",
+            "The address to listen at, in digits",
+            "127.0.0.1",
+        ))?
+        .arg(port(alloc))?
+        .arg(usual(
+            alloc,
+            "credit",
+            "How many messages may come at a time on each link",
+            "100",
+        )
+        .value_parser(value_parser!(u32).range(1..=2147483647)))?
+        .arg(usual(alloc, "limit", limit, "100000"))?
+        .arg(
+            Arg::new(alloc, "count")
+                .long("count")
+                .value_name("N")
+                .value_parser(value_parser!(u32))
+                .help(count),
+        )
+}
+
 /// The command, with the options that say who the peer is, and of how many messages.
 fn with_peer<'a>(alloc: Global, command: Command<'a>) -> Result<Command<'a>, AllocError> {
     let count = usual(alloc, "count", "How many messages", "1");
@@ -262,6 +295,17 @@ pub fn receive_of<'a>(options: &ArgMatches<'a>) -> Option<Exchange<'a>> {
         renewal: renewal_of(options),
         printed: printed_of(options),
         ..exchange_of(options)?
+    })
+}
+
+/// What a `serve` is to do.
+pub fn serve_of<'a>(options: &ArgMatches<'a>) -> Option<Serve<'a>> {
+    Some(Serve {
+        host: options.get_str("host")?,
+        port: options.get_one::<u16>("port")?,
+        credit: options.get_one::<u32>("credit")?,
+        limit: options.get_one::<u32>("limit")?,
+        count: options.get_one::<u32>("count"),
     })
 }
 

@@ -65,6 +65,11 @@ impl<H: Handler + Drop> Driver<H> {
         &self.slots
     }
 
+    /// The application's part of the connection under the key, as `Slots::handler_mut`.
+    pub fn handler_mut(&mut self, key: usize) -> Option<&mut H> {
+        self.slots.handler_mut(key)
+    }
+
     /// A connection more, over this stream: its key. What it puts out is gathered, so the system is asked to keep none of it back (TCP_NODELAY).
     ///
     /// # Errors

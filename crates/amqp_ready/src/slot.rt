@@ -110,6 +110,11 @@ impl<S: NonBlocking, H: Handler> Slot<S, H> {
         &self.handler
     }
 
+    /// The application's part, to be changed.
+    pub fn handler_mut(&mut self) -> &mut H {
+        &mut self.handler
+    }
+
     /// The stream, to be read.
     pub fn stream(&self) -> &S
         ensures { result.now ≡ self.now.stream }

@@ -100,6 +100,20 @@ impl<S: NonBlocking, H: Handler> Slots<S, H> {
         }
     }
 
+    /// The application's part of the slot under the key, between its turns; also of one that has ended and was not taken out. `wake` makes a turn, if it is to
+    /// go on.
+    pub fn handler_mut(&mut self, key: usize) -> Option<&mut H> {
+        match self.seats.get_mut(key) {
+            Some(seat) => Some(seat.slot.handler_mut()),
+            None => None,
+        }
+    }
+
+    /// Each key is below this number.
+    pub fn capacity(&self) -> usize {
+        self.seats.capacity()
+    }
+
     /// How far the slot under the key is.
     pub fn stage(&self, key: usize) -> Option<Stage>
         ensures { result ≡ option_map (λ p. p.1) (held self.now.seats key) }

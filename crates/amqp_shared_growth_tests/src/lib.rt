@@ -1,5 +1,5 @@
 //! Each growth refused in turn, of the calls of a connection that threads share, on one thread: as those of a session and of a connection stand in
-//! `amqp_growth_tests`. They stand apart from `amqp_shared_tests`, whose check holds much memory by itself. And runs of `amqp_pair` that fail, which no
+//! `amqp_conn_tests`. They stand apart from `amqp_shared_tests`, whose check holds much memory by itself. And runs of `amqp_pair` that fail, which no
 //! command line asks for; and messages between two ends of `amqp_client`.
 //!
 //! | module | what it holds |
