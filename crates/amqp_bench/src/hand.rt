@@ -1,4 +1,5 @@
 //! What an end of a connection does that is measured: it opens, and then sends messages, or accepts them.
+ghost use Rattle.std.specs.Prelude.{◌≡◌};
 
 use crate::session::Messages;
 use amqp_conn::{
@@ -38,16 +39,29 @@ pub struct Counts {
 
 /// A connection that operations are done on, whoever has it.
 pub trait Operated {
+    ghost use Rattle.std.specs.Prelude.{Option};
+    ghost use Rattle.amqp_ready.specs.Lending.{Kept};
+
+    /// What stays of it, where it is lent.
+    ghost stays: { Self → Option Kept };
+
     fn conn(&self) -> &Conn;
 
-    fn perform(&mut self, op: Op) -> Result<(), Refusal>;
+    fn perform(&mut self, op: Op) -> Result<(), Refusal>
+        ensures { stays self.new ≡ stays self.old };
 
-    fn close(&mut self) -> Result<(), CloseRefusal>;
+    fn close(&mut self) -> Result<(), CloseRefusal>
+        ensures { stays self.new ≡ stays self.old };
 
-    fn forget(&mut self);
+    fn forget(&mut self)
+        ensures { stays self.new ≡ stays self.old };
 }
 
 impl Operated for Conn {
+    ghost use Rattle.std.specs.Prelude.{None};
+
+    ghost stays = { λ c. None };
+
     fn conn(&self) -> &Conn {
         self
     }
@@ -66,6 +80,11 @@ impl Operated for Conn {
 }
 
 impl Operated for Lent {
+    ghost use Rattle.std.specs.Prelude.{Some};
+    ghost use Rattle.amqp_ready.specs.Lending.{kept};
+
+    ghost stays = { λ l. Some (kept l.conn) };
+
     fn conn(&self) -> &Conn {
         Lent::conn(self)
     }
@@ -122,7 +141,9 @@ impl Hand {
     }
 
     /// Begins, attaches and grants, as the peer's answers allow.
-    fn open<C: Operated>(&mut self, conn: &mut C) -> Result<(), Refusal> {
+    fn open<C: Operated>(&mut self, conn: &mut C) -> Result<(), Refusal>
+        ensures { C.stays conn.new ≡ C.stays conn.old }
+    {
         if self.stage == Stage::Opens && conn.conn().phase() == Phase::Running {
             conn.perform(Op::Begin)?;
             self.stage = Stage::Begins;
@@ -138,7 +159,9 @@ impl Hand {
     }
 
     /// Attaches the link: whether it was not too early for it.
-    fn attach<C: Operated>(&self, conn: &mut C) -> Result<bool, Refusal> {
+    fn attach<C: Operated>(&self, conn: &mut C) -> Result<bool, Refusal>
+        ensures { C.stays conn.new ≡ C.stays conn.old }
+    {
         let Ok(name) = Text::new(self.alloc, "messages") else {
             return Err(Refusal::NoMemory);
         };
@@ -160,7 +183,9 @@ impl Hand {
     }
 
     /// Grants all credit anew, where we receive.
-    fn grant<C: Operated>(&mut self, conn: &mut C) -> Result<(), Refusal> {
+    fn grant<C: Operated>(&mut self, conn: &mut C) -> Result<(), Refusal>
+        ensures { C.stays conn.new ≡ C.stays conn.old }
+    {
         if self.role == Role::Sender {
             return Ok(());
         }
@@ -174,7 +199,9 @@ impl Hand {
     }
 
     /// Learns what was told, and begins messages while there is credit: whether it would begin more.
-    fn send<C: Operated>(&mut self, conn: &mut C) -> Result<bool, Refusal> {
+    fn send<C: Operated>(&mut self, conn: &mut C) -> Result<bool, Refusal>
+        ensures { C.stays conn.new ≡ C.stays conn.old }
+    {
         if !self.messages.settled {
             self.learn(conn)?;
         }
@@ -203,7 +230,9 @@ impl Hand {
         self.counts.begun == all && (self.messages.settled || self.counts.learnt == all)
     }
 
-    fn learn<C: Operated>(&mut self, conn: &mut C) -> Result<(), Refusal> {
+    fn learn<C: Operated>(&mut self, conn: &mut C) -> Result<(), Refusal>
+        ensures { C.stays conn.new ≡ C.stays conn.old }
+    {
         for _ in self.counts.learnt..self.counts.begun {
             match conn.perform(Op::Learn { link: LINK }) {
                 Ok(()) => self.counts.learnt = self.counts.learnt.saturating_add(1),
@@ -216,7 +245,9 @@ impl Hand {
     }
 
     /// Begins a message, whose tag is its number, and carries the rest of it.
-    fn start<C: Operated>(&mut self, conn: &mut C) -> Result<(), Refusal> {
+    fn start<C: Operated>(&mut self, conn: &mut C) -> Result<(), Refusal>
+        ensures { C.stays conn.new ≡ C.stays conn.old }
+    {
         let Some(tag) = Tag::new(&self.counts.begun.to_be_bytes()) else {
             return Err(Refusal::NotWritable);
         };
@@ -244,7 +275,9 @@ impl Hand {
     }
 
     /// Sends the rest of a message of so many octets, in as many transfers as it needs.
-    fn carry_all<C: Operated>(&self, conn: &mut C, length: usize) -> Result<(), Refusal> {
+    fn carry_all<C: Operated>(&self, conn: &mut C, length: usize) -> Result<(), Refusal>
+        ensures { C.stays conn.new ≡ C.stays conn.old }
+    {
         let mut from = PART;
         for _ in 0..u64::MAX {
             if from >= length {
@@ -263,7 +296,9 @@ impl Hand {
     }
 
     /// Takes a delivery that is ready.
-    fn take_one<C: Operated>(&mut self, conn: &mut C) -> Result<(), Refusal> {
+    fn take_one<C: Operated>(&mut self, conn: &mut C) -> Result<(), Refusal>
+        ensures { C.stays conn.new ≡ C.stays conn.old }
+    {
         conn.perform(Op::Take { link: LINK })?;
         if let Some(Given::Taken(taken)) = conn.conn().given() {
             let taken = taken.get();
@@ -282,7 +317,9 @@ impl Hand {
     }
 
     /// Accepts and settles what was taken, and renews the credit where half of it is used.
-    fn settle<C: Operated>(&mut self, conn: &mut C) -> Result<(), Refusal> {
+    fn settle<C: Operated>(&mut self, conn: &mut C) -> Result<(), Refusal>
+        ensures { C.stays conn.new ≡ C.stays conn.old }
+    {
         if let Some((first, last)) = self.fresh {
             self.fresh = None;
             if !self.messages.settled {
@@ -309,7 +346,9 @@ impl Hand {
     }
 
     /// Forgets the journal's entries where as many stand as are kept.
-    fn make_room<C: Operated>(&self, conn: &mut C) {
+    fn make_room<C: Operated>(&self, conn: &mut C)
+        ensures { C.stays conn.new ≡ C.stays conn.old }
+    {
         if let Some(most) = self.messages.keep {
             if conn.conn().logged().journal().len() >= most as usize {
                 conn.forget();
@@ -318,7 +357,9 @@ impl Hand {
     }
 
     /// Is told what an entry gave that the peer's octets made: whether what waits is to be written before more is heard.
-    pub fn receive<C: Operated>(&mut self, conn: &mut C, given: Given) -> Result<bool, Refusal> {
+    pub fn receive<C: Operated>(&mut self, conn: &mut C, given: Given) -> Result<bool, Refusal>
+        ensures { C.stays conn.new ≡ C.stays conn.old }
+    {
         let is_ready = matches!(&given, Given::Ready(_, _));
         drop(given);
         if !is_ready {
@@ -336,7 +377,9 @@ impl Hand {
     }
 
     /// Does what is to be done now: whether there is more of it, once what waits is written.
-    pub fn advance<C: Operated>(&mut self, conn: &mut C) -> Result<bool, Refusal> {
+    pub fn advance<C: Operated>(&mut self, conn: &mut C) -> Result<bool, Refusal>
+        ensures { C.stays conn.new ≡ C.stays conn.old }
+    {
         if conn.conn().phase() != Phase::Running || self.stage == Stage::Closes {
             return Ok(false);
         }
@@ -371,7 +414,9 @@ impl Handler for Hand {
     }
 }
 
-fn dispose<C: Operated>(conn: &mut C, first: u32, last: u32) -> Result<(), Refusal> {
+fn dispose<C: Operated>(conn: &mut C, first: u32, last: u32) -> Result<(), Refusal>
+    ensures { C.stays conn.new ≡ C.stays conn.old }
+{
     conn.perform(Op::Dispose {
         role: Role::Receiver,
         first,

@@ -1,6 +1,6 @@
 //! Connections, queues, and what goes from the ones to the others.
 use crate::queues::{Message, Queues};
-use crate::visitor::{Arrived, Unlearnt, Visitor, grant};
+use crate::visitor::{Arrived, Told, Unlearnt, Visitor, grant, told_in};
 use amqp_conn::{Bytes, Config, Conn, DeliveryState, Given, Op, Role, Tag, Text};
 use amqp_ready::{Driver, Limits, Welcome};
 use mio::net::TcpListener;
@@ -150,6 +150,9 @@ impl Server {
                 break;
             }
         }
+        for at in 0..self.links_of(key) {
+            self.learn_all(key, at);
+        }
         self.take_back(key);
         for at in 0..self.links_of(key) {
             self.renew(key, at);
@@ -212,6 +215,51 @@ impl Server {
                 drop(message);
                 false
             }
+        }
+    }
+
+    /// Learns what became of what was sent on the link at this place.
+    fn learn_all(&mut self, key: usize, at: usize) {
+        let Some((link, _)) = self.outlet(key, at) else {
+            return;
+        };
+        for _ in 0..u64::MAX {
+            if !self.learn_one(key, link) {
+                break;
+            }
+        }
+    }
+
+    /// Learns of one delivery, and settles it where the peer has not: whether there was one.
+    fn learn_one(&mut self, key: usize, link: u32) -> bool {
+        if self.driver.perform(key, Op::Learn { link }) != Some(Ok(())) {
+            return false;
+        }
+        let told = match self.driver.slots().get(key) {
+            Some(slot) => told_in(slot.conn().given()),
+            None => None,
+        };
+        if let Some(told) = told {
+            self.end(key, told);
+        }
+        true
+    }
+
+    fn end(&mut self, key: usize, told: Told) {
+        if let Some(visitor) = self.driver.handler_mut(key) {
+            let _: bool = visitor.end(told);
+        }
+        if !told.is_settled {
+            let _ = self.driver.perform(
+                key,
+                Op::Dispose {
+                    role: Role::Sender,
+                    first: told.id,
+                    last: told.id,
+                    settled: true,
+                    state: None,
+                },
+            );
         }
     }
 

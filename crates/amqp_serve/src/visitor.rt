@@ -1,4 +1,7 @@
 //! What is done with one connection, inside its turns.
+ghost use Rattle.std.specs.Prelude.{◌≡◌};
+ghost use Rattle.amqp_ready.specs.Lending.{kept};
+
 use crate::links::{Linked, answer_to, has_begun};
 use crate::queues::Message;
 use amqp_conn::{DeliveryState, Given, Op, Refusal, Role};
@@ -31,7 +34,7 @@ pub struct Unlearnt {
 
 /// What an outcome means for a message.
 #[derive(Clone, Copy, PartialEq, Eq)]
-enum Fate {
+pub enum Fate {
     /// It is done with.
     Over,
     /// It goes back to its queue.
@@ -40,10 +43,10 @@ enum Fate {
 
 /// What the peer told of a delivery.
 #[derive(Clone, Copy)]
-struct Told {
-    id: u32,
-    fate: Fate,
-    is_settled: bool,
+pub struct Told {
+    pub id: u32,
+    pub fate: Fate,
+    pub is_settled: bool,
 }
 
 /// What is known of a connection, and what is to be done for it by the server.
@@ -93,8 +96,21 @@ impl Visitor {
         }
     }
 
+    fn act(&mut self, conn: &mut Lent, heard: Heard) -> Result<(), Refusal>
+        ensures { kept conn.new.conn ≡ kept conn.old.conn }
+    {
+        match heard {
+            Heard::Offered(link) => self.answer(conn, link),
+            Heard::Ready(link) => self.take_one(conn, link),
+            Heard::Gone(link) => self.leave(link),
+            Heard::Other => self.begin(conn),
+        }
+    }
+
     /// Begins the session once the peer has.
-    fn begin(&mut self, conn: &mut Lent) -> Result<(), Refusal> {
+    fn begin(&mut self, conn: &mut Lent) -> Result<(), Refusal>
+        ensures { kept conn.new.conn ≡ kept conn.old.conn }
+    {
         if !self.is_begun && has_begun(conn.conn()) {
             self.is_begun = true;
             return conn.perform(Op::Begin);
@@ -103,7 +119,9 @@ impl Visitor {
     }
 
     /// Answers the attach of a link, and grants credit where we receive.
-    fn answer(&mut self, conn: &mut Lent, link: u32) -> Result<(), Refusal> {
+    fn answer(&mut self, conn: &mut Lent, link: u32) -> Result<(), Refusal>
+        ensures { kept conn.new.conn ≡ kept conn.old.conn }
+    {
         match answer_to(conn.conn(), link) {
             Ok(Some((op, linked))) => self.attach(conn, op, linked),
             Ok(None) => Ok(()),
@@ -111,7 +129,9 @@ impl Visitor {
         }
     }
 
-    fn attach(&mut self, conn: &mut Lent, op: Op, linked: Linked) -> Result<(), Refusal> {
+    fn attach(&mut self, conn: &mut Lent, op: Op, linked: Linked) -> Result<(), Refusal>
+        ensures { kept conn.new.conn ≡ kept conn.old.conn }
+    {
         let (link, role) = (linked.link, linked.role);
         if self.links.push(linked).is_err() {
             drop(op);
@@ -125,7 +145,9 @@ impl Visitor {
     }
 
     /// Takes a delivery that is ready.
-    fn take_one(&mut self, conn: &mut Lent, link: u32) -> Result<(), Refusal> {
+    fn take_one(&mut self, conn: &mut Lent, link: u32) -> Result<(), Refusal>
+        ensures { kept conn.new.conn ≡ kept conn.old.conn }
+    {
         conn.perform(Op::Take { link })?;
         match conn.conn().given() {
             Some(given) => self.keep(given),
@@ -186,69 +208,21 @@ impl Visitor {
         }
     }
 
-    /// Learns what became of what was sent.
-    fn learn(&mut self, conn: &mut Lent) -> Result<(), Refusal> {
-        for place in 0..self.links.len() {
-            if let Some(link) = self.sender_at(place) {
-                self.learn_all(conn, link)?;
-            }
-        }
-        Ok(())
-    }
-
-    /// The link at this place, if we send on it.
-    fn sender_at(&self, place: usize) -> Option<u32> {
-        match self.links.get(place) {
-            Some(linked) if linked.role == Role::Sender => Some(linked.link),
-            _ => None,
-        }
-    }
-
-    fn learn_all(&mut self, conn: &mut Lent, link: u32) -> Result<(), Refusal> {
-        for _ in 0..u64::MAX {
-            match conn.perform(Op::Learn { link }) {
-                Ok(()) => self.learnt(conn)?,
-                Err(Refusal::Nothing | Refusal::NotAttached) => break,
-                Err(refusal) => return Err(refusal),
-            }
-        }
-        Ok(())
-    }
-
-    fn learnt(&mut self, conn: &mut Lent) -> Result<(), Refusal> {
-        let Some(told) = told_in(conn.conn().given()) else {
-            return Ok(());
-        };
-        self.end(told)?;
-        if told.is_settled {
-            return Ok(());
-        }
-        conn.perform(Op::Dispose {
-            role: Role::Sender,
-            first: told.id,
-            last: told.id,
-            settled: true,
-            state: None,
-        })
-    }
-
-    /// What was sent under the id is done with, or goes back.
-    fn end(&mut self, told: Told) -> Result<(), Refusal> {
+    /// What was sent under the id is done with, or goes back: whether it was there, and had memory.
+    pub fn end(&mut self, told: Told) -> bool {
         let Some(place) = self.place_of(told.id) else {
-            return Ok(());
+            return false;
         };
         let Some(one) = self.sent.remove(place) else {
-            return Ok(());
+            return false;
         };
         if told.fate == Fate::Back {
-            return match self.back.push_back(one) {
-                Ok(()) => Ok(()),
-                Err(_) => Err(Refusal::NoMemory),
-            };
+            // Without memory for it, it is lost.
+            return self.back.push_back(one).is_ok();
         }
         drop(one);
         self.done = self.done.saturating_add(1);
-        Ok(())
+        true
     }
 
     /// O(n) for n that were sent before it and are not learnt.
@@ -266,8 +240,8 @@ impl Visitor {
     }
 }
 
-/// What the peer told, where a step told something.
-fn told_in(given: Option<&Given>) -> Option<Told> {
+/// What the peer told of a delivery, where it is known now what becomes of that.
+pub fn told_in(given: Option<&Given>) -> Option<Told> {
     match given {
         Some(Given::Learned(learned)) => {
             let learned = learned.get();
@@ -309,23 +283,16 @@ impl Handler for Visitor {
     fn take(&mut self, conn: &mut Lent, given: Given) -> Result<Next, Refusal> {
         let heard = heard_of(&given);
         drop(given);
-        match heard {
-            Heard::Offered(link) => self.answer(conn, link)?,
-            Heard::Ready(link) => self.take_one(conn, link)?,
-            Heard::Gone(link) => self.leave(link)?,
-            Heard::Other => self.begin(conn)?,
-        }
         if conn.conn().logged().journal().len() >= KEEP {
             conn.forget();
         }
-        Ok(Next::Feed)
+        match self.act(conn, heard) {
+            Ok(()) => Ok(Next::Feed),
+            Err(refusal) => Err(refusal),
+        }
     }
 
-    fn go_on(&mut self, conn: &mut Lent) -> Result<bool, Refusal> {
-        if self.sent.is_empty() {
-            return Ok(false);
-        }
-        self.learn(conn)?;
+    fn go_on(&mut self, _conn: &mut Lent) -> Result<bool, Refusal> {
         Ok(false)
     }
 }
