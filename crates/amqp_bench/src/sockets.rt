@@ -243,7 +243,7 @@ fn turn_to_the_end<R: Clock>(
         }
         let _: Round = driver.turn(Some(Duration::from_millis(TICK)))?;
         admit(driver, receives);
-        let now = begun.elapsed(rt)?.as_millis() as u64;
+        let now = begun.elapsed(rt)?.as_secs().saturating_mul(1000);
         if now >= next {
             driver.tick(LIMITS, now);
             next = now.saturating_add(TICK);

@@ -105,7 +105,7 @@ fn turn_on<R: Clock>(rt: &R, server: &mut Server, serve: Serve<'_>) -> io::Resul
 }
 
 fn turn<R: Clock>(rt: &R, server: &mut Server, begun: Instant) -> io::Result<()> {
-    let now = begun.elapsed(rt)?.as_millis() as u64;
+    let now = begun.elapsed(rt)?.as_secs().saturating_mul(1000);
     server.turn(Duration::from_millis(TURN), now)
 }
 
