@@ -20,6 +20,8 @@ pub struct Linked {
     pub place: Option<usize>,
     /// How many deliveries were taken since credit was granted.
     pub used: u32,
+    /// It is gone: nothing more comes or goes.
+    pub is_gone: bool,
 }
 
 /// The attach that answers the peer's, with its name, its source and its target (part 2, 2.6.3), and the link.
@@ -44,6 +46,7 @@ fn answer_like(
         address: address_of(found, theirs)?,
         place: None,
         used: 0,
+        is_gone: false,
     };
     match attach_like(found.name(), found.role(), theirs) {
         Ok(op) => Ok(Some((op, linked))),

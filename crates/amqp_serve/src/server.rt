@@ -2,7 +2,7 @@
 use crate::queues::{Message, Queues};
 use crate::visitor::{Arrived, Told, Unlearnt, Visitor, grant, told_in};
 use amqp_conn::{Bytes, Config, Conn, DeliveryState, Given, Op, Role, Tag, Text};
-use amqp_ready::{Driver, Limits, Welcome};
+use amqp_ready::{Driver, Ended, Limits, Welcome};
 use mio::net::TcpListener;
 use std::alloc::Global;
 use std::io;
@@ -159,6 +159,9 @@ impl Server {
             self.send_all(key, at);
             self.give_up_credit(key, at);
         }
+        if let Some(visitor) = self.driver.handler_mut(key) {
+            visitor.tidy();
+        }
     }
 
     fn links_of(&self, key: usize) -> usize {
@@ -206,6 +209,26 @@ impl Server {
             let _ = self.driver.perform(key, answer_for(id, is_in));
         }
         true
+    }
+
+    /// What came settled with the end of its connection goes to its queue.
+    fn store_late(&mut self, visitor: &mut Visitor) {
+        for _ in 0..u64::MAX {
+            let Some(arrived) = visitor.arrived.pop_front() else {
+                break;
+            };
+            let place = place_of(visitor, arrived.link);
+            let Arrived {
+                is_settled,
+                message,
+                ..
+            } = arrived;
+            if !is_settled {
+                drop(message);
+            } else if self.store(place, message) {
+                self.totals.came = self.totals.came.saturating_add(1);
+            }
+        }
     }
 
     fn store(&mut self, place: Option<usize>, message: Message) -> bool {
@@ -283,7 +306,7 @@ impl Server {
         let half = self.credit / 2;
         let visitor = self.driver.handler_mut(key)?;
         let linked = visitor.links.get_mut(at)?;
-        if linked.role == Role::Sender || linked.used <= half {
+        if linked.is_gone || linked.role == Role::Sender || linked.used <= half {
             return None;
         }
         linked.used = 0;
@@ -294,7 +317,7 @@ impl Server {
     fn outlet(&self, key: usize, at: usize) -> Option<(u32, usize)> {
         let linked = self.driver.slots().get(key)?.handler().links.get(at)?;
         match (linked.role, linked.place) {
-            (Role::Sender, Some(place)) => Some((linked.link, place)),
+            (Role::Sender, Some(place)) if !linked.is_gone => Some((linked.link, place)),
             _ => None,
         }
     }
@@ -456,18 +479,36 @@ impl Server {
     fn end_one(&mut self) -> bool {
         match self.driver.take_ended() {
             Some(ended) => {
-                let mut visitor = ended.handler;
+                let Ended {
+                    mut conn,
+                    mut handler,
+                    fault,
+                    ..
+                } = ended;
+                note_all_left(&mut conn, &mut handler);
+                drop(conn);
                 self.totals.ended = self.totals.ended.saturating_add(1);
-                if ended.fault.is_some() {
+                if fault.is_some() {
                     self.totals.faults = self.totals.faults.saturating_add(1);
                 }
-                self.totals.went = self.totals.went.saturating_add(visitor.done);
-                visitor.give_up();
-                put_back(&mut self.queues, &mut visitor);
-                drop(visitor);
+                self.totals.went = self.totals.went.saturating_add(handler.done);
+                handler.give_up();
+                put_back(&mut self.queues, &mut handler);
+                self.store_late(&mut handler);
+                drop(handler);
                 true
             }
             None => false,
+        }
+    }
+}
+
+/// What came before the connection ended is had.
+fn note_all_left(conn: &mut Conn, visitor: &mut Visitor) {
+    for _ in 0..u64::MAX {
+        match conn.pop_left() {
+            Ok(Some(left)) => visitor.note_left(left),
+            _ => break,
         }
     }
 }

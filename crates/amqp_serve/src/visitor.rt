@@ -4,7 +4,7 @@ ghost use Rattle.amqp_ready.specs.Lending.{kept};
 
 use crate::links::{Linked, answer_to, has_begun};
 use crate::queues::Message;
-use amqp_conn::{DeliveryState, Given, Op, Refusal, Role};
+use amqp_conn::{DeliveryState, Given, Learned, Left, Op, Refusal, Role, Taken};
 use amqp_ready::{Handler, Lent, Next};
 use std::alloc::Global;
 use std::collections::VecDeque;
@@ -102,7 +102,7 @@ impl Visitor {
         match heard {
             Heard::Offered(link) => self.answer(conn, link),
             Heard::Ready(link) => self.take_one(conn, link),
-            Heard::Gone(link) => self.leave(link),
+            Heard::Gone(link) => self.leave(conn, link),
             Heard::Other => self.begin(conn),
         }
     }
@@ -150,16 +150,12 @@ impl Visitor {
     {
         conn.perform(Op::Take { link })?;
         match conn.conn().given() {
-            Some(given) => self.keep(given),
-            None => Ok(()),
+            Some(Given::Taken(taken)) => self.keep(taken.get()),
+            _ => Ok(()),
         }
     }
 
-    fn keep(&mut self, given: &Given) -> Result<(), Refusal> {
-        let Given::Taken(taken) = given else {
-            return Ok(());
-        };
-        let taken = taken.get();
+    fn keep(&mut self, taken: &Taken) -> Result<(), Refusal> {
         let Ok(payload) = taken.payload.clone() else {
             return Err(Refusal::NoMemory);
         };
@@ -178,10 +174,60 @@ impl Visitor {
         }
     }
 
-    /// A link is gone: what it sent and did not learn of goes back.
-    fn leave(&mut self, link: u32) -> Result<(), Refusal> {
-        self.links
-            .retain(|linked: &Linked| -> bool { linked.link != link });
+    /// A link is gone. What came before that is had; what was sent on it and is not told of goes back.
+    fn leave(&mut self, conn: &mut Lent, link: u32) -> Result<(), Refusal>
+        ensures { kept conn.new.conn ≡ kept conn.old.conn }
+    {
+        self.learn_left(conn)?;
+        self.mark_gone(link);
+        self.return_sent(link)
+    }
+
+    /// What links left that are gone.
+    fn learn_left(&mut self, conn: &mut Lent) -> Result<(), Refusal>
+        ensures { kept conn.new.conn ≡ kept conn.old.conn }
+    {
+        for _ in 0..u64::MAX {
+            match conn.pop_left() {
+                Ok(Some(left)) => self.note_left(left),
+                Ok(None) => break,
+                Err(_) => return Err(Refusal::NoMemory),
+            }
+        }
+        Ok(())
+    }
+
+    /// An outcome is learnt. A delivery that came settled is kept; another one its peer sends again.
+    pub fn note_left(&mut self, left: Left) {
+        match left {
+            Left::Outcome(name, learned) => {
+                drop(name);
+                let told = told_of(learned.get());
+                drop(learned);
+                if let Some(told) = told {
+                    let _: bool = self.end(told);
+                }
+            }
+            Left::Delivery(name, taken) => {
+                drop(name);
+                if taken.get().settled {
+                    // Without memory for it, it is lost.
+                    let _ = self.keep(taken.get());
+                }
+                drop(taken);
+            }
+        }
+    }
+
+    fn mark_gone(&mut self, link: u32) {
+        for linked in self.links.as_mut_slice() {
+            if linked.link == link {
+                linked.is_gone = true;
+            }
+        }
+    }
+
+    fn return_sent(&mut self, link: u32) -> Result<(), Refusal> {
         for _ in 0..self.sent.len() {
             let Some(one) = self.sent.pop_front() else {
                 break;
@@ -196,6 +242,12 @@ impl Visitor {
             }
         }
         Ok(())
+    }
+
+    /// Links that are gone are let go.
+    pub fn tidy(&mut self) {
+        self.links
+            .retain(|linked: &Linked| -> bool { !linked.is_gone });
     }
 
     /// The connection has ended: all that it was sent and did not tell of goes back.
@@ -243,17 +295,18 @@ impl Visitor {
 /// What the peer told of a delivery, where it is known now what becomes of that.
 pub fn told_in(given: Option<&Given>) -> Option<Told> {
     match given {
-        Some(Given::Learned(learned)) => {
-            let learned = learned.get();
-            let fate = fate_of(&learned.state, learned.settled)?;
-            Some(Told {
-                id: learned.id,
-                fate,
-                is_settled: learned.settled,
-            })
-        }
+        Some(Given::Learned(learned)) => told_of(learned.get()),
         _ => None,
     }
+}
+
+fn told_of(learned: &Learned) -> Option<Told> {
+    let fate = fate_of(&learned.state, learned.settled)?;
+    Some(Told {
+        id: learned.id,
+        fate,
+        is_settled: learned.settled,
+    })
 }
 
 /// A message that was released or modified is sent again (part 3, 3.4). None where what became of it is not told yet.
