@@ -16,6 +16,9 @@ pub enum Next {
 }
 
 /// The application's part of a connection. A refusal that it hands on ends its slot, and no other.
+///
+/// What is to stay of the connection stays whatever is done with it (`kept` of `specs/Lending`); a function that is lent the connection by a handler promises that, too,
+/// and needs no proof file for it.
 pub trait Handler {
     ghost use Rattle.std.specs.Prelude.{List, Option};
     ghost use Rattle.amqp_rules.specs.declared.reply.Given.{Given};
