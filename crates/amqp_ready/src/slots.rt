@@ -321,14 +321,16 @@ impl<S: NonBlocking, H: Handler> Slots<S, H> {
         }
     }
 
-    /// Does an operation on the connection under the key, as `Lent::perform`, for a program that has a reason of its own: none where no slot is there. The
-    /// slot is to be served then, which writes what it put out.
+    /// Does an operation on the connection under the key, as `Lent::perform`, for a program that has a reason of its own: none where no slot is there. Where it
+    /// was done the slot is to be served, which writes what it put out; one that is refused wakes nothing.
     pub fn perform(&mut self, key: usize, op: Op) -> Option<Result<(), Refusal>>
         ensures lent { LentAt S.remaining S.written H.told (held self.old.seats key) (held self.new.seats key) }
         ensures others { OthersStay self.old.seats self.new.seats key }
     {
         let done = self.perform_one(key, op);
-        self.wake(key);
+        if done == Some(Ok(())) {
+            self.wake(key);
+        }
         done
     }
 

@@ -117,16 +117,29 @@ impl Server {
         self.driver.turn(Some(most))?;
         // Who cannot be let in now waits.
         let _ = self.driver.admit(&mut self.door);
+        self.take_in();
+        self.give_out();
+        self.driver.tick(LIMITS, now);
+        Ok(())
+    }
+
+    /// What came on any connection, or comes back, goes to its queue.
+    fn take_in(&mut self) {
         for key in 0..self.driver.slots().capacity() {
-            self.attend(key);
+            self.bring_in(key);
         }
         for _ in 0..u64::MAX {
             if !self.end_one() {
                 break;
             }
         }
-        self.driver.tick(LIMITS, now);
-        Ok(())
+    }
+
+    /// What waits goes out. It comes behind all that came in, so that nothing waits for another turn.
+    fn give_out(&mut self) {
+        for key in 0..self.driver.slots().capacity() {
+            self.bring_out(key);
+        }
     }
 
     /// Each connection is closed; a later turn ends it once its peer has closed, too.
@@ -139,11 +152,8 @@ impl Server {
         self.driver.slots().is_empty()
     }
 
-    /// Does for the connection under the key what its turns have left to be done.
-    fn attend(&mut self, key: usize) {
-        if self.driver.handler_mut(key).is_none() {
-            return;
-        }
+    /// What came on the connection under the key, or comes back from it, goes to its queue.
+    fn bring_in(&mut self, key: usize) {
         self.look_up(key);
         for _ in 0..u64::MAX {
             if !self.store_one(key) {
@@ -154,6 +164,10 @@ impl Server {
             self.learn_all(key, at);
         }
         self.take_back(key);
+    }
+
+    /// What waits for the connection under the key goes out, as its peer takes it.
+    fn bring_out(&mut self, key: usize) {
         for at in 0..self.links_of(key) {
             self.renew(key, at);
             self.send_all(key, at);
