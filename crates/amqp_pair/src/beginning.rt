@@ -10,7 +10,7 @@ use amqp_types::Text;
 use std::alloc::Global;
 
 /// How many units wait for a writer without the lock.
-const RING: usize = 16;
+const RING: usize = 256;
 
 /// A connection that is not shared yet, with the settings of both ends and this name.
 pub fn seed(alloc: Global, name: &str, options: &Options) -> Result<Seed, PairFault>

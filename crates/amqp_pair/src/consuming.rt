@@ -6,11 +6,14 @@ use crate::reading::LINK;
 use amqp_frames::DeliveryState;
 use amqp_rules::refusal::Refusal;
 use amqp_rules::reply::Taken;
-use amqp_shared::{Consumed, Name, Pass, Shared, Work, run_consumers};
+use amqp_shared::{Consumed, Name, Pass, Renewal, Shared, Terms, Work, run_consumers_in_batches};
 use std::alloc::{AllocError, Global};
 use std::sync::Wait;
 use std::thread;
 use std::thread::Threads;
+
+/// How many deliveries a consumer takes at most beside the first, where they are ready.
+const MORE: u32 = 127;
 
 /// Accepts each delivery, and counts the octets of all.
 #[derive(Drop)]
@@ -134,7 +137,12 @@ fn consume_alone<N: Name + Send + Sync, R: Threads + Wait + Sync>(
     passes.push(pass)?;
     let mut works = Vec::new(alloc);
     works.push(Accepting { octets: 0 })?;
-    let mut done = run_consumers(rt, shared, passes, works, LINK, credit)?;
+    let terms = Terms {
+        link: LINK,
+        credit,
+        renewal: Renewal::AtHalf,
+    };
+    let mut done = run_consumers_in_batches(rt, shared, passes, works, terms, MORE)?;
     match done.pop() {
         Some(consumed) => Ok(consumed),
         None => Err(AllocError),

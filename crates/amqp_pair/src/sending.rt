@@ -23,10 +23,7 @@ use std::sync::{MutexGuard, Wait};
 const MAX_PAYLOAD: usize = (MAX_FRAME - 128) as usize;
 
 /// So many messages are begun, or learnt of, before others get the lock.
-const RUN: u32 = 32;
-
-/// So many messages are sent before they are learnt of, where the journal's entries are forgotten.
-const BATCH: u32 = 1024;
+const RUN: u32 = 128;
 
 /// So many octets are queued at most before others get the lock, or one message that is longer.
 const RUN_OCTETS: usize = 65536;
@@ -105,17 +102,6 @@ impl Messages {
     {
         let few = RUN_OCTETS / self.payload.len().max(1);
         few.min(RUN as usize).max(1) as u32
-    }
-
-    /// How many messages are sent before they are learnt of. Where entries are forgotten few are, so that what was told and not learnt of stays little, too;
-    /// else all, since the receipts of learning stand behind those of sending.
-    fn in_a_batch(&self) -> u32
-        ensures { 0 < result }
-    {
-        match self.keep {
-            Some(_) => BATCH,
-            None => self.count.max(1),
-        }
     }
 
     /// How many transfers a message goes in.
@@ -247,39 +233,26 @@ pub fn send_all<N: Name, R: Wait>(
 
 type Guard<'b, N> = MutexGuard<'b, Locked<N>>;
 
+/// Where entries are forgotten it learns in between of what was told by then, so that what is told and not learnt of stays little; else behind all
+/// messages, since the receipts of learning stand behind those of sending.
 fn send_and_learn<N: Name, R: Wait>(
     rt: &R,
     shared: &Shared<N>,
     hand: &mut Hand<N>,
     messages: &Messages,
 ) -> Result<Done, Refusal> {
-    let batch = messages.in_a_batch();
-    let (mut queued, mut accepted) = (0u64, 0u64);
-    for first in (0..messages.count).step_by(batch as usize) {
-        let end = first.saturating_add(batch).min(messages.count);
-        queued = queued.saturating_add(send_messages(rt, shared, hand, messages, first, end)?);
-        let told = end.saturating_sub(first);
-        accepted = accepted.saturating_add(learn_outcomes(rt, shared, hand, messages, told)?);
-    }
-    Ok(Done { queued, accepted })
-}
-
-/// Sends the messages of these numbers: how many.
-fn send_messages<N: Name, R: Wait>(
-    rt: &R,
-    shared: &Shared<N>,
-    hand: &mut Hand<N>,
-    messages: &Messages,
-    from: u32,
-    to: u32,
-) -> Result<u64, Refusal> {
     let run = messages.in_a_run();
-    let mut queued = 0u64;
-    for first in (from..to).step_by(run as usize) {
-        let end = first.saturating_add(run).min(to);
-        queued = queued.saturating_add(send_run(rt, shared, hand, messages, first, end)?);
+    let (mut queued, mut learnt, mut accepted) = (0u64, 0u64, 0u64);
+    for first in (0..messages.count).step_by(run as usize) {
+        let end = first.saturating_add(run).min(messages.count);
+        let told = send_run(rt, shared, hand, messages, first, end)?;
+        queued = queued.saturating_add(u64::from(end.saturating_sub(first)));
+        learnt = learnt.saturating_add(told.learnt);
+        accepted = accepted.saturating_add(told.accepted);
     }
-    Ok(queued)
+    let rest = queued.saturating_sub(learnt) as u32;
+    accepted = accepted.saturating_add(learn_outcomes(rt, shared, hand, messages, rest)?);
+    Ok(Done { queued, accepted })
 }
 
 /// Learns of so many messages: how many were accepted.
@@ -298,7 +271,14 @@ fn learn_outcomes<N: Name, R: Wait>(
     Ok(accepted)
 }
 
-/// Queues the messages of these numbers, under one lock but for where it waits: how many.
+/// What was learnt of between messages.
+#[derive(Clone, Copy)]
+struct Told {
+    learnt: u64,
+    accepted: u64,
+}
+
+/// Queues the messages of these numbers, and learns of what was told by then where entries are forgotten, under one lock but for where it waits.
 fn send_run<N: Name, R: Wait>(
     rt: &R,
     shared: &Shared<N>,
@@ -306,15 +286,41 @@ fn send_run<N: Name, R: Wait>(
     messages: &Messages,
     first: u32,
     end: u32,
-) -> Result<u64, Refusal> {
+) -> Result<Told, Refusal> {
     let mut guard = shared.lock(rt);
     make_room(shared, &mut guard, messages.keep);
-    let mut queued = 0u64;
     for number in first..end {
         guard = send_one(rt, shared, guard, hand, messages, number)?;
-        queued = queued.saturating_add(1);
     }
-    Ok(queued)
+    match messages.keep {
+        Some(_) => learn_told(shared, &mut guard, hand),
+        None => Ok(Told {
+            learnt: 0,
+            accepted: 0,
+        }),
+    }
+}
+
+/// Learns of all that was told by now.
+fn learn_told<N: Name>(
+    shared: &Shared<N>,
+    guard: &mut Guard<'_, N>,
+    hand: &mut Hand<N>,
+) -> Result<Told, Refusal> {
+    let (mut learnt, mut accepted) = (0u64, 0u64);
+    for _ in 0..u64::MAX {
+        match shared.call(guard, &mut hand.pass, &Op::Learn { link: LINK }) {
+            Ok((_, given)) => {
+                learnt = learnt.saturating_add(1);
+                if is_accepted(&given) {
+                    accepted = accepted.saturating_add(1);
+                }
+            }
+            Err(Refusal::Nothing) => break,
+            Err(refusal) => return Err(refusal),
+        }
+    }
+    Ok(Told { learnt, accepted })
 }
 
 /// The message of this number: its tag is the number in four octets, and its payload is cut where it is longer than a transfer's may be.

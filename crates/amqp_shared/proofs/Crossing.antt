@@ -25,6 +25,10 @@ use Rattle.amqp_shared.specs.contracts.name.NumberedProtocolUnit.TheImpl as numb
 use Rattle.rtrb.specs.contracts.producer.Producer as producer_row
 use Rattle.amqp_journal.specs.contracts.unit.Unit as unit_row
 use Rattle.amqp_shared.specs.contracts.shared.Shared as shared
+use Rattle.amqp_shared.specs.contracts.batches.Judged as judged
+use Rattle.amqp_shared.specs.contracts.batches.Batch as batch
+use Rattle.amqp_shared.specs.contracts.consumers.Job as job
+use Rattle.amqp_shared.proofs.pass.Pass.TheSendSync as pass_crosses
 use Rattle.slab.proofs.Slab.TheSendSync as slab_crosses
 use Rattle.std.proofs.collections.BTreeMap.TheSendSync as btree_crosses
 use Rattle.amqp_types.proofs.tag.Tag.TheSendSync as tag
@@ -151,6 +155,12 @@ frame_send = search (sendable, crosses, bytes_send, performative_send) depth 40 
 pub sent_send : IsSend (sent.the_field).row
 sent_send = search (sendable, crosses, bytes_send, frame_send) depth 40 fits 20000
 
+pub judged_send : IsSend (judged.the_field).row
+judged_send = search (sendable, crosses, taken_crosses.the_field_send, delivery_state_send) depth 40 fits 20000
+
+pub batch_send : IsSend (batch.the_field).row
+batch_send = search (sendable, crosses, taken_crosses.the_send, judged_send, heap.the_send) depth 40 fits 20000
+
 pub learned_send : IsSend (learned.the_field).row
 learned_send = search (sendable, crosses, tag.the_send, delivery_state_send) depth 40 fits 20000
 
@@ -260,3 +270,7 @@ locked_send N n l = search (sendable, inside_send) depth 10
 
 pub shared_sync : (N : RattleType) (n : name.Ghosts N.Denot) (l : ledger.Ghosts N.Denot) → IsSync (shared.the_row N n l)
 shared_sync N n l = search (sendable, crosses, locked_send, conditions.the_sync) depth 40 fits 20000
+
+-- what a consumer's thread starts with
+pub job_send : (N W : RattleType) (n : name.Ghosts N.Denot) (l : ledger.Ghosts N.Denot) → IsSend W → IsSend (job.the_row N W n l)
+job_send N W n l s = search (sendable, crosses, pass_crosses.the_send, batch_send) depth 40 fits 20000

@@ -1,5 +1,5 @@
--- Elements of a list that was mapped.
-use Rattle.std.proofs.Common.{◌≡◌, ℕ, zero, suc, ◌<◌, List, [], ◌∷◌, length, map, get_or, Result, Ok, Err, IfOk, IfErr, refl, sym, ap, ◌∙◌, arith}
+-- Elements of a list that was mapped, and what comes behind a list.
+use Rattle.std.proofs.Common.{◌≡◌, ℕ, zero, suc, ◌<◌, List, [], ◌∷◌, ◌++◌, length, map, get_or, Result, Ok, Err, IfOk, IfErr, refl, sym, ap, ◌∙◌, arith}
 use Rattle.std.proofs.lemmas.List.{length-map}
 
 -- the element at a place, by whatever default it is read
@@ -23,3 +23,17 @@ if_err-map P Q (Err e) k h = k e h
 -- a list of as many
 pub as-many : {X Y : Type 0} (f : X → Y) (xs : List X) (ys : List Y) → map f xs ≡ ys → length xs ≡ length ys
 as-many f xs ys e = sym (length-map xs f) ∙ ap length e
+
+-- one behind a list, and others behind it
+pub behind : {X : Type 0} (xs : List X) (x : X) (ys : List X) → (xs ++ x ∷ []) ++ ys ≡ xs ++ x ∷ ys
+behind [] x ys = refl
+behind (y ∷ xs) x ys = ap (λ zs. y ∷ zs) (behind xs x ys)
+
+-- the same where the list was mapped
+pub mapped-behind : {X Y : Type 0} (f : X → Y) (xs : List X) (x : X) (ys : List Y) → map f (xs ++ x ∷ []) ++ ys ≡ map f xs ++ f x ∷ ys
+mapped-behind f [] x ys = refl
+mapped-behind f (y ∷ xs) x ys = ap (λ zs. f y ∷ zs) (mapped-behind f xs x ys)
+
+pub together : {X : Type 0} (xs ys zs : List X) → (xs ++ ys) ++ zs ≡ xs ++ (ys ++ zs)
+together [] ys zs = refl
+together (x ∷ xs) ys zs = ap (λ all. x ∷ all) (together xs ys zs)

@@ -22,9 +22,9 @@ use Rattle.amqp_shared.specs.Session.{Makes, IsRefused, EndsWait}
 abbrev pub disposing : Taken → DeliveryState → Op
 disposing t s = op.Dispose Receiver t.id t.id (not t.second) (Some s)
 
--- the credit of the delivery's link is so much again
-abbrev pub granting : Taken → ℕ → Op
-granting t credit = op.Grant t.link credit false false
+-- the link's credit is so much again
+abbrev pub granting : ℕ → ℕ → Op
+granting link credit = op.Grant link credit false false
 
 -- whatever an operation does to what is seen of it
 module _ {S : Type 0} (Does : S → Op → Result (Unit {0}) Refusal → S → Type 0) where
@@ -50,7 +50,7 @@ module _ {S : Type 0} (Does : S → Op → Result (Unit {0}) Refusal → S → T
     pub answer : Result (Unit {0}) Refusal
     pub between : S
     pub disposes : Disposes Does old t s answer between
-    pub grants : GrantsAfter answer between (granting t credit) result new
+    pub grants : GrantsAfter answer between (granting t.link credit) result new
 
 -- # What it does to the session that the lock lends
 

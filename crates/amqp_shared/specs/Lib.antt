@@ -6,3 +6,5 @@ pub mod Growing
 pub mod Waking
 pub mod Renewing
 pub mod Consuming
+pub mod Batching
+pub mod Many

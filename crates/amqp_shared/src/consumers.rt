@@ -1,24 +1,21 @@
 //! Threads that take deliveries and settle them.
-ghost use Rattle.std.specs.Prelude.{◌≡◌, ℕ, ◌<◌, ◌^◌, map, slice_index_or, vec_len, IfOk, IfSome};
-ghost use Rattle.std.specs.Sync.Mutex.{mutex_guard_value};
-ghost use Rattle.std.specs.Prelude.{⊤};
-ghost use Rattle.amqp_shared.specs.Consuming.{Tells, Asks, Takes, Disposes, granting, Grants, Settles, Runs, ConsumesLeft, Finishes};
-ghost use Rattle.amqp_shared.specs.Renewing.{is_due, credit_on, IsDue, IsNotDue, MayRest};
+ghost use Rattle.std.specs.Prelude.{◌≡◌, ℕ, ◌<◌, map, slice_index_or, vec_len, IfOk, IfSome};
+ghost use Rattle.amqp_shared.specs.Consuming.{ConsumesLeft, Finishes};
+ghost use Rattle.amqp_shared.specs.Batching.{RunsBatches, FinishesBatches};
 ghost use Rattle.amqp_shared.specs.declared.renewal.Renewal.TheVariants as renewal;
 ghost use Rattle.amqp_shared.specs.Passes.{Tally};
 
-use crate::locked::Locked;
+use crate::batches::{Batch, settle_batch, take_batch};
 use crate::name::Name;
 use crate::pass::Pass;
 use crate::renewal::Renewal;
 use crate::shared::Shared;
 use amqp_conn::Left;
 use amqp_frames::{DeliveryState, Role};
-use amqp_rules::op::Op;
 use amqp_rules::refusal::Refusal;
-use amqp_rules::reply::{Given, Taken};
+use amqp_rules::reply::Taken;
 use std::alloc::AllocError;
-use std::sync::{MutexGuard, Wait};
+use std::sync::Wait;
 use std::thread;
 use std::thread::Threads;
 
@@ -49,153 +46,24 @@ pub struct Consumed<N: Name, W> {
     pub stopped: Refusal,
 }
 
+/// What consumers take deliveries by.
+#[derive(Clone, Copy, Debug, PartialEq, Eq)]
+pub struct Terms {
+    /// The link that they take them of.
+    pub link: u32,
+    /// How many deliveries in all may come, whenever credit is granted.
+    pub credit: u32,
+    /// When it is granted.
+    pub renewal: Renewal,
+}
+
 /// What a consumer's thread starts with.
 #[derive(Drop)]
 struct Job<N: Name, W> {
     pass: Pass<N>,
     work: W,
-    link: u32,
-    credit: u32,
-    renewal: Renewal,
-}
-
-/// The next delivery of the link; it waits for one.
-fn take_next<N: Name, R: Wait>(
-    rt: &R,
-    shared: &Shared<N>,
-    pass: &mut Pass<N>,
-    link: u32,
-) -> Result<Taken, Refusal>
-    ensures takes { Takes link pass.old result pass.new }
-    ensures range { pass.new.made < 2 ^ 64 }
-{
-    let (guard, answer) = shared.call_wait(rt, shared.lock(rt), pass, &Op::Take { link });
-    drop(guard);
-    let _ = pass.made();
-    match answer {
-        Ok((_, Given::Taken(item))) => Ok(item.into_inner()),
-        Ok(_) => unreachable!(),
-        Err(refusal) => Err(refusal),
-    }
-}
-
-/// An operation whose answer is not looked at.
-fn apply<N: Name>(
-    shared: &Shared<N>,
-    guard: &mut MutexGuard<'_, Locked<N>>,
-    pass: &mut Pass<N>,
-    op: Op,
-) -> Result<(), Refusal>
-    ensures tells { Tells (mutex_guard_value guard.old).conn op result (mutex_guard_value guard.new).conn }
-    ensures asks { Asks pass.old op result pass.new }
-{
-    let answer = shared.call(guard, pass, &op);
-    drop(op);
-    match answer {
-        Ok((_, given)) => {
-            drop(given);
-            Ok(())
-        }
-        Err(refusal) => Err(refusal),
-    }
-}
-
-/// Tells the delivery's state, and settles it unless the sender is to settle first (part 2, 2.7.3); one that came settled is not told of.
-fn dispose<N: Name>(
-    shared: &Shared<N>,
-    guard: &mut MutexGuard<'_, Locked<N>>,
-    pass: &mut Pass<N>,
-    item: &Taken,
-    state: DeliveryState,
-) -> Result<(), Refusal>
-    ensures disposes { Disposes Tells (mutex_guard_value guard.old).conn item.now state result (mutex_guard_value guard.new).conn }
-    ensures pass { Disposes Asks pass.old item.now state result pass.new }
-{
-    if item.settled {
-        drop(state);
-        return Ok(());
-    }
-    let op = Op::Dispose {
-        role: Role::Receiver,
-        first: item.id,
-        last: item.id,
-        settled: !item.second,
-        state: Some(state),
-    };
-    apply(shared, guard, pass, op)
-}
-
-/// How many deliveries of the link may still begin; none where there is no such link.
-fn credit_of<N: Name>(guard: &MutexGuard<'_, Locked<N>>, link: u32) -> u32
-    ensures { result ≡ credit_on (mutex_guard_value guard.now).conn link }
-{
-    match guard.conn().logged().endpoint().status(link) {
-        Some(status) => status.credit,
-        None => 0,
-    }
-}
-
-/// Grants the credit of the delivery's link again, where that is due.
-fn grant_if_due<N: Name>(
-    shared: &Shared<N>,
-    guard: &mut MutexGuard<'_, Locked<N>>,
-    pass: &mut Pass<N>,
-    item: &Taken,
-    credit: u32,
-    renewal: Renewal,
-) -> Result<(), Refusal>
-    ensures grants { Grants Tells (IsDue renewal credit item.now.link) (IsNotDue renewal credit item.now.link) (mutex_guard_value guard.old).conn (granting item.now credit) result (mutex_guard_value guard.new).conn }
-    ensures pass { Grants Asks (λ _. ⊤) (λ _. MayRest renewal) pass.old (granting item.now credit) result pass.new }
-{
-    let rest = credit_of(guard, item.link);
-    if !renewal.is_due(credit, rest) {
-        return Ok(());
-    }
-    let grant = Op::Grant {
-        link: item.link,
-        credit,
-        drain: false,
-        echo: false,
-    };
-    apply(shared, guard, pass, grant)
-}
-
-/// Disposes the delivery, unless it came settled, and grants the credit again, where that is due. One that is no longer held was settled by the peer
-/// meanwhile.
-fn dispose_and_grant<N: Name>(
-    shared: &Shared<N>,
-    guard: &mut MutexGuard<'_, Locked<N>>,
-    pass: &mut Pass<N>,
-    item: &Taken,
-    state: DeliveryState,
-    credit: u32,
-    renewal: Renewal,
-) -> Result<(), Refusal>
-    ensures settles { Settles Tells (IsDue renewal credit item.now.link) (IsNotDue renewal credit item.now.link) (mutex_guard_value guard.old).conn item.now state credit result (mutex_guard_value guard.new).conn }
-    ensures pass { Settles Asks (λ _. ⊤) (λ _. MayRest renewal) pass.old item.now state credit result pass.new }
-{
-    match dispose(shared, guard, pass, item, state) {
-        Ok(()) | Err(Refusal::NothingHeld) => {
-            grant_if_due(shared, guard, pass, item, credit, renewal)
-        }
-        Err(refusal) => Err(refusal),
-    }
-}
-
-/// The same on the session that the lock lends.
-fn settle<N: Name, R: Wait>(
-    rt: &R,
-    shared: &Shared<N>,
-    pass: &mut Pass<N>,
-    item: &Taken,
-    state: DeliveryState,
-    credit: u32,
-    renewal: Renewal,
-) -> Result<(), Refusal>
-    ensures { Settles Asks (λ _. ⊤) (λ _. MayRest renewal) pass.old item.now state credit result pass.new }
-{
-    let mut guard = shared.lock(rt);
-    dispose_and_grant(shared, &mut guard, pass, item, state, credit, renewal)
+    terms: Terms,
+    batch: Batch,
 }
 
 /// What a consumer was until it was stopped.
@@ -213,34 +81,36 @@ fn consume_all<N: Name, W: Work, R: Wait>(
     shared: &Shared<N>,
     job: Job<N, W>,
 ) -> Stopped<N, W>
-    ensures { Runs W.consumes job.link job.credit job.renewal (record { pass = job.pass; work = job.work }) result.count result.stopped (record { pass = result.pass; work = result.work }) }
+    ensures { RunsBatches W.consumes job.terms job.batch.more (record { pass = job.pass; work = job.work }) result.count result.stopped (record { pass = result.pass; work = result.work }) }
 {
     let Job {
         pass,
         work,
-        link,
-        credit,
-        renewal,
+        terms,
+        batch,
     } = job;
-    let (mut pass, mut work) = (pass, work);
+    let (mut pass, mut work, mut batch) = (pass, work, batch);
     let mut count = 0u64;
     for _ in rt.forever() {
-        let item = match take_next(rt, shared, &mut pass, link) {
-            Ok(item) => item,
-            Err(stopped) => {
-                return Stopped {
-                    pass,
-                    work,
-                    count,
-                    stopped,
-                };
-            }
-        };
-        count += 1;
-        let state = work.consume(&item);
-        let done = settle(rt, shared, &mut pass, &item, state, credit, renewal);
-        drop(item);
-        if let Err(stopped) = done {
+        if let Err(stopped) = take_batch(rt, shared, &mut pass, terms.link, &mut batch) {
+            return Stopped {
+                pass,
+                work,
+                count,
+                stopped,
+            };
+        }
+        count += batch.len() as u64;
+        batch.judge_all(&mut work);
+        if let Err(stopped) = settle_batch(
+            rt,
+            shared,
+            &mut pass,
+            &mut batch,
+            terms.link,
+            terms.credit,
+            terms.renewal,
+        ) {
             return Stopped {
                 pass,
                 work,
@@ -290,9 +160,9 @@ fn consume_left<N: Name, W: Work, R: Wait>(
 
 /// What a consumer's thread does: all that can be taken, and then what the link left.
 fn consume<N: Name, W: Work, R: Wait>(rt: &R, shared: &Shared<N>, job: Job<N, W>) -> Consumed<N, W>
-    ensures { Finishes W.consumes job.link job.credit job.renewal (record { pass = job.pass; work = job.work }) result.count result.left result.stopped (record { pass = result.pass; work = result.work }) }
+    ensures { FinishesBatches W.consumes job.terms job.batch.more (record { pass = job.pass; work = job.work }) result.count result.left result.stopped (record { pass = result.pass; work = result.work }) }
 {
-    let link = job.link;
+    let link = job.terms.link;
     let Stopped {
         pass,
         work,
@@ -353,7 +223,38 @@ pub fn run_consumers_with<N: Name + Send + Sync, W: Work + Send + Drop, R: Threa
     ensures len { IfOk result (λ v. vec_len v ≡ vec_len passes) }
     ensures each { IfOk result (λ v. (i : ℕ) (p : Tally) (w : _) (d : _) → i < vec_len passes → Finishes W.consumes link credit renewal (record { pass = slice_index_or passes.items i p; work = slice_index_or works.items i w }) (slice_index_or v.items i d).count (slice_index_or v.items i d).left (slice_index_or v.items i d).stopped (record { pass = (slice_index_or v.items i d).pass; work = (slice_index_or v.items i d).work })) }
 {
-    match jobs_of(passes, works, link, credit, renewal) {
+    let terms = Terms {
+        link,
+        credit,
+        renewal,
+    };
+    run_consumers_in_batches(rt, shared, passes, works, terms, 0)
+}
+
+/// The same in batches: a consumer takes with each delivery as many more as are ready, at most so many, under one lock; consumes them without it; and under one lock
+/// tells their states, those whose ids follow one another in one state by one disposition (part 2, 2.7.6), and grants the credit once, where that is due. So its pass has
+/// a step for each delivery that it took, one for each such disposition, and one for each grant.
+///
+/// # Errors
+///
+/// Those of `run_consumers`.
+pub fn run_consumers_in_batches<
+    N: Name + Send + Sync,
+    W: Work + Send + Drop,
+    R: Threads + Wait + Sync,
+>(
+    rt: &R,
+    shared: &Shared<N>,
+    passes: Vec<Pass<N>>,
+    works: Vec<W>,
+    terms: Terms,
+    more: u32,
+) -> Result<Vec<Consumed<N, W>>, AllocError>
+    requires { vec_len passes ≡ vec_len works }
+    ensures len { IfOk result (λ v. vec_len v ≡ vec_len passes) }
+    ensures each { IfOk result (λ v. (i : ℕ) (p : Tally) (w : _) (d : _) → i < vec_len passes → FinishesBatches W.consumes terms more (record { pass = slice_index_or passes.items i p; work = slice_index_or works.items i w }) (slice_index_or v.items i d).count (slice_index_or v.items i d).left (slice_index_or v.items i d).stopped (record { pass = (slice_index_or v.items i d).pass; work = (slice_index_or v.items i d).work })) }
+{
+    match jobs_of(passes, works, terms, more) {
         Ok(jobs) => run_jobs(rt, shared, jobs),
         Err(error) => Err(error),
     }
@@ -363,25 +264,24 @@ pub fn run_consumers_with<N: Name + Send + Sync, W: Work + Send + Drop, R: Threa
 fn jobs_of<N: Name, W: Drop>(
     passes: Vec<Pass<N>>,
     works: Vec<W>,
-    link: u32,
-    credit: u32,
-    renewal: Renewal,
+    terms: Terms,
+    more: u32,
 ) -> Result<Vec<Job<N, W>>, AllocError>
     requires { vec_len passes ≡ vec_len works }
     ensures passes { IfOk result (λ jobs. map (λ job. job.pass) jobs.items ≡ passes.items) }
     ensures works { IfOk result (λ jobs. map (λ job. job.work) jobs.items ≡ works.items) }
-    ensures links { IfOk result (λ jobs. map (λ job. job.link) jobs.items ≡ map (λ (p : Tally). link) passes.items) }
-    ensures credits { IfOk result (λ jobs. map (λ job. job.credit) jobs.items ≡ map (λ (p : Tally). credit) passes.items) }
-    ensures renewals { IfOk result (λ jobs. map (λ job. job.renewal) jobs.items ≡ map (λ (p : Tally). renewal) passes.items) }
+    ensures terms { IfOk result (λ jobs. map (λ job. job.terms) jobs.items ≡ map (λ (p : Tally). terms) passes.items) }
+    ensures more { IfOk result (λ jobs. map (λ job. job.batch.more) jobs.items ≡ map (λ (p : Tally). more) passes.items) }
 {
-    let mut jobs = Vec::with_capacity(*passes.allocator(), passes.len())?;
+    let alloc = *passes.allocator();
+    let mut jobs = Vec::with_capacity(alloc, passes.len())?;
     for (pass, work) in passes.into_iter().zip(works) {
+        let batch = Batch::new(alloc, more)?;
         jobs.push(Job {
             pass,
             work,
-            link,
-            credit,
-            renewal,
+            terms,
+            batch,
         })?;
     }
     Ok(jobs)
@@ -393,13 +293,13 @@ fn run_jobs<N: Name + Send + Sync, W: Work + Send + Drop, R: Threads + Wait + Sy
     jobs: Vec<Job<N, W>>,
 ) -> Result<Vec<Consumed<N, W>>, AllocError>
     ensures len { IfOk result (λ v. vec_len v ≡ vec_len jobs) }
-    ensures each { IfOk result (λ v. (i : ℕ) (j : _) (d : _) → i < vec_len jobs → Finishes W.consumes (slice_index_or jobs.items i j).link (slice_index_or jobs.items i j).credit (slice_index_or jobs.items i j).renewal (record { pass = (slice_index_or jobs.items i j).pass; work = (slice_index_or jobs.items i j).work }) (slice_index_or v.items i d).count (slice_index_or v.items i d).left (slice_index_or v.items i d).stopped (record { pass = (slice_index_or v.items i d).pass; work = (slice_index_or v.items i d).work })) }
+    ensures each { IfOk result (λ v. (i : ℕ) (j : _) (d : _) → i < vec_len jobs → FinishesBatches W.consumes (slice_index_or jobs.items i j).terms (slice_index_or jobs.items i j).batch.more (record { pass = (slice_index_or jobs.items i j).pass; work = (slice_index_or jobs.items i j).work }) (slice_index_or v.items i d).count (slice_index_or v.items i d).left (slice_index_or v.items i d).stopped (record { pass = (slice_index_or v.items i d).pass; work = (slice_index_or v.items i d).work })) }
 {
     thread::map_vec(
         rt,
         jobs,
         &|job: Job<N, W>| -> Consumed<N, W>
-            ensures { Finishes W.consumes job.link job.credit job.renewal (record { pass = job.pass; work = job.work }) result.count result.left result.stopped (record { pass = result.pass; work = result.work }) }
+            ensures { FinishesBatches W.consumes job.terms job.batch.more (record { pass = job.pass; work = job.work }) result.count result.left result.stopped (record { pass = result.pass; work = result.work }) }
         { consume(rt, shared, job) },
     )
 }

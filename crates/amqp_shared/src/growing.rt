@@ -1,9 +1,8 @@
 //! The calls of a connection, with what they add to its journal and its units; and the units that go on to the ring.
-ghost use Rattle.std.specs.Prelude.{◌≡◌, ◌≢◌, ◌<◌, ◌≤◌, ◌^◌, ◌+◌, [], length, drop, OnOk, OnErr, IfOk, Ok};
+ghost use Rattle.std.specs.Prelude.{◌≡◌, ◌≢◌, ◌<◌, ◌≤◌, ◌^◌, ◌+◌, [], length, drop, OnOk, Ok};
 ghost use Rattle.rtrb.specs.Ring.{sent, known_free};
 ghost use Rattle.amqp_journal.specs.Units.{units, PutWithin};
 ghost use Rattle.amqp_conn.specs.Feeding.{Feeds, MovesOn};
-ghost use Rattle.amqp_conn.specs.Leaving.{Gives, GivesOf, left_of, but_left};
 ghost use Rattle.amqp_conn.specs.Calling.{Does, Closes};
 ghost use Rattle.amqp_shared.specs.Growing.{Grows};
 ghost use Rattle.amqp_shared.specs.Passes.{steps_fed};
@@ -11,8 +10,8 @@ ghost use Rattle.amqp_shared.specs.Ring.{pushes_to};
 ghost use Rattle.amqp_shared.specs.Units.{MovesUnits, moved_of};
 
 use crate::name::Numbered;
-use amqp_conn::{CloseRefusal, Conn, ConnFault, Fed, Left};
-use amqp_frames::{AmqpError, Role};
+use amqp_conn::{CloseRefusal, Conn, ConnFault, Fed};
+use amqp_frames::AmqpError;
 use amqp_journal::unit::Unit;
 use amqp_rules::op::Op;
 use amqp_rules::refusal::Refusal;
@@ -20,7 +19,7 @@ use amqp_rules::reply::Given;
 use amqp_types::Boxed;
 use bytes::Bytes;
 use rtrb::Producer;
-use std::alloc::{AllocError, Global};
+use std::alloc::Global;
 
 /// What always holds of a connection; it does nothing.
 pub(crate) fn recall(conn: &Conn)
@@ -75,36 +74,6 @@ pub(crate) fn put_close(
 {
     recall(conn);
     conn.close(error)
-}
-
-/// The first of what is left: no entry more, and no unit.
-pub(crate) fn give(conn: &mut Conn) -> Result<Option<Left>, AllocError>
-    ensures gives { IfOk result (λ given. Gives conn.old.core given conn.new.core) }
-    ensures unread { conn.new.unread ≡ conn.old.unread }
-    ensures same { but_left conn.new.core ≡ but_left conn.old.core }
-    ensures err { OnErr result (conn.new ≡ conn.old) }
-{
-    conn.pop_left()
-}
-
-/// The first that the link of this number left.
-pub(crate) fn give_of(conn: &mut Conn, role: Role, link: u32) -> Result<Option<Left>, AllocError>
-    ensures gives { IfOk result (λ given. GivesOf role link conn.old.core given conn.new.core) }
-    ensures unread { conn.new.unread ≡ conn.old.unread }
-    ensures same { but_left conn.new.core ≡ but_left conn.old.core }
-    ensures err { OnErr result (conn.new ≡ conn.old) }
-{
-    conn.pop_left_by(role, link)
-}
-
-/// How many things are left.
-pub(crate) fn count_left(conn: &mut Conn) -> Result<usize, AllocError>
-    ensures len { IfOk result (λ n. n ≡ length (left_of conn.old.core)) }
-    ensures still { OnOk result ((left_of conn.new.core ≡ left_of conn.old.core) × (but_left conn.new.core ≡ but_left conn.old.core)) }
-    ensures unread { conn.new.unread ≡ conn.old.unread }
-    ensures err { OnErr result (conn.new ≡ conn.old) }
-{
-    conn.left_len()
 }
 
 /// Moves units from the connection to the ring, as many as fit.

@@ -4,10 +4,11 @@
 //! | module | what it has |
 //! |---|---|
 //! | `shared` | `Shared`: the lock, and the calls on the session that it lends |
+//! | `many` | several operations under one lock |
 //! | `locked` | what lies under the lock: the connection, the book of its passes, and the end of the ring that is pushed to |
 //! | `pass`, `history` | `Pass`: a share of the right to make steps, with the number of those made by it, and what clauses know of its calls |
 //! | `writer` | `WriterEnd`: from which units are written to a socket, without the lock |
-//! | `consumers` | threads that take deliveries and settle them |
+//! | `consumers`, `batches` | threads that take deliveries and settle them, one by one or several at once |
 //! | `seed`, `name` | a connection before it is shared, and what tells one shared connection's passes and ring from another's |
 //! | `close`, `closing`, `refused` | how all comes together again |
 //! | `growing` | what each call adds to a connection |
@@ -45,12 +46,14 @@
 //! - **What a call that takes the lock by itself did to the session**, but what its clauses say of the guard that it gives back: `lock` lends
 //!   a session whose journal is as long as the passes' steps, and that it goes on from what was there before is shown by tests.
 
+mod batches;
 mod close;
 mod closing;
 mod consumers;
 mod growing;
 mod history;
 mod locked;
+mod many;
 mod name;
 mod pass;
 mod refused;
@@ -76,8 +79,11 @@ pub use amqp_types::{Boxed, Tag, Text};
 pub use amqp_waiting::{Brought, SuspendedItem, Verdict};
 pub use bytes::Bytes;
 pub use close::{Closed, NotClosed};
-pub use consumers::{Consumed, Work, run_consumers, run_consumers_with};
+pub use consumers::{
+    Consumed, Terms, Work, run_consumers, run_consumers_in_batches, run_consumers_with,
+};
 pub use locked::Locked;
+pub use many::Called;
 pub use name::{Name, Numbered};
 pub use pass::Pass;
 pub use refused::CloseReason;

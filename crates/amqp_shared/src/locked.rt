@@ -11,8 +11,7 @@ ghost use Rattle.amqp_shared.specs.Units.{MovesUnits, unmoved};
 ghost use Rattle.amqp_shared.specs.Waking.{Held, told_of_units, units_came, with_want, with_units, waits_for, is_ended, is_full};
 
 use crate::growing::{
-    count_left, do_operation, feed_octets, feed_shared_octets, give, give_of, push_units,
-    put_close, recall, steps_of,
+    do_operation, feed_octets, feed_shared_octets, push_units, put_close, recall, steps_of,
 };
 use crate::name::{Name, Numbered};
 use crate::pass::Pass;
@@ -97,7 +96,7 @@ impl<N: Name> Locked<N> {
         ensures waiters { self.new.waiters ≡ self.old.waiters }
         ensures err { OnErr result (self.new ≡ self.old) }
     {
-        give(&mut self.conn)
+        self.conn.pop_left()
     }
 
     /// The first that the link of this number left.
@@ -107,7 +106,7 @@ impl<N: Name> Locked<N> {
         ensures waiters { self.new.waiters ≡ self.old.waiters }
         ensures err { OnErr result (self.new ≡ self.old) }
     {
-        give_of(&mut self.conn, role, link)
+        self.conn.pop_left_by(role, link)
     }
 
     /// How many things are left.
@@ -118,7 +117,7 @@ impl<N: Name> Locked<N> {
         ensures waiters { self.new.waiters ≡ self.old.waiters }
         ensures err { OnErr result (self.new ≡ self.old) }
     {
-        count_left(&mut self.conn)
+        self.conn.left_len()
     }
 
     /// An operation, counted in the pass.

@@ -15,7 +15,6 @@ returns g c =
     record {
       passes = sym (append-nil (map (λ j. j.pass) jobs)) ∙ ap (λ r. map (λ j. j.pass) jobs ++ r) (sym past) ∙ was.0;
       works = sym (append-nil (map (λ j. j.work) jobs)) ∙ ap (λ r. map (λ j. j.work) jobs ++ r) (sym (nil_from_length works no_work)) ∙ was.1;
-      links = sym (append-nil (map (λ j. j.link) jobs)) ∙ ap (λ r. map (λ j. j.link) jobs ++ map (λ (p : Tally). c.args.link) r) (sym past) ∙ was.2;
-      credits = sym (append-nil (map (λ j. j.credit) jobs)) ∙ ap (λ r. map (λ j. j.credit) jobs ++ map (λ (p : Tally). c.args.credit) r) (sym past) ∙ was.3;
-      renewals = sym (append-nil (map (λ j. j.renewal) jobs)) ∙ ap (λ r. map (λ j. j.renewal) jobs ++ map (λ (p : Tally). c.args.renewal) r) (sym past) ∙ was.4;
+      terms = sym (append-nil (map (λ j. j.terms) jobs)) ∙ ap (λ r. map (λ j. j.terms) jobs ++ map (λ (p : Tally). c.args.terms) r) (sym past) ∙ was.2;
+      more = sym (append-nil (map (λ j. j.batch.more) jobs)) ∙ ap (λ r. map (λ j. j.batch.more) jobs ++ map (λ (p : Tally). c.args.more) r) (sym past) ∙ was.3;
     }

@@ -6,7 +6,6 @@ abbrev pub invariant-loop-pass : goal.invariant-loop-pass
 invariant-loop-pass g l =
     (map (λ job. job.pass) l.jobs.items ++ l.pass-iterator.a.rest.items ≡ l.fn.passes.items)
     × (map (λ job. job.work) l.jobs.items ++ l.pass-iterator.b.rest.items ≡ l.fn.works.items)
-    × (map (λ job. job.link) l.jobs.items ++ map (λ (p : Tally). l.fn.link) l.pass-iterator.a.rest.items ≡ map (λ (p : Tally). l.fn.link) l.fn.passes.items)
-    × (map (λ job. job.credit) l.jobs.items ++ map (λ (p : Tally). l.fn.credit) l.pass-iterator.a.rest.items ≡ map (λ (p : Tally). l.fn.credit) l.fn.passes.items)
-    × (map (λ job. job.renewal) l.jobs.items ++ map (λ (p : Tally). l.fn.renewal) l.pass-iterator.a.rest.items ≡ map (λ (p : Tally). l.fn.renewal) l.fn.passes.items)
+    × (map (λ job. job.terms) l.jobs.items ++ map (λ (p : Tally). l.fn.terms) l.pass-iterator.a.rest.items ≡ map (λ (p : Tally). l.fn.terms) l.fn.passes.items)
+    × (map (λ job. job.batch.more) l.jobs.items ++ map (λ (p : Tally). l.fn.more) l.pass-iterator.a.rest.items ≡ map (λ (p : Tally). l.fn.more) l.fn.passes.items)
     × (length l.pass-iterator.a.rest.items ≡ length l.pass-iterator.b.rest.items)

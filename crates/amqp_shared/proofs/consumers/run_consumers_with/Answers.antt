@@ -1,40 +1,10 @@
-use Rattle.std.proofs.Common.{◌≡◌, ◌<◌, length, slice_index_or, vec_len, sym, ap, subst, ◌∙◌, arith, rules}
-use Rattle.amqp_shared.specs.Consuming.{Finishes}
-use Rattle.amqp_shared.specs.Passes.{Tally}
-use Rattle.amqp_shared.proofs.Found.{found, mapped, as-many, if_ok-map}
+use Rattle.std.specs.Prelude.{slice_index_or}
+use Rattle.amqp_shared.proofs.Rounds.{one-by-one}
+use Rattle.amqp_shared.proofs.Found.{if_ok-map}
 use Rattle.amqp_shared.proofs.consumers.run_consumers_with.Goals as goal
 
-pub returns-in-Ok-clause-len : goal.returns-in-Ok-clause-len
-returns-in-Ok-clause-len g c =
-    let jobs = c.in-Ok.jobs in
-    let many = as-many (λ j. j.pass) jobs.items c.args.passes.items c.in-Ok.ensures.passes in
-    let size : length c.args.passes.items ≡ vec_len c.args.passes = search rules in
-    let sized : length jobs.items ≡ vec_len jobs = search rules in
-    if_ok-map _ _ c.run_jobs.result (λ v h. h ∙ sym sized ∙ many ∙ size) c.run_jobs.ensures.len
-
-pub returns-in-Ok-clause-each : goal.returns-in-Ok-clause-each
-returns-in-Ok-clause-each g c =
-    let jobs = c.in-Ok.jobs in
-    let is = c.in-Ok.ensures in
-    let many = as-many (λ j. j.pass) jobs.items c.args.passes.items is.passes in
-    let size : length c.args.passes.items ≡ vec_len c.args.passes = search rules in
-    let sized : length jobs.items ≡ vec_len jobs = search rules in
-    if_ok-map _ _ c.run_jobs.result (λ v h i p w d low.
-    let short : i < length jobs.items = omega (arith, many, size, low) in
-    let given : i < length c.args.passes.items = omega (arith, size, low) in
-    let one = (found (λ j. j.pass) jobs.items i short).0 in
-    let pass = sym (mapped (λ j. j.pass) jobs.items i short p one) ∙ ap (λ xs. slice_index_or xs i p) is.passes in
-    let work = sym (mapped (λ j. j.work) jobs.items i short w one) ∙ ap (λ xs. slice_index_or xs i w) is.works in
-    let link =
-    sym (mapped (λ j. j.link) jobs.items i short c.args.link one) ∙ ap (λ xs. slice_index_or xs i c.args.link) is.links
-    ∙ mapped (λ (x : Tally). c.args.link) c.args.passes.items i given c.args.link p in
-    let credit =
-    sym (mapped (λ j. j.credit) jobs.items i short c.args.credit one) ∙ ap (λ xs. slice_index_or xs i c.args.credit) is.credits
-    ∙ mapped (λ (x : Tally). c.args.credit) c.args.passes.items i given c.args.credit p in
-    let renewal =
-    sym (mapped (λ j. j.renewal) jobs.items i short c.args.renewal one) ∙ ap (λ xs. slice_index_or xs i c.args.renewal) is.renewals
-    ∙ mapped (λ (x : Tally). c.args.renewal) c.args.passes.items i given c.args.renewal p in
+pub returns-clause-each : goal.returns-clause-each
+returns-clause-each g c =
+    if_ok-map _ _ c.run_consumers_in_batches.result (λ v h i p w d low.
     let done = slice_index_or v.items i d in
-    subst (λ (P : Type 0). P)
-    (λ k. Finishes g.W.Work.consumes (link k) (credit k) (renewal k) (record { pass = pass k; work = work k }) done.count done.left done.stopped (record { pass = done.pass; work = done.work }))
-    (h i one d (omega (arith, many, size, sized, low)))) c.run_jobs.ensures.each
+    one-by-one g.W.Work.consumes _ _ done.count done.left done.stopped _ (h i p w d low)) c.run_consumers_in_batches.ensures.each

@@ -1,7 +1,9 @@
 use Rattle.std.proofs.Common.{◌≡◌, length, vec_len, slice_index_or, sym, subst, arith, rules}
-use Rattle.amqp_shared.specs.Consuming.{Finishes}
+use Rattle.amqp_shared.specs.Batching.{FinishesBatches}
 use denote.Param.{param}
-use Rattle.amqp_shared.proofs.Crossing.{shared_sync}
+use denote.Param.Send.{sendable}
+use Rattle.std.proofs.Crossing.{crosses}
+use Rattle.amqp_shared.proofs.Crossing.{shared_sync, job_send}
 use Rattle.amqp_shared.proofs.Found.{if_ok-map}
 use Rattle.amqp_shared.proofs.consumers.run_jobs.Goals as goal
 
@@ -11,7 +13,7 @@ returns-clause-each g c =
     if_ok-map _ _ c.map_vec.result (λ v h i j d low.
     let x = (h i d (omega (arith, size, low))).1 in
     let done = slice_index_or v.items i d in
-    subst (λ job. Finishes g.W.Work.consumes job.link job.credit job.renewal (record { pass = job.pass; work = job.work }) done.count done.left done.stopped (record { pass = done.pass; work = done.work })) (sym (x.job_is j)) x.call.met) c.map_vec.ensures.each
+    subst (λ job. FinishesBatches g.W.Work.consumes job.terms job.batch.more (record { pass = job.pass; work = job.work }) done.count done.left done.stopped (record { pass = done.pass; work = done.work })) (sym (x.job_is j)) x.call.met) c.map_vec.ensures.each
 
 -- a `&` to the runtime, which is `Sync` by its bound, and one to what threads share
 pub map_vec-requires-sync-F : goal.map_vec-requires-sync-F
@@ -24,3 +26,6 @@ map_vec-requires-sync-F g c κs within = record {
     λ q. tt,
   );
 }
+
+pub map_vec-requires-send-J : goal.map_vec-requires-send-J
+map_vec-requires-send-J g c κs within = search (sendable, crosses, job_send) depth 40 fits 20000

@@ -1,0 +1,61 @@
+//! Several operations under one lock.
+ghost use Rattle.std.specs.Prelude.{◌≡◌, IfOk, OnErr};
+ghost use Rattle.std.specs.Sync.Mutex.{mutex_guard_value};
+ghost use Rattle.amqp_shared.specs.Many.{CallsAll, Tells, Notes};
+
+use crate::locked::Locked;
+use crate::name::Name;
+use crate::pass::Pass;
+use crate::shared::Shared;
+use amqp_journal::receipt::Receipt;
+use amqp_rules::op::Op;
+use amqp_rules::refusal::Refusal;
+use amqp_rules::reply::Given;
+use std::alloc::{AllocError, Global};
+use std::sync::MutexGuard;
+
+/// What several operations were answered.
+#[derive(Drop)]
+pub struct Called {
+    /// Of those that were done, in their order.
+    pub answers: Vec<(Receipt, Given)>,
+    /// Why the one behind them was refused, if there was one.
+    pub refused: Option<Refusal>,
+}
+
+impl<N: Name> Shared<N> {
+    /// Operations of the application on the lent session, in their order, up to the first that is refused; each is done and answered as by `call`. The pass has a
+    /// step for each that was done.
+    ///
+    /// # Errors
+    ///
+    /// Want of memory for the answers, before anything is done.
+    pub fn call_many(
+        &self,
+        alloc: Global,
+        guard: &mut MutexGuard<'_, Locked<N>>,
+        pass: &mut Pass<N>,
+        ops: &[Op],
+    ) -> Result<Called, AllocError>
+        ensures calls { IfOk result (λ c. CallsAll Tells (mutex_guard_value guard.old) ops.now c.answers.items c.refused (mutex_guard_value guard.new)) }
+        ensures pass { IfOk result (λ c. CallsAll Notes pass.old ops.now c.answers.items c.refused pass.new) }
+        ensures err { OnErr result ((mutex_guard_value guard.new ≡ mutex_guard_value guard.old) × (pass.new ≡ pass.old)) }
+    {
+        let mut answers = Vec::with_capacity(alloc, ops.len())?;
+        for op in ops {
+            match self.call(guard, pass, op) {
+                Ok(done) => answers.push_reserved(done),
+                Err(refusal) => {
+                    return Ok(Called {
+                        answers,
+                        refused: Some(refusal),
+                    });
+                }
+            }
+        }
+        Ok(Called {
+            answers,
+            refused: None,
+        })
+    }
+}
