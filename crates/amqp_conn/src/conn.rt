@@ -137,7 +137,7 @@ impl Conn {
         ensures err { OnErr result (self.new ≡ self.old) }
     {
         match self.machine.gather() {
-            Ok(()) => Ok(self.machine.next_left()),
+            Ok(()) => Ok(self.machine.logged.pop_left()),
             Err(error) => Err(error),
         }
     }
@@ -153,7 +153,7 @@ impl Conn {
         ensures err { OnErr result (self.new ≡ self.old) }
     {
         match self.machine.gather() {
-            Ok(()) => Ok(self.machine.next_left_by(role, link)),
+            Ok(()) => Ok(self.machine.logged.pop_left_by(role, link)),
             Err(error) => Err(error),
         }
     }

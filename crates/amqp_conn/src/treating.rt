@@ -1,12 +1,11 @@
 //! A connection but the octets that it has not read: what a whole frame does to it (part 2, 2.4).
-ghost use Rattle.std.specs.Prelude.{◌≡◌, ◌≢◌, ◌⊎◌, [], ◌∷◌, Some, None, Ok, Err, OnOk, OnErr, IfOk, IfErr, IfSome, IfNone, IsSome, MatchResult, slice_get, length, find, option_map, true, false};
+ghost use Rattle.std.specs.Prelude.{◌≡◌, ◌≢◌, ◌⊎◌, [], Some, None, Ok, Err, OnOk, OnErr, IfOk, IfErr, IfSome, IsSome, MatchResult, slice_get, length, option_map, true, false};
 ghost use Rattle.amqp_rules.specs.Refusing.{no_memory};
 ghost use Rattle.amqp_rules.specs.ViolationAnswer.{violation_answer, error_of};
 ghost use Rattle.amqp_frames.specs.Measuring.{IsMeasureOf};
 ghost use Rattle.amqp_rules.specs.Limits.{IsWithinLimits};
 ghost use Rattle.amqp_rules.specs.Sending.{octets_of};
-ghost use Rattle.amqp_journal.specs.Log.{IsRefusal, heard_due, popping, forgetting, is_left_by};
-ghost use Rattle.amqp_rules.specs.View.{remove_first};
+ghost use Rattle.amqp_journal.specs.Log.{IsRefusal, heard_due, popping, forgetting};
 ghost use Rattle.amqp_journal.specs.Units.{units, waiting};
 ghost use Rattle.amqp_conn.specs.Calling.{IsFit, IsStartFault, Does, Performs, Closes, peer_max};
 ghost use Rattle.amqp_conn.specs.Octets.{open_frame, close_frame, condition, last_words, session_of, new_core};
@@ -24,10 +23,7 @@ use crate::phase::Phase;
 use crate::refused::{CloseRefusal, StartFault};
 use crate::saying::{Kind, close_in, kind_of, open_in};
 use crate::writing::{HEADER, close_octets, last_close, measure_ours, open_octets, plain_close};
-use amqp_frames::{
-    AmqpError, CloseBody, Frame, FrameRefusal, Measured, OpenBody, Performative, Role,
-};
-use amqp_journal::left::Left;
+use amqp_frames::{AmqpError, CloseBody, Frame, FrameRefusal, Measured, OpenBody, Performative};
 use amqp_journal::logged::Logged;
 use amqp_journal::unit::Unit;
 use amqp_rules::op::Op;
@@ -47,7 +43,7 @@ pub struct Machine {
     /// The octets of our open.
     opening: Bytes,
     phase: Phase,
-    logged: Logged,
+    pub logged: Logged,
     /// What the links of the ended connection have was put behind what was left before.
     gathered: bool,
     /// The peer's open, once it was taken.
@@ -245,22 +241,6 @@ impl Machine {
         self.logged.leave()?;
         self.gathered = true;
         Ok(())
-    }
-
-    /// The first of what was left, where the links were asked.
-    pub fn next_left(&mut self) -> Option<Left>
-        ensures some { IfSome result (λ x. self.old ≡ record self.new { log = record self.new.log { left = x ∷ self.new.log.left } }) }
-        ensures none { IfNone result ((self.old.log.left ≡ []) × (self.new ≡ self.old)) }
-    {
-        self.logged.pop_left()
-    }
-
-    /// The first that the link of this number left, where the links were asked.
-    pub fn next_left_by(&mut self, role: Role, link: u32) -> Option<Left>
-        ensures some { IfSome result (λ x. (find (is_left_by role link) self.old.log.left ≡ Some x) × (self.new ≡ record self.old { log = record self.old.log { left = remove_first (is_left_by role link) self.old.log.left } })) }
-        ensures none { IfNone result ((find (is_left_by role link) self.old.log.left ≡ None) × (self.new ≡ self.old)) }
-    {
-        self.logged.pop_left_by(role, link)
     }
 
     /// Where the connection stands.

@@ -10,7 +10,8 @@ use amqp_rules::op::Op;
 use amqp_rules::refusal::Refusal;
 use amqp_rules::reply::Taken;
 use amqp_shared::{
-    Consumed, Name, Pass, Seed, Shared, Work, WriterEnd, open_shared, run_consumers,
+    Consumed, Name, Pass, Renewal, Seed, Shared, Terms, Work, WriterEnd, open_shared,
+    run_consumers, run_consumers_in_batches,
 };
 use std::alloc::{AllocError, Global};
 use std::marker::Brand;
@@ -39,21 +40,35 @@ fn with_deliveries<N: Name, R: Wait + Abort>(
     shared: &Shared<N>,
     pass: &mut Pass<N>,
 ) {
+    with_session(rt, alloc, shared, pass);
+    assert!(rt; does(rt, shared, pass, grant()).is_some());
+    hear(rt, shared, pass, &DELIVERIES);
+}
+
+/// An end that receives on link 1.
+fn with_session<N: Name, R: Wait + Abort>(
+    rt: &R,
+    alloc: Global,
+    shared: &Shared<N>,
+    pass: &mut Pass<N>,
+) {
     hear(rt, shared, pass, &GREETING);
     assert!(rt; does(rt, shared, pass, Op::Begin).is_some());
     hear(rt, shared, pass, &SESSION[..28]);
     assert!(rt; attaches(rt, alloc, shared, pass, "p", Role::Receiver, 1));
     hear(rt, shared, pass, &SESSION[28..]);
     assert!(rt; attaches(rt, alloc, shared, pass, "q", Role::Receiver, 1));
-    assert!(rt; does(rt, shared, pass, grant()).is_some());
-    hear(rt, shared, pass, &DELIVERIES);
 }
 
 /// Two deliveries may begin on link 1.
 fn grant() -> Op {
+    granting(2)
+}
+
+fn granting(credit: u32) -> Op {
     Op::Grant {
         link: 1,
-        credit: 2,
+        credit,
         drain: false,
         echo: false,
     }
@@ -481,4 +496,166 @@ fn left_to_two<N: Name + Send + Sync, R: Threads + Wait + Abort + Sync>(
     }
     assert_eq!(rt; left, 2);
     Ok(())
+}
+
+/// Five deliveries, with the ids 0 to 4.
+const FIVE: [u8; 109] = [
+    0, 0, 0, 0x15, 2, 0, 0, 0, 0, 0x53, 0x14, 0xc0, 7, 4, 0x43, 0x43, 0xa0, 1, 1, 0x43, 0x78, 0, 0,
+    0, 0x16, 2, 0, 0, 0, 0, 0x53, 0x14, 0xc0, 8, 4, 0x43, 0x52, 1, 0xa0, 1, 2, 0x43, 0x78, 0, 0, 0,
+    0x16, 2, 0, 0, 0, 0, 0x53, 0x14, 0xc0, 8, 4, 0x43, 0x52, 2, 0xa0, 1, 3, 0x43, 0x78, 0, 0, 0,
+    0x16, 2, 0, 0, 0, 0, 0x53, 0x14, 0xc0, 8, 4, 0x43, 0x52, 3, 0xa0, 1, 4, 0x43, 0x78, 0, 0, 0,
+    0x16, 2, 0, 0, 0, 0, 0x53, 0x14, 0xc0, 8, 4, 0x43, 0x52, 4, 0xa0, 1, 5, 0x43, 0x78,
+];
+
+/// A delivery behind them.
+const SIXTH: [u8; 22] = [
+    0, 0, 0, 0x16, 2, 0, 0, 0, 0, 0x53, 0x14, 0xc0, 8, 4, 0x43, 0x52, 5, 0xa0, 1, 6, 0x43, 0x78,
+];
+
+/// Accepts all but the third, which it releases; hears of the sixth at the fifth, and ends the connection at the sixth.
+struct Choosing<'a, N: Name, R: Wait> {
+    rt: &'a R,
+    shared: &'a Shared<N>,
+    pass: Pass<N>,
+}
+
+impl<'a, N: Name, R: Wait> Drop for Choosing<'a, N, R> {
+    fn drop(self) {
+        let Choosing {
+            rt: _,
+            shared: _,
+            pass,
+        } = self;
+        drop(pass);
+    }
+}
+
+impl<'a, N: Name, R: Wait> Work for Choosing<'a, N, R> {
+    fn consume(&mut self, item: &Taken) -> DeliveryState {
+        if item.id == 2 {
+            return DeliveryState::Released;
+        }
+        if item.id < 4 {
+            return DeliveryState::Accepted;
+        }
+        let mut guard = self.shared.lock(self.rt);
+        if item.id > 4 {
+            self.shared.lost(&mut guard);
+        } else if let Ok(fed) = self.shared.feed(&mut guard, &mut self.pass, &SIXTH) {
+            drop(fed);
+        }
+        DeliveryState::Accepted
+    }
+}
+
+#[test]
+fn a_batch_is_settled_at_once(rt: HostRuntime) -> Result<(), Fail> {
+    settled_at_once::<Brand, HostRuntime>(&rt, rt.alloc(), seed(rt.alloc(), 4)?)
+}
+
+/// Three dispositions tell of five deliveries, and the credit is granted once.
+fn settled_at_once<N: Name + Send + Sync, R: Threads + Wait + Abort + Sync>(
+    rt: &R,
+    alloc: Global,
+    seed: Seed,
+) -> Result<(), Fail>
+    requires { IsNamed seed N.name N.parts N.ring }
+{
+    let (shared, mut pass, _) = open_shared::<N>(seed);
+    with_session(rt, alloc, &shared, &mut pass);
+    assert!(rt; does(rt, &shared, &mut pass, granting(6)).is_some());
+    hear(rt, &shared, &mut pass, &FIVE[..65]);
+    hear(rt, &shared, &mut pass, &FIVE[65..]);
+    let Some(own) = pass.split() else {
+        panic!(rt; "no part");
+    };
+    let (own, told) = in_batches(rt, alloc, &shared, own, pass)?;
+    assert_eq!(rt; told, (6, Refusal::NotRunning));
+    assert_eq!(rt; own.made(), 10);
+    let guard = shared.lock(rt);
+    assert!(rt; are_settled(guard.conn()));
+    Ok(())
+}
+
+/// The newest entries are two dispositions of deliveries that follow one another with one between them, a grant, and that the sixth was taken.
+fn are_settled(conn: &Conn) -> bool {
+    let end = u64::from(conn.logged().steps());
+    stands_at(
+        conn,
+        &telling(0, 1, DeliveryState::Accepted),
+        end.saturating_sub(5),
+    ) && stands_at(
+        conn,
+        &telling(2, 2, DeliveryState::Released),
+        end.saturating_sub(4),
+    ) && stands_at(
+        conn,
+        &telling(3, 4, DeliveryState::Accepted),
+        end.saturating_sub(3),
+    ) && stands_at(conn, &granting(5), end.saturating_sub(2))
+}
+
+fn telling(first: u32, last: u32, state: DeliveryState) -> Op {
+    Op::Dispose {
+        role: Role::Receiver,
+        first,
+        last,
+        settled: false,
+        state: Some(state),
+    }
+}
+
+/// One consumer that takes up to five at once: its pass, how many it consumed, and what stopped it.
+fn in_batches<N: Name + Send + Sync, R: Threads + Wait + Abort + Sync>(
+    rt: &R,
+    alloc: Global,
+    shared: &Shared<N>,
+    own: Pass<N>,
+    pass: Pass<N>,
+) -> Result<(Pass<N>, (u64, Refusal)), Fail> {
+    let mut passes = Vec::new(alloc);
+    passes.push(own)?;
+    let mut works = Vec::new(alloc);
+    works.push(Choosing { rt, shared, pass })?;
+    let terms = Terms {
+        link: 1,
+        credit: 5,
+        renewal: Renewal::Each,
+    };
+    let mut done = run_consumers_in_batches(rt, shared, passes, works, terms, 4)?;
+    let Some(consumed) = done.pop() else {
+        panic!(rt; "nothing consumed");
+    };
+    let told = (consumed.count, consumed.stopped);
+    Ok((consumed.pass, told))
+}
+
+#[test]
+fn several_operations_at_once(rt: HostRuntime) {
+    match seed(rt.alloc(), 4) {
+        Ok(seed) => called_at_once::<Brand, HostRuntime>(&rt, rt.alloc(), seed),
+        Err(_) => panic!(rt; "no seed"),
+    }
+}
+
+/// Two deliveries are taken, and the third operation is refused.
+fn called_at_once<N: Name, R: Wait + Abort>(rt: &R, alloc: Global, seed: Seed)
+    requires { IsNamed seed N.name N.parts N.ring }
+{
+    let (shared, mut pass, _) = open_shared::<N>(seed);
+    with_deliveries(rt, alloc, &shared, &mut pass);
+    let before = pass.made();
+    let takes = [
+        Op::Take { link: 1 },
+        Op::Take { link: 1 },
+        Op::Take { link: 1 },
+    ];
+    let mut guard = shared.lock(rt);
+    match shared.call_many(alloc, &mut guard, &mut pass, &takes) {
+        Ok(called) => {
+            assert!(rt; called.answers.len() == 2 && called.refused == Some(Refusal::Nothing));
+        }
+        Err(_) => panic!(rt; "no memory"),
+    }
+    assert_eq!(rt; pass.made(), before.saturating_add(2));
 }
