@@ -242,7 +242,7 @@ fn send_and_learn<N: Name, R: Wait>(
     messages: &Messages,
 ) -> Result<Done, Refusal> {
     let run = messages.in_a_run();
-    let (mut queued, mut learnt, mut accepted) = (0u64, 0u64, 0u64);
+    let (mut queued, mut learnt, mut accepted) = (0u64, 0u32, 0u64);
     for first in (0..messages.count).step_by(run as usize) {
         let end = first.saturating_add(run).min(messages.count);
         let told = send_run(rt, shared, hand, messages, first, end)?;
@@ -250,7 +250,7 @@ fn send_and_learn<N: Name, R: Wait>(
         learnt = learnt.saturating_add(told.learnt);
         accepted = accepted.saturating_add(told.accepted);
     }
-    let rest = queued.saturating_sub(learnt) as u32;
+    let rest = messages.count.saturating_sub(learnt);
     accepted = accepted.saturating_add(learn_outcomes(rt, shared, hand, messages, rest)?);
     Ok(Done { queued, accepted })
 }
@@ -274,7 +274,7 @@ fn learn_outcomes<N: Name, R: Wait>(
 /// What was learnt of between messages.
 #[derive(Clone, Copy)]
 struct Told {
-    learnt: u64,
+    learnt: u32,
     accepted: u64,
 }
 
@@ -307,7 +307,7 @@ fn learn_told<N: Name>(
     guard: &mut Guard<'_, N>,
     hand: &mut Hand<N>,
 ) -> Result<Told, Refusal> {
-    let (mut learnt, mut accepted) = (0u64, 0u64);
+    let (mut learnt, mut accepted) = (0u32, 0u64);
     for _ in 0..u64::MAX {
         match shared.call(guard, &mut hand.pass, &Op::Learn { link: LINK }) {
             Ok((_, given)) => {
