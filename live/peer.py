@@ -1,10 +1,11 @@
 #!/usr/bin/python3
-"""One end by Qpid Proton, for live/run: peer.py send|receive listen|connect PORT COUNT SIZE OUTCOME [--settled] [--labelled] [--late] [--small].
+"""One end by Qpid Proton, for live/run: peer.py send|receive listen|connect PORT COUNT SIZE OUTCOME [--settled] [--labelled] [--late] [--small] [--drain].
 
 It sends or takes COUNT messages of SIZE octets, tells the outcome (accept, release, reject, modify) of each that it takes, and
 prints one line: how many it had, or was told to be accepted. With --labelled its messages are durable and have properties, and
 those that it takes count where they have the same. With --late it wants to hear something each second, and sends after
-three. With --small it takes no frame of more than 512 octets.
+three. With --small it takes no frame of more than 512 octets. With --drain it drains as one that takes, and prints how many messages
+it had when all credit was used up or given up.
 """
 import sys
 
@@ -22,7 +23,9 @@ class End(MessagingHandler):
         self.role, self.side, self.port, count, size, self.outcome = words[:6]
         self.count, self.size, self.is_settled = int(count), int(size), "--settled" in words
         self.is_labelled, self.is_late, self.is_small = "--labelled" in words, "--late" in words, "--small" in words
+        self.is_draining = "--drain" in words
         self.begun = self.done = 0
+        self.drained = None
         self.acceptor = None
 
     def on_start(self, event):
@@ -44,7 +47,9 @@ class End(MessagingHandler):
             event.transport.max_frame_size = 512
 
     def on_link_opened(self, event):
-        if event.link.is_receiver:
+        if event.link.is_receiver and self.is_draining:
+            event.link.drain(10)
+        elif event.link.is_receiver:
             event.link.flow(10)
 
     def on_sendable(self, event):
@@ -58,6 +63,8 @@ class End(MessagingHandler):
         self.send(self.sender)
 
     def on_link_flow(self, event):
+        if event.link.is_receiver and self.is_draining and not event.link.draining():
+            self.drained = self.done
         if event.link.is_sender and event.link.drain_mode:
             self.send(event.link)
             event.link.drained()
@@ -80,7 +87,8 @@ class End(MessagingHandler):
             event.delivery.settle()
         if self.is_wanted(event.message):
             self.done += 1
-        event.receiver.flow(1)
+        if not self.is_draining:
+            event.receiver.flow(1)
         if self.side == "connect" and self.done == self.count:
             event.connection.close()
 
@@ -96,4 +104,4 @@ class End(MessagingHandler):
 
 end = End(sys.argv[1:])
 Container(end).run()
-print(end.begun if end.is_settled and end.role == "send" else end.done)
+print(end.drained if end.is_draining else end.begun if end.is_settled and end.role == "send" else end.done)

@@ -20,6 +20,8 @@ pub struct Client<R, W> {
     pub(crate) window: u32,
     /// Our attach went out: from here on a session that is not mapped is one that the peer has ended.
     pub(crate) is_opened: bool,
+    /// Nothing more is sent: credit that the peer wants back is given up.
+    has_sent: bool,
     pump: Pump,
     source: FromStd<R>,
     sink: FromStd<W>,
@@ -66,6 +68,7 @@ impl<R: Drop, W: Drop> Client<R, W> {
                 conn,
                 window,
                 is_opened: false,
+                has_sent: false,
                 pump: Pump::new(),
                 source: FromStd::new(reader),
                 sink: FromStd::new(writer),
@@ -83,7 +86,7 @@ impl<R: Read, W: Write> Client<R, W> {
     }
 
     /// What was put out is written, and octets are read once, at most 4096, and fed. Where the read ended in vain the turn is over, too. A beat is put out where
-    /// one is due.
+    /// one is due, and credit is given up where it is wanted back.
     ///
     /// # Errors
     ///
@@ -96,7 +99,20 @@ impl<R: Read, W: Write> Client<R, W> {
             Err(fault) => self.wait_on(fault)?,
         }
         self.beat_if_due();
+        if self.has_sent {
+            self.give_up();
+        }
         Ok(())
+    }
+
+    /// Nothing more is sent: where the peer drains, or will, the credit that is left is given up (part 2, 2.6.7).
+    pub fn give_up(&mut self) {
+        self.has_sent = true;
+        match self.conn.apply(&Op::Drained { link: LINK }) {
+            Ok(given) => drop(given),
+            // The peer does not drain, or the link is gone.
+            Err(_) => {}
+        }
     }
 
     /// A read that ended in vain is no fault, until there were too many.
@@ -185,7 +201,10 @@ impl<R: Read, W: Write> Client<R, W> {
 
     /// The link is not there: either end has left it, the session or the connection.
     pub fn is_gone(&self) -> bool {
-        self.conn.logged().endpoint().status(LINK).is_none()
+        match self.conn.logged().endpoint().status(LINK) {
+            Some(_) => false,
+            None => true,
+        }
     }
 
     /// What the link left, first for this role of ours, where it is gone (part 2, 2.6.6); else the fault.

@@ -19,6 +19,14 @@ fn silence(alloc: Global) -> Result<Boxed<AmqpError>, AllocError> {
     )
 }
 
+/// What is ended by the operation was ended by the peer first, or it is refused for another reason.
+fn unless_gone(refusal: Refusal) -> Result<(), ClientFault> {
+    match refusal {
+        Refusal::NoLink | Refusal::NotMapped | Refusal::NotRunning => Ok(()),
+        _ => Err(ClientFault::Refused(refusal)),
+    }
+}
+
 impl<R: Read, W: Write> Client<R, W> {
     /// Detaches, ends and closes; each is awaited. Where the peer has closed first, that is the end, too.
     ///
@@ -48,8 +56,7 @@ impl<R: Read, W: Write> Client<R, W> {
                 drop(given);
                 Ok(())
             }
-            Err(Refusal::NoLink | Refusal::NotMapped | Refusal::NotRunning) => Ok(()),
-            Err(refusal) => Err(ClientFault::Refused(refusal)),
+            Err(refusal) => unless_gone(refusal),
         }
     }
 

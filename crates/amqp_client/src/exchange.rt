@@ -4,8 +4,10 @@ use crate::client::Client;
 use crate::fault::ClientFault;
 use crate::printing::{Printed, write_taken};
 use crate::sending::Outcomes;
+use crate::traced::Traced;
 use crate::waits::TICK;
 use amqp_conn::{AmqpError, Boxed, Config, Conn, DeliveryState, Role, Taken, Text, error_of};
+use amqp_trace::{Direction, Tracer};
 use std::alloc::{AllocError, Global};
 use std::io;
 use std::io::{BufRead, Read, Write};
@@ -47,10 +49,12 @@ pub struct Exchange<'a> {
     pub renewal: Renewal,
     /// What is printed of each message, for `receive`.
     pub printed: Printed,
+    /// Each frame is told on standard error.
+    pub is_traced: bool,
 }
 
 /// When `receive` gives credit.
-#[derive(Clone, Copy, Debug, PartialEq, Eq)]
+#[derive(Clone, Copy, Debug)]
 pub enum Renewal {
     /// Again once it is used up: some peers take more than they were granted where it is given sooner.
     AtZero,
@@ -90,6 +94,8 @@ pub enum ExchangeFault {
     NotWritable,
     #[error("a write failed: {0}")]
     Out(io::Error),
+    #[error("{0} of the messages could not be accepted: the peer may send them again")]
+    Unsettled(u64),
     #[error("memory was refused")]
     NoMemory,
 }
@@ -108,6 +114,9 @@ impl From<AllocError> for ExchangeFault {
 
 type Tcp = Client<TcpStream, TcpStream>;
 
+/// An end of which each frame may be told.
+type Told<'a, E> = Client<Traced<'a, TcpStream, E>, Traced<'a, TcpStream, E>>;
+
 /// Sends messages, learns what became of each, and tells in six lines how many there were, and how many were accepted, rejected, released, modified, and settled
 /// without an outcome. True where each was accepted, or they went settled.
 ///
@@ -123,7 +132,7 @@ pub fn run_send<R, I: BufRead, W: Write>(
     out: &mut W,
 ) -> Result<bool, ExchangeFault>
 where
-    R: Net<Stream = TcpStream>,
+    R: Net<Stream = TcpStream> + Eprint,
 {
     let mut client = meet(rt, alloc, exchange)?;
     let sent = send_all(alloc, &mut client, exchange, input);
@@ -136,11 +145,11 @@ where
 }
 
 /// Takes messages, prints what is asked for of each, accepts it, and tells in three lines how many there were, how many octets they had, and how many could not be
-/// accepted; but where bodies are printed nothing beside them. True where each was accepted, or came settled.
+/// accepted; but where bodies or JSON are printed nothing beside them. True where each was accepted, or came settled.
 ///
 /// # Errors
 ///
-/// Those of `run_send`.
+/// Those of `run_send`, and `Unsettled` where no line tells it.
 pub fn run_receive<R, W: Write>(
     rt: &R,
     alloc: Global,
@@ -148,7 +157,7 @@ pub fn run_receive<R, W: Write>(
     out: &mut W,
 ) -> Result<bool, ExchangeFault>
 where
-    R: Net<Stream = TcpStream>,
+    R: Net<Stream = TcpStream> + Eprint,
 {
     let mut client = meet(rt, alloc, exchange)?;
     let received = receive_all(alloc, &mut client, exchange, out);
@@ -156,10 +165,17 @@ where
     drop(client);
     told.map_err(ExchangeFault::Out)?;
     let received = received?;
-    if exchange.printed != Printed::Bodies {
+    if !is_alone(exchange.printed) {
         tell_received(out, received).map_err(ExchangeFault::Out)?;
+    } else if received.unsettled != 0 {
+        return Err(ExchangeFault::Unsettled(received.unsettled));
     }
     Ok(received.unsettled == 0)
+}
+
+/// Nothing is printed beside it.
+fn is_alone(printed: Printed) -> bool {
+    matches!(printed, Printed::Bodies | Printed::Json)
 }
 
 /// Where it failed: the error that the peer told by its close, or by the frame that came last.
@@ -185,51 +201,105 @@ fn last_error(conn: &Conn) -> Option<&AmqpError> {
 }
 
 fn tell_condition<W: Write>(out: &mut W, error: &AmqpError) -> io::Result<()> {
-    write!(out, "told {}", error.condition.as_str())?;
-    if let Some(description) = &error.description {
-        write!(out, " {}", description.as_str())?;
-    }
-    writeln!(out)?;
+    write_condition(out, error)?;
     out.flush()
+}
+
+fn write_condition<W: Write>(out: &mut W, error: &AmqpError) -> io::Result<()> {
+    let condition = error.condition.as_str();
+    match &error.description {
+        Some(description) => writeln!(out, "told {condition} {}", description.as_str()),
+        None => writeln!(out, "told {condition}"),
+    }
 }
 
 fn tell_sent<W: Write>(out: &mut W, sent: &Sent) -> io::Result<()> {
     let outcomes = &sent.outcomes;
-    writeln!(out, "sent {}", sent.count)?;
-    writeln!(out, "accepted {}", outcomes.accepted)?;
-    writeln!(out, "rejected {}", outcomes.rejected)?;
-    writeln!(out, "released {}", outcomes.released)?;
-    writeln!(out, "modified {}", outcomes.modified)?;
-    writeln!(out, "unknown {}", outcomes.unknown)?;
+    write!(
+        out,
+        "sent {}\naccepted {}\nrejected {}\nreleased {}\nmodified {}\nunknown {}\n",
+        sent.count,
+        outcomes.accepted,
+        outcomes.rejected,
+        outcomes.released,
+        outcomes.modified,
+        outcomes.unknown
+    )?;
     out.flush()
 }
 
 fn tell_received<W: Write>(out: &mut W, received: Received) -> io::Result<()> {
-    writeln!(out, "received {}", received.count)?;
-    writeln!(out, "octets {}", received.octets)?;
-    writeln!(out, "unsettled {}", received.unsettled)?;
+    write!(
+        out,
+        "received {}\noctets {}\nunsettled {}\n",
+        received.count, received.octets, received.unsettled
+    )?;
     out.flush()
 }
 
 /// The peer, over a socket.
-fn meet<R: Net<Stream = TcpStream>>(
-    rt: &R,
+fn meet<'a, R: Net<Stream = TcpStream> + Eprint>(
+    rt: &'a R,
     alloc: Global,
     exchange: &Exchange<'_>,
-) -> Result<Tcp, ExchangeFault> {
-    let stream = stream_of(rt, exchange).map_err(ExchangeFault::Socket)?;
-    client_over(alloc, stream, exchange)
+) -> Result<Told<'a, R>, ExchangeFault> {
+    let writer = stream_of(rt, exchange).map_err(ExchangeFault::Socket)?;
+    let reader = reader_of(&writer, exchange.patience).map_err(ExchangeFault::Socket)?;
+    let heard = tracer(alloc, exchange, Direction::Heard, exchange.max_frame);
+    let sent = tracer(alloc, exchange, Direction::Sent, u32::MAX);
+    client_of(
+        alloc,
+        Traced::new(reader, rt, heard),
+        Traced::new(writer, rt, sent),
+        exchange,
+    )
+}
+
+fn tracer(
+    alloc: Global,
+    exchange: &Exchange<'_>,
+    direction: Direction,
+    max_frame: u32,
+) -> Option<Tracer> {
+    if exchange.is_traced {
+        Some(Tracer::new(alloc, direction, max_frame))
+    } else {
+        None
+    }
 }
 
 fn stream_of<R: Net<Stream = TcpStream>>(rt: &R, exchange: &Exchange<'_>) -> io::Result<TcpStream> {
     let there = (exchange.host, exchange.port);
-    let stream = if exchange.is_listening {
-        TcpListener::bind(rt, there)?.accept()?.0
+    let met = if exchange.is_listening {
+        accepted(rt, there)
     } else {
-        TcpStream::connect(rt, there)?
+        TcpStream::connect(rt, there)
     };
-    stream.set_nodelay(true)?;
-    Ok(stream)
+    match met {
+        Ok(stream) => without_delay(stream),
+        Err(error) => Err(error),
+    }
+}
+
+/// The first peer that connects there.
+fn accepted<R: Net<Stream = TcpStream>>(rt: &R, there: (&str, u16)) -> io::Result<TcpStream> {
+    let listener = TcpListener::bind(rt, there)?;
+    let answer = listener.accept();
+    drop(listener);
+    match answer {
+        Ok((stream, _)) => Ok(stream),
+        Err(error) => Err(error),
+    }
+}
+
+fn without_delay(stream: TcpStream) -> io::Result<TcpStream> {
+    match stream.set_nodelay(true) {
+        Ok(()) => Ok(stream),
+        Err(error) => {
+            drop(stream);
+            Err(error)
+        }
+    }
 }
 
 /// An end over the stream. Its reads wait for a [`TICK`]; the peer is told half of what it is waited for (part 2, 2.4.5).
@@ -238,14 +308,23 @@ pub fn client_over(
     stream: TcpStream,
     exchange: &Exchange<'_>,
 ) -> Result<Tcp, ExchangeFault> {
+    let reader = reader_of(&stream, exchange.patience).map_err(ExchangeFault::Socket)?;
+    client_of(alloc, reader, stream, exchange)
+}
+
+fn client_of<R: Drop, W: Drop>(
+    alloc: Global,
+    reader: R,
+    writer: W,
+    exchange: &Exchange<'_>,
+) -> Result<Client<R, W>, ExchangeFault> {
     let patience = exchange.patience;
-    let reader = reader_of(&stream, patience).map_err(ExchangeFault::Socket)?;
     let config = Config {
         max_frame: exchange.max_frame,
         idle_time_out: half_of(patience),
         ..Config::new(Text::new(alloc, exchange.container_id)?)
     };
-    Ok(Client::new(alloc, config, patience, reader, stream)?)
+    Ok(Client::new(alloc, config, patience, reader, writer)?)
 }
 
 /// A second hand on the stream, whose reads and writes have their limits.
@@ -311,6 +390,9 @@ fn send_bodies<R: Read, W: Write, I: BufRead>(
     };
     for first in (0..u32::MAX).step_by(BATCH as usize) {
         let count = send_batch(client, exchange, bodies, input, first)?;
+        if count < BATCH {
+            client.give_up();
+        }
         if !exchange.is_settled {
             learn_batch(client, first, count, &mut sent.outcomes)?;
         }
@@ -348,12 +430,15 @@ fn send_next<R: Read, W: Write, I: BufRead>(
     input: &mut I,
     number: u32,
 ) -> Result<bool, ExchangeFault> {
-    match bodies.next(input)? {
+    let next = bodies.next(input)?;
+    match next {
         Some(message) => {
             let sent = client.send(number, &message, exchange.is_settled);
             drop(message);
-            sent?;
-            Ok(true)
+            match sent {
+                Ok(()) => Ok(true),
+                Err(fault) => Err(ExchangeFault::Client(fault)),
+            }
         }
         None => Ok(false),
     }
@@ -464,12 +549,13 @@ fn renew_drain<R: Read, W: Write>(
     if client.is_gone() {
         return Ok(());
     }
-    if taken == *given {
-        let wanted = u64::from(exchange.count).saturating_sub(taken);
-        let credit = wanted.min(u64::from(exchange.credit)) as u32;
-        client.drain(credit)?;
-        *given = given.saturating_add(u64::from(credit));
+    if taken != *given {
+        return client.renew_window();
     }
+    let wanted = u64::from(exchange.count).saturating_sub(taken);
+    let credit = wanted.min(u64::from(exchange.credit)) as u32;
+    *given = given.saturating_add(u64::from(credit));
+    client.drain(credit)?;
     client.renew_window()
 }
 
@@ -482,15 +568,20 @@ fn renew<R: Read, W: Write>(
     if client.is_gone() {
         return Ok(());
     }
-    let least = match exchange.renewal {
+    let credit = client.credit();
+    if credit >= wanted || credit > least_of(exchange) {
+        return client.renew_window();
+    }
+    client.grant(exchange.credit.min(wanted))?;
+    client.renew_window()
+}
+
+/// With how much credit left it is given again.
+fn least_of(exchange: &Exchange<'_>) -> u32 {
+    match exchange.renewal {
         Renewal::AtHalf => exchange.credit / 2,
         _ => 0,
-    };
-    let credit = client.credit();
-    if credit <= least && credit < wanted {
-        client.grant(exchange.credit.min(wanted))?;
     }
-    client.renew_window()
 }
 
 /// Counts the message, prints what is asked for of it, and accepts it unless it came settled.

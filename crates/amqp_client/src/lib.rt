@@ -8,8 +8,9 @@
 //! | `receiving` | messages are taken, and settled |
 //! | `waits` | how long a peer is waited for, and when it is sent a beat |
 //! | `bodies` | messages to be sent: so many of one size, or lines |
-//! | `printing` | messages that were taken, as text |
+//! | `printing`, `json` | messages that were taken, as text and as JSON |
 //! | `ending` | link, session and connection end, each as agreed |
+//! | `traced` | devices of which it is told what goes over them |
 //! | `exchange` | the commands `send` and `receive`, over TCP |
 //! | `fault` | why a client stops |
 //!
@@ -21,12 +22,15 @@ mod client;
 mod ending;
 pub mod exchange;
 mod fault;
+mod json;
 mod opening;
 mod printing;
 mod receiving;
 mod sending;
+mod traced;
 mod waits;
 
+pub use amqp_conn::MIN_MAX_FRAME;
 pub use bodies::Labels;
 pub use client::Client;
 pub use fault::ClientFault;

@@ -3,7 +3,7 @@ use crate::client::{Client, LINK, had};
 use crate::fault::ClientFault;
 use amqp_conn::{Boxed, Conn, LinkEnd, Op, Refusal, Role, Text, Value, ops};
 use amqp_performatives::copying::copy_value;
-use std::alloc::AllocError;
+use std::alloc::{AllocError, Global};
 use std::io::{Read, Write};
 
 /// The peer has begun its session.
@@ -25,24 +25,39 @@ fn answer_of(conn: &Conn) -> Result<Option<Op>, AllocError> {
         return Ok(None);
     };
     match link.theirs() {
-        Some(theirs) => attach_like(link.name(), link.role(), theirs),
+        Some(theirs) => Ok(Some(attach_of(link.name(), link.role(), termini_of(theirs)?)?)),
         None => Ok(None),
     }
 }
 
-fn attach_like(name: &Text, role: Role, theirs: &LinkEnd) -> Result<Option<Op>, AllocError> {
-    let (source, target) = termini_of(theirs)?;
+/// A source and a target.
+type Termini = (Option<Boxed<Value>>, Option<Boxed<Value>>);
+
+/// An attach of a link of this name, with these ends.
+fn attach_of(name: &Text, role: Role, termini: Termini) -> Result<Op, AllocError> {
+    let (source, target) = termini;
     match name.clone() {
-        Ok(name) => Ok(Some(ops::attach(name, role, source, target))),
-        Err(error) => Err(error),
+        Ok(name) => Ok(ops::attach(name, role, source, target)),
+        Err(error) => {
+            drop(source);
+            drop(target);
+            Err(error)
+        }
     }
 }
 
 /// Copies of source and target.
-fn termini_of(end: &LinkEnd) -> Result<(Option<Boxed<Value>>, Option<Boxed<Value>>), AllocError> {
+fn termini_of(end: &LinkEnd) -> Result<Termini, AllocError> {
     let source = copy_value(&end.source)?;
     let target = copy_value(&end.target)?;
     Ok((source, target))
+}
+
+/// A source and a target with these addresses.
+fn termini_at(alloc: Global, source: &Text, target: &Text) -> Result<Termini, AllocError> {
+    let source = ops::source(alloc, source.clone()?)?;
+    let target = ops::target(alloc, target.clone()?)?;
+    Ok((Some(source), Some(target)))
 }
 
 impl<R: Read, W: Write> Client<R, W> {
@@ -61,9 +76,7 @@ impl<R: Read, W: Write> Client<R, W> {
             Role::Sender => (name, address),
             Role::Receiver => (address, name),
         };
-        let source = ops::source(self.alloc, source.clone()?)?;
-        let target = ops::target(self.alloc, target.clone()?)?;
-        Ok(ops::attach(name.clone()?, role, Some(source), Some(target)))
+        attach_of(name, role, termini_at(self.alloc, source, target)?)
     }
 
     fn begin_and(&mut self, attach: Op) -> Result<(), ClientFault> {

@@ -1,5 +1,6 @@
 //! Messages that were taken, as text.
 use crate::exchange::ExchangeFault;
+use crate::json;
 use amqp_conn::{Bytes, Value};
 use amqp_messages::{Message, MessageFault, Section, SectionKind, read_message};
 use amqp_trace::value_line;
@@ -8,13 +9,15 @@ use std::io;
 use std::io::Write;
 
 /// What is printed of a message that was taken.
-#[derive(Clone, Copy, Debug, PartialEq, Eq)]
+#[derive(Clone, Copy, Debug)]
 pub enum Printed {
     Nothing,
     /// Its body, and the end of a line.
     Bodies,
     /// A line for each section.
     Sections,
+    /// All of it as one line of JSON.
+    Json,
 }
 
 /// The fields of a header, in their order (part 3, 3.2.1).
@@ -43,7 +46,7 @@ const PROPERTIES: [&str; 13] = [
     "reply-to-group-id",
 ];
 
-fn name_of(kind: SectionKind) -> &'static str {
+pub(crate) fn name_of(kind: SectionKind) -> &'static str {
     match kind {
         SectionKind::Header => "header",
         SectionKind::DeliveryAnnotations => "delivery-annotations",
@@ -58,7 +61,7 @@ fn name_of(kind: SectionKind) -> &'static str {
 }
 
 /// The names of the fields that a section of the kind has.
-fn names_of(kind: SectionKind) -> &'static [&'static str] {
+pub(crate) fn names_of(kind: SectionKind) -> &'static [&'static str] {
     match kind {
         SectionKind::Header => &HEADER,
         SectionKind::Properties => &PROPERTIES,
@@ -77,7 +80,7 @@ pub(crate) fn write_taken<W: Write>(
     payload: &Bytes,
     out: &mut W,
 ) -> Result<(), ExchangeFault> {
-    if printed == Printed::Nothing {
+    if let Printed::Nothing = printed {
         return Ok(());
     }
     match read_message(alloc, payload) {
@@ -99,10 +102,17 @@ fn write_octets<W: Write>(
     octets: &[u8],
     out: &mut W,
 ) -> Result<(), ExchangeFault> {
-    if printed == Printed::Sections {
-        writeln!(out, "no message: {fault}").map_err(ExchangeFault::Out)?;
-    }
-    write_line(octets, out).map_err(ExchangeFault::Out)
+    let written = match printed {
+        Printed::Json => json::write_octets(fault, octets, out),
+        Printed::Sections => write_fault(fault, octets, out),
+        _ => write_line(octets, out),
+    };
+    written.map_err(ExchangeFault::Out)
+}
+
+fn write_fault<W: Write>(fault: MessageFault, octets: &[u8], out: &mut W) -> io::Result<()> {
+    writeln!(out, "no message: {fault}")?;
+    write_line(octets, out)
 }
 
 fn write_message<W: Write>(
@@ -111,10 +121,32 @@ fn write_message<W: Write>(
     message: &Message,
     out: &mut W,
 ) -> Result<(), ExchangeFault> {
-    for section in message.sections.as_slice() {
-        if printed == Printed::Sections {
-            write_section(alloc, section, out)?;
-        } else if is_body(section.kind) {
+    let sections = message.sections.as_slice();
+    match printed {
+        Printed::Json => { json::write_message(alloc, sections, out).map_err(ExchangeFault::Out) }
+        Printed::Sections => write_sections(alloc, sections, out),
+        _ => write_bodies(alloc, sections, out),
+    }
+}
+
+fn write_sections<W: Write>(
+    alloc: Global,
+    sections: &[Section],
+    out: &mut W,
+) -> Result<(), ExchangeFault> {
+    for section in sections {
+        write_section(alloc, section, out)?;
+    }
+    Ok(())
+}
+
+fn write_bodies<W: Write>(
+    alloc: Global,
+    sections: &[Section],
+    out: &mut W,
+) -> Result<(), ExchangeFault> {
+    for section in sections {
+        if is_body(section.kind) {
             write_body(alloc, &section.body, out)?;
         }
     }
@@ -151,8 +183,8 @@ fn write_section<W: Write>(
     section: &Section,
     out: &mut W,
 ) -> Result<(), ExchangeFault> {
-    out.write_all(name_of(section.kind).as_bytes())
-        .map_err(ExchangeFault::Out)?;
+    let name = name_of(section.kind);
+    write!(out, "{name}").map_err(ExchangeFault::Out)?;
     let names = names_of(section.kind);
     match &section.body {
         Value::List(fields) if !names.is_empty() => {
@@ -179,7 +211,7 @@ fn write_fields<W: Write>(
     Ok(())
 }
 
-fn is_null(value: &Value) -> bool {
+pub(crate) fn is_null(value: &Value) -> bool {
     match value {
         Value::Null => true,
         _ => false,
@@ -196,12 +228,7 @@ fn write_value<W: Write>(
     let Ok(line) = value_line(alloc, value) else {
         return Err(ExchangeFault::NoMemory);
     };
-    let written = put_two(before, line.as_str(), out);
+    let written = write!(out, "{before}{}", line.as_str());
     drop(line);
     written.map_err(ExchangeFault::Out)
-}
-
-fn put_two<W: Write>(first: &str, second: &str, out: &mut W) -> io::Result<()> {
-    out.write_all(first.as_bytes())?;
-    out.write_all(second.as_bytes())
 }

@@ -95,9 +95,9 @@ fn told_of(learned: &Learned) -> Told {
 
 /// The number that `send` put into the tag.
 fn number_of(tag: &Tag) -> u32 {
-    match tag.octets().split_first_chunk::<4>() {
-        Some((number, _)) => u32::from_be_bytes(*number),
-        None => 0,
+    match tag.octets() {
+        [a, b, c, d, ..] => u32::from_be_bytes([*a, *b, *c, *d]),
+        _ => 0,
     }
 }
 

@@ -35,7 +35,7 @@ pub fn answer<H, R: BufRead, W: Write>(
     writer: &mut W,
 ) -> anyhow::Result<u8>
 where
-    H: AllocGlobal + Clock + Net<Stream = TcpStream> + Threads + Wait + Sync,
+    H: AllocGlobal + Eprint + Clock + Net<Stream = TcpStream> + Threads + Wait + Sync,
     requires { IsAllowed request }
 {
     let alloc = rt.alloc();

@@ -78,7 +78,15 @@ where
 /// Does what is asked for, from standard input to standard output.
 fn do_request<R>(rt: &R, request: Request<'_>) -> anyhow::Result<u8>
 where
-    R: AllocGlobal + Input + Print + Clock + Net<Stream = TcpStream> + Threads + Wait + Sync,
+    R: AllocGlobal
+        + Input
+        + Print
+        + Eprint
+        + Clock
+        + Net<Stream = TcpStream>
+        + Threads
+        + Wait
+        + Sync,
     requires { IsAllowed request }
 {
     let mut reader = BufReader::new(rt.alloc(), rt.reader())?;

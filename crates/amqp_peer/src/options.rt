@@ -2,16 +2,13 @@
 //! the way out of another costs its proof there.
 
 use amqp_client::exchange::{Exchange, Renewal};
-use amqp_client::{Labels, Printed};
+use amqp_client::{Labels, MIN_MAX_FRAME, Printed};
 use amqp_rules::config::{Config, MAX_JOURNAL_LIMIT, MAX_WINDOW};
 use amqp_script::explain::{Explained, find_fault, find_refusal, find_violation};
 use amqp_serve::Serve;
 use amqp_trace::Direction;
 use clap::{Arg, ArgAction, ArgMatches, Command, value_parser};
 use std::alloc::{AllocError, Global};
-
-/// The least that a peer may be told to keep its frames to, in octets (part 2, 2.7.1).
-const MIN_MAX_FRAME: u32 = 512;
 
 /// The most seconds that a peer may be waited for, half of which it is told in milliseconds.
 const MAX_PATIENCE: i64 = 8_589_934;
@@ -155,12 +152,14 @@ pub fn receive<'a>(alloc: Global) -> Result<Command<'a>, AllocError> {
     let half = "Gives credit again once half of it is used, and not all";
     let lines = "Prints the body of each message, and a line's end";
     let sections = "Prints a line for each section of each message";
+    let json = "Prints a line of JSON for each message";
     with_peer(alloc, Command::new(alloc, "receive").about(about))?
         .arg(usual(alloc, "credit", credit, "10").value_parser(value_parser!(u32).range(1..)))?
         .arg(flag(alloc, "half", half))?
         .arg(drain(alloc)?)?
         .arg(flag(alloc, "lines", lines))?
-        .arg(flag(alloc, "sections", sections))
+        .arg(flag(alloc, "sections", sections))?
+        .arg(flag(alloc, "json", json))
 }
 
 /// The command `serve` with its options.
@@ -216,6 +215,7 @@ fn with_peer<'a>(alloc: Global, command: Command<'a>) -> Result<Command<'a>, All
         .arg(patience(alloc))?
         .arg(text(alloc, "container-id", "This end's name", "amqp_peer"))?
         .arg(max_frame(alloc))?
+        .arg(flag(alloc, "trace", "Tells each frame on standard error"))?
         .arg(count.value_parser(value_parser!(u32).range(1..)))
 }
 
@@ -327,6 +327,7 @@ fn exchange_of<'a>(options: &ArgMatches<'a>) -> Option<Exchange<'a>> {
         credit: 1,
         renewal: Renewal::AtZero,
         printed: Printed::Nothing,
+        is_traced: options.get_flag("trace"),
     })
 }
 
@@ -352,7 +353,9 @@ fn renewal_of(options: &ArgMatches<'_>) -> Renewal {
 }
 
 fn printed_of(options: &ArgMatches<'_>) -> Printed {
-    if options.get_flag("sections") {
+    if options.get_flag("json") {
+        Printed::Json
+    } else if options.get_flag("sections") {
         Printed::Sections
     } else if options.get_flag("lines") {
         Printed::Bodies

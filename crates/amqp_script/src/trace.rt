@@ -3,17 +3,11 @@ ghost use Rattle.std.specs.Prelude.{◌≢◌, ◌<◌, ◌≤◌, [], IfOk, len
 
 use crate::frames::{Framed, MAX_FRAME, Octets, tell_fault, tell_rest};
 use crate::lines::{LineTaker, Outcome, RunFault, take_lines};
-use amqp_frames::{Frame, FrameFault, Framer};
-use amqp_trace::{Direction, Protocol, frame_line, header_line};
+use amqp_frames::FrameFault;
+use amqp_trace::{Direction, Tracer};
 use std::alloc::{AllocError, Global};
+use std::io;
 use std::io::{BufRead, Write};
-use std::{io, mem};
-
-/// What a protocol header begins with (part 2, 2.2).
-const MAGIC: [u8; 4] = *b"AMQP";
-
-/// How many octets a protocol header has.
-const HEADER_LEN: usize = 8;
 
 /// How often raw octets are read at most.
 const MAX_READS: u32 = u32::MAX;
@@ -48,11 +42,7 @@ pub fn run_raw_trace<R: BufRead, W: Write>(
 #[derive(Drop)]
 struct Tracing {
     alloc: Global,
-    direction: Direction,
-    framer: Framer,
-    /// The first octets, as long as they may be of a header.
-    front: Vec<u8>,
-    has_begun: bool,
+    tracer: Tracer,
     lines: Outcome,
 }
 
@@ -73,50 +63,13 @@ impl Tracing {
     fn new(alloc: Global, direction: Direction) -> Tracing {
         Tracing {
             alloc,
-            direction,
-            framer: Framer::new(alloc, MAX_FRAME),
-            front: Vec::new(alloc),
-            has_begun: false,
+            tracer: Tracer::new(alloc, direction, MAX_FRAME),
             lines: Outcome::EachLineGood,
         }
     }
 
-    /// Takes the header in front, and prints each frame that these octets end.
+    /// Prints a line for the header in front, and for each frame that these octets end.
     fn take_octets<W: Write>(&mut self, octets: &[u8], writer: &mut W) -> Result<(), RunFault> {
-        if self.has_begun {
-            return self.take_frames(octets, writer);
-        }
-        let missing = HEADER_LEN.saturating_sub(self.front.len());
-        let (head, others) = octets.split_at(octets.len().min(missing));
-        self.front.extend_from_slice(head)?;
-        if !may_be_header(self.front.as_slice()) {
-            self.has_begun = true;
-            let front = mem::replace(&mut self.front, Vec::new(self.alloc));
-            self.take_frames(front.as_slice(), writer)?;
-        } else if self.front.len() >= HEADER_LEN {
-            self.has_begun = true;
-            self.tell_header(writer)?;
-        }
-        self.take_frames(others, writer)
-    }
-
-    /// Prints the header.
-    fn tell_header<W: Write>(&self, writer: &mut W) -> Result<(), RunFault> {
-        let [_, _, _, _, id, major, minor, revision] = self.front.as_slice() else {
-            return Ok(());
-        };
-        let protocol = Protocol {
-            id: *id,
-            major: *major,
-            minor: *minor,
-            revision: *revision,
-        };
-        let line = header_line(self.alloc, self.direction, protocol)?;
-        writeln!(writer, "{line}").map_err(RunFault::Write)
-    }
-
-    /// Prints each frame that these octets end.
-    fn take_frames<W: Write>(&mut self, octets: &[u8], writer: &mut W) -> Result<(), RunFault> {
         let mut rest = octets;
         while !rest.is_empty() {
             let used = self.take_front(rest, writer)?;
@@ -125,14 +78,14 @@ impl Tracing {
         Ok(())
     }
 
-    /// Prints the frame that ends first in these octets, if one does, and answers how many of them were taken.
+    /// Prints the line of what ends first in these octets, if anything does, and answers how many of them were taken.
     fn take_front<W: Write>(&mut self, octets: &[u8], writer: &mut W) -> Result<usize, RunFault>
         requires { octets.now ≢ [] }
         ensures { IfOk result (λ used. (0 < used) × (used ≤ length octets.now)) }
     {
-        match self.framer.feed(octets) {
-            Ok((used, Some(frame))) => {
-                self.tell_frame(&frame, writer)?;
+        match self.tracer.feed(octets) {
+            Ok((used, Some(line))) => {
+                writeln!(writer, "{line}").map_err(RunFault::Write)?;
                 Ok(used)
             }
             Ok((used, None)) => Ok(used),
@@ -141,24 +94,10 @@ impl Tracing {
         }
     }
 
-    fn tell_frame<W: Write>(&self, frame: &Frame, writer: &mut W) -> Result<(), RunFault> {
-        let line = frame_line(self.alloc, self.direction, frame)?;
-        writeln!(writer, "{line}").map_err(RunFault::Write)
-    }
-
-    /// How many octets have come of a header or a frame that did not end.
-    fn pending(&self) -> usize {
-        if self.has_begun {
-            self.framer.pending()
-        } else {
-            self.front.len()
-        }
-    }
-
     /// What the run told, once what is left is printed.
     fn end<W: Write>(self, run: Result<(), RunFault>, writer: &mut W) -> Result<Framed, RunFault> {
         let told = match run {
-            Ok(()) => tell_rest(self.pending(), writer),
+            Ok(()) => tell_rest(self.tracer.pending(), writer),
             Err(RunFault::Framing(fault)) => Ok(Octets::Faulty(fault)),
             Err(fault) => Err(fault),
         };
@@ -170,12 +109,6 @@ impl Tracing {
             octets,
         })
     }
-}
-
-/// Whether the octets begin as a header does. No frame that is taken begins so.
-fn may_be_header(front: &[u8]) -> bool {
-    let count = front.len().min(MAGIC.len());
-    front[..count] == MAGIC[..count]
 }
 
 /// Takes the octets that the reader gives. What was written is flushed before each read.

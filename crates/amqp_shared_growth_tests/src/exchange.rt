@@ -30,6 +30,7 @@ const ONE: Exchange<'static> = Exchange {
     credit: 1,
     renewal: Renewal::AtZero,
     printed: Printed::Nothing,
+    is_traced: false,
 };
 
 /// Three messages, two at a time.

@@ -8,10 +8,12 @@
 //! | `fields`, `values` | performatives with their fields; values of any type |
 //! | `names` | the standard's names of types and fields |
 //! | `text` | a line, which has printable characters alone |
+//! | `tracer` | octets in pieces, and the line of each frame in them |
 //!
 //! - [`frame_line`], [`header_line`]: the line of what went in a [`Direction`]; [`Protocol`]: what a header says
 //! - [`value_line`]: the line of a value
 //! - [`Line`]: its text
+//! - [`Tracer`]: the lines of octets, however they are cut
 //! - [`type_name`], [`field_names`], [`each_field_has_a_name`]: the table of names
 #![tactic(auto)]
 
@@ -19,9 +21,11 @@ mod fields;
 mod frame;
 mod names;
 mod text;
+mod tracer;
 mod values;
 
 pub use frame::{Direction, Protocol, each_field_has_a_name, frame_line, header_line};
 pub use names::{field_names, type_name};
 pub use text::Line;
+pub use tracer::Tracer;
 pub use values::value_line;
