@@ -631,31 +631,36 @@ fn in_batches<N: Name + Send + Sync, R: Threads + Wait + Abort + Sync>(
 }
 
 #[test]
-fn several_operations_at_once(rt: HostRuntime) {
-    match seed(rt.alloc(), 4) {
-        Ok(seed) => called_at_once::<Brand, HostRuntime>(&rt, rt.alloc(), seed),
-        Err(_) => panic!(rt; "no seed"),
-    }
+fn several_operations_at_once(rt: HostRuntime) -> Result<(), Fail> {
+    called_at_once::<Brand, HostRuntime>(&rt, rt.alloc(), seed(rt.alloc(), 4)?)
 }
 
 /// Two deliveries are taken, and the third operation is refused.
-fn called_at_once<N: Name, R: Wait + Abort>(rt: &R, alloc: Global, seed: Seed)
+fn called_at_once<N: Name, R: Wait + Abort>(rt: &R, alloc: Global, seed: Seed) -> Result<(), Fail>
     requires { IsNamed seed N.name N.parts N.ring }
 {
     let (shared, mut pass, _) = open_shared::<N>(seed);
     with_deliveries(rt, alloc, &shared, &mut pass);
     let before = pass.made();
+    assert!(rt; takes_two(rt, alloc, &shared, &mut pass));
+    assert_eq!(rt; pass.made(), before.saturating_add(2));
+    Ok(())
+}
+
+fn takes_two<N: Name, R: Wait>(
+    rt: &R,
+    alloc: Global,
+    shared: &Shared<N>,
+    pass: &mut Pass<N>,
+) -> bool {
     let takes = [
         Op::Take { link: 1 },
         Op::Take { link: 1 },
         Op::Take { link: 1 },
     ];
     let mut guard = shared.lock(rt);
-    match shared.call_many(alloc, &mut guard, &mut pass, &takes) {
-        Ok(called) => {
-            assert!(rt; called.answers.len() == 2 && called.refused == Some(Refusal::Nothing));
-        }
-        Err(_) => panic!(rt; "no memory"),
+    match shared.call_many(alloc, &mut guard, pass, &takes) {
+        Ok(called) => called.answers.len() == 2 && called.refused == Some(Refusal::Nothing),
+        Err(_) => false,
     }
-    assert_eq!(rt; pass.made(), before.saturating_add(2));
 }
