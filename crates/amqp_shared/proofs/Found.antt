@@ -24,12 +24,7 @@ if_err-map P Q (Err e) k h = k e h
 pub as-many : {X Y : Type 0} (f : X → Y) (xs : List X) (ys : List Y) → map f xs ≡ ys → length xs ≡ length ys
 as-many f xs ys e = sym (length-map xs f) ∙ ap length e
 
--- one behind a list, and others behind it
-pub behind : {X : Type 0} (xs : List X) (x : X) (ys : List X) → (xs ++ x ∷ []) ++ ys ≡ xs ++ x ∷ ys
-behind [] x ys = refl
-behind (y ∷ xs) x ys = ap (λ zs. y ∷ zs) (behind xs x ys)
-
--- the same where the list was mapped
+-- one behind a list that is mapped, and others behind it
 pub mapped-behind : {X Y : Type 0} (f : X → Y) (xs : List X) (x : X) (ys : List Y) → map f (xs ++ x ∷ []) ++ ys ≡ map f xs ++ f x ∷ ys
 mapped-behind f [] x ys = refl
 mapped-behind f (y ∷ xs) x ys = ap (λ zs. f y ∷ zs) (mapped-behind f xs x ys)

@@ -2,7 +2,7 @@ use Rattle.std.proofs.Common.{◌≡◌, ◌+◌, ◌-◌, ◌++◌, [], ◌∷�
 use Rattle.amqp_rules.specs.declared.reply.Taken.{Taken}
 use Rattle.amqp_shared.specs.Passes.{Tally}
 use Rattle.amqp_shared.specs.Batching.{InHand, TakesMore}
-use Rattle.amqp_shared.proofs.Found.{behind, together}
+use Rattle.amqp_shared.proofs.Found.{together}
 use Rattle.amqp_shared.proofs.batches.take_more.Goals as goal
 
 pub loop-guard-preserved : goal.loop-guard-preserved
@@ -18,7 +18,7 @@ loop-guard-preserved g c =
       omega (arith, room, more, longer),
       taken ++ item ∷ [],
       put ∙ ap (λ (b : InHand). record b { items = b.items ++ item ∷ [] }) is ∙ ap (λ (ts : List Taken). record c.args.batch.now { items = ts }) (together c.args.batch.now.items taken (item ∷ [])),
-      λ ts room after h. subst (λ xs. TakesMore c.args.link xs room c.args.pass.now after) (sym (behind taken item ts))
+      λ ts room after h. subst (λ xs. TakesMore c.args.link xs room c.args.pass.now after) (sym (together taken (item ∷ []) ts))
           (rest (item ∷ ts) room after (some.0, some.1, subst (λ (p : Tally). TakesMore c.args.link ts room p after) some.2 h)),
     )
 

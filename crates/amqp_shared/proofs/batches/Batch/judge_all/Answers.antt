@@ -1,7 +1,7 @@
 use Rattle.std.proofs.Common.{◌++◌, [], ◌∷◌, map, sym, ap, subst, ◌∙◌, append-nil}
 use Rattle.amqp_shared.specs.declared.batches.Judged.{Judged}
 use Rattle.amqp_shared.specs.Batching.{InHand, ConsumesAll}
-use Rattle.amqp_shared.proofs.Found.{behind, mapped-behind}
+use Rattle.amqp_shared.proofs.Found.{together, mapped-behind}
 use Rattle.amqp_shared.proofs.batches.Batch.judge_all.Goals as goal
 
 pub loop-preserved : goal.loop-preserved
@@ -14,7 +14,7 @@ loop-preserved g c =
           ∙ ap (λ ts. map (λ (j : Judged). j.item) before ++ ts) (sym items) ∙ was.0,
       more ∙ was.1,
       λ js after h. subst (λ all. ConsumesAll g.W.Work.consumes c.args.work.now (all ++ js) after) (sym judged)
-          (subst (λ all. ConsumesAll g.W.Work.consumes c.args.work.now all after) (sym (behind before j js)) (was.2 (j ∷ js) after (c.judge.new.work, consumed, h))),
+          (subst (λ all. ConsumesAll g.W.Work.consumes c.args.work.now all after) (sym (together before (j ∷ []) js)) (was.2 (j ∷ js) after (c.judge.new.work, consumed, h))),
     )
 
 pub returns : goal.returns

@@ -2,7 +2,7 @@ use Rattle.std.proofs.Common.{inl, inr, ◌+◌, ◌++◌, [], ◌∷◌, length
 use Rattle.std.proofs.lemmas.List.{at_drop_more, drop_all}
 use Rattle.std.specs.Sync.Mutex.{mutex_guard_value}
 use Rattle.amqp_shared.specs.Many.{CallsAll, Tells, Notes}
-use Rattle.amqp_shared.proofs.Found.{behind}
+use Rattle.amqp_shared.proofs.Found.{together}
 use Rattle.amqp_shared.proofs.shared.Shared.call_many.Goals as goal
 
 pub push_reserved-requires : goal.push_reserved-requires
@@ -31,10 +31,10 @@ loop-op-preserved g c =
     let new = mutex_guard_value c.call.new.guard in (
       omega (arith, sized, room, longer, kept),
       λ more refused after h. subst (λ answers. CallsAll Tells (mutex_guard_value c.args.guard.now) ops (answers ++ more) refused after) (sym pushed.items)
-          (subst (λ answers. CallsAll Tells (mutex_guard_value c.args.guard.now) ops answers refused after) (sym (behind before done more)) (was.1 (done ∷ more) refused after
+          (subst (λ answers. CallsAll Tells (mutex_guard_value c.args.guard.now) ops answers refused after) (sym (together before (done ∷ []) more)) (was.1 (done ∷ more) refused after
           (subst (λ os. CallsAll Tells old os (done ∷ more) refused after) (sym is) (inr (done, more, refl, new, (c.in-Ok.ensures.step, c.in-Ok.ensures.told), h))))),
       λ more refused after h. subst (λ answers. CallsAll Notes c.args.pass.now ops (answers ++ more) refused after) (sym pushed.items)
-          (subst (λ answers. CallsAll Notes c.args.pass.now ops answers refused after) (sym (behind before done more)) (was.2 (done ∷ more) refused after
+          (subst (λ answers. CallsAll Notes c.args.pass.now ops answers refused after) (sym (together before (done ∷ []) more)) (was.2 (done ∷ more) refused after
           (subst (λ os. CallsAll Notes c.loop-op.pass os (done ∷ more) refused after) (sym is) (inr (done, more, refl, c.call.new.pass, c.in-Ok.ensures.pass, h))))),
     )
 
