@@ -26,7 +26,7 @@ pub record InHand : Type 0 where
 
 -- # Taking
 
--- The pass says that these were taken of the link, in order. Where there was room for more, another was asked for, and there was none.
+-- The pass says that these were taken of the link, in order. Just where there was room for more, another was asked for, and was refused.
 abbrev pub TakesMore : ℕ → List Taken → ℕ → Tally → Tally → Type 0
 TakesMore link [] zero old new = new ≡ old
 TakesMore link [] (suc room) old new = (e : Refusal) × (new ≡ after (op.Take link) (Err e) old)

@@ -233,7 +233,7 @@ pub fn run_consumers_with<N: Name + Send + Sync, W: Work + Send + Drop, R: Threa
 
 /// The same in batches: a consumer takes with each delivery as many more as are ready, at most so many, under one lock; consumes them without it; and under one lock
 /// tells their states, those whose ids follow one another in one state by one disposition (part 2, 2.7.6), and grants the credit once, where that is due. So its pass has
-/// a step for each delivery that it took, one for each such disposition, and one for each grant.
+/// a step for each delivery that it took, one for each such disposition, and one for each grant. Room for a whole batch is made for each consumer before any begins.
 ///
 /// # Errors
 ///
