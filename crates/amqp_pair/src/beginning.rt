@@ -4,13 +4,11 @@ ghost use Rattle.std.specs.Prelude.{◌≡◌, IfOk};
 use crate::fault::PairFault;
 use crate::options::{MAX_FRAME, Options};
 use crate::reading::WINDOW;
+use crate::writing::RING;
 use amqp_conn::Config;
 use amqp_shared::Seed;
 use amqp_types::Text;
 use std::alloc::Global;
-
-/// How many units wait for a writer without the lock.
-const RING: usize = 256;
 
 /// A connection that is not shared yet, with the settings of both ends and this name.
 pub fn seed(alloc: Global, name: &str, options: &Options) -> Result<Seed, PairFault>

@@ -1,4 +1,5 @@
 //! The threads that accept messages.
+use crate::end::End;
 use crate::ending::{lose, put};
 use crate::fault::PairFault;
 use crate::gate::Gate;
@@ -6,7 +7,7 @@ use crate::reading::LINK;
 use amqp_frames::DeliveryState;
 use amqp_rules::refusal::Refusal;
 use amqp_rules::reply::Taken;
-use amqp_shared::{Consumed, Name, Pass, Renewal, Shared, Terms, Work, run_consumers_in_batches};
+use amqp_shared::{Consumed, Name, Pass, Renewal, Terms, Work, run_consumers_in_batches};
 use std::alloc::{AllocError, Global};
 use std::sync::Wait;
 use std::thread;
@@ -15,16 +16,31 @@ use std::thread::Threads;
 /// How many deliveries a consumer takes at most beside the first, where they are ready.
 const MORE: u32 = 127;
 
-/// Accepts each delivery, and counts the octets of all.
-#[derive(Drop)]
-pub struct Accepting {
+/// Accepts each delivery, and counts the octets of all. It writes what is told of them by itself.
+struct Accepting<'a, N: Name, R: Wait> {
+    rt: &'a R,
+    end: &'a End<N>,
     octets: u64,
 }
 
-impl Work for Accepting {
+impl<'a, N: Name, R: Wait> Drop for Accepting<'a, N, R> {
+    fn drop(self) {
+        let Accepting {
+            rt: _,
+            end: _,
+            octets: _,
+        } = self;
+    }
+}
+
+impl<'a, N: Name, R: Wait> Work for Accepting<'a, N, R> {
     fn consume(&mut self, item: &Taken) -> DeliveryState {
         self.octets = self.octets.saturating_add(item.payload.len() as u64);
         DeliveryState::Accepted
+    }
+
+    fn told(&mut self) {
+        self.end.flush(self.rt);
     }
 }
 
@@ -49,7 +65,7 @@ const NOTHING: Counts = Counts {
 pub fn consume_all<N: Name + Send + Sync, R: Threads + Wait + Sync>(
     rt: &R,
     alloc: Global,
-    shared: &Shared<N>,
+    end: &End<N>,
     passes: Vec<Pass<N>>,
     credit: u32,
     gate: &Gate,
@@ -58,13 +74,13 @@ pub fn consume_all<N: Name + Send + Sync, R: Threads + Wait + Sync>(
         return Ok((passes, NOTHING));
     }
     let done = match jobs_of(alloc, passes, credit) {
-        Ok(jobs) => consume_side_by_side(rt, shared, jobs),
+        Ok(jobs) => consume_side_by_side(rt, end, jobs),
         Err(AllocError) => Err(AllocError),
     };
     match done {
         Ok(done) => gather(alloc, done),
         Err(AllocError) => {
-            lose(rt, shared);
+            lose(rt, end);
             Err(PairFault::NoMemory)
         }
     }
@@ -94,40 +110,48 @@ fn jobs_of<N: Name>(
     Ok(jobs)
 }
 
+/// What a consumer's thread hands back.
+#[derive(Drop)]
+struct Done<N: Name> {
+    pass: Pass<N>,
+    counts: Counts,
+    stopped: Refusal,
+}
+
 fn consume_side_by_side<N: Name + Send + Sync, R: Threads + Wait + Sync>(
     rt: &R,
-    shared: &Shared<N>,
+    end: &End<N>,
     jobs: Vec<Job<N>>,
-) -> Result<Vec<Result<Consumed<N, Accepting>, AllocError>>, AllocError> {
+) -> Result<Vec<Result<Done<N>, AllocError>>, AllocError> {
     thread::map_vec(
         rt,
         jobs,
-        &|job: Job<N>| -> Result<Consumed<N, Accepting>, AllocError> { consume(rt, shared, job) },
+        &|job: Job<N>| -> Result<Done<N>, AllocError> { consume(rt, end, job) },
     )
 }
 
 /// Consumes until an operation is refused. Where that is not the connection's end, this consumer ends it, since nobody else will settle what it took.
 fn consume<N: Name + Send + Sync, R: Threads + Wait + Sync>(
     rt: &R,
-    shared: &Shared<N>,
+    end: &End<N>,
     job: Job<N>,
-) -> Result<Consumed<N, Accepting>, AllocError> {
-    let consumed = consume_alone(rt, shared, job);
-    let is_at_end = match &consumed {
-        Ok(consumed) => consumed.stopped == Refusal::NotRunning,
+) -> Result<Done<N>, AllocError> {
+    let done = consume_alone(rt, end, job);
+    let is_at_end = match &done {
+        Ok(done) => done.stopped == Refusal::NotRunning,
         Err(_) => false,
     };
     if !is_at_end {
-        lose(rt, shared);
+        lose(rt, end);
     }
-    consumed
+    done
 }
 
 fn consume_alone<N: Name + Send + Sync, R: Threads + Wait + Sync>(
     rt: &R,
-    shared: &Shared<N>,
+    end: &End<N>,
     job: Job<N>,
-) -> Result<Consumed<N, Accepting>, AllocError> {
+) -> Result<Done<N>, AllocError> {
     let Job {
         alloc,
         pass,
@@ -136,24 +160,42 @@ fn consume_alone<N: Name + Send + Sync, R: Threads + Wait + Sync>(
     let mut passes = Vec::new(alloc);
     passes.push(pass)?;
     let mut works = Vec::new(alloc);
-    works.push(Accepting { octets: 0 })?;
+    works.push(Accepting { rt, end, octets: 0 })?;
     let terms = Terms {
         link: LINK,
         credit,
         renewal: Renewal::AtHalf,
     };
-    let mut done = run_consumers_in_batches(rt, shared, passes, works, terms, MORE)?;
+    let mut done = run_consumers_in_batches(rt, &end.shared, passes, works, terms, MORE)?;
     match done.pop() {
-        Some(consumed) => Ok(consumed),
+        Some(consumed) => Ok(done_by(consumed)),
         None => Err(AllocError),
     }
 }
 
+/// What is handed back of a consumer: with what the link had left it has consumed all that came.
+fn done_by<N: Name, R: Wait>(consumed: Consumed<N, Accepting<'_, N, R>>) -> Done<N> {
+    let Consumed {
+        pass,
+        work,
+        count,
+        left,
+        stopped,
+    } = consumed;
+    let octets = work.octets;
+    drop(work);
+    Done {
+        pass,
+        counts: Counts {
+            deliveries: count.saturating_add(left),
+            octets,
+        },
+        stopped,
+    }
+}
+
 /// All passes, and what all have had.
-fn gather<N: Name>(
-    alloc: Global,
-    done: Vec<Result<Consumed<N, Accepting>, AllocError>>,
-) -> ConsumeOutcome<N> {
+fn gather<N: Name>(alloc: Global, done: Vec<Result<Done<N>, AllocError>>) -> ConsumeOutcome<N> {
     let mut passes = Vec::new(alloc);
     let mut counts = NOTHING;
     for consumed in done {
@@ -163,8 +205,9 @@ fn gather<N: Name>(
         if consumed.stopped != Refusal::NotRunning {
             return Err(PairFault::Consume(consumed.stopped));
         }
-        counts.deliveries = counts.deliveries.saturating_add(consumed.count);
-        counts.octets = counts.octets.saturating_add(consumed.work.octets);
+        let Counts { deliveries, octets } = consumed.counts;
+        counts.deliveries = counts.deliveries.saturating_add(deliveries);
+        counts.octets = counts.octets.saturating_add(octets);
         put(&mut passes, consumed.pass)?;
     }
     Ok((passes, counts))

@@ -1,27 +1,34 @@
 //! How an end comes to its close, and what is left of it.
+use crate::end::End;
 use crate::fault::PairFault;
 use crate::gate::{Gate, Opening};
 use amqp_frames::Role;
 use amqp_shared::{Closed, Name, Pass, Shared, WriterEnd};
 use std::sync::Wait;
 
-/// Ends the connection without a close: no more octets come. Whoever waits for it goes on.
-pub fn lose<N: Name, R: Wait>(rt: &R, shared: &Shared<N>) {
-    let mut guard = shared.lock(rt);
-    shared.lost(&mut guard);
+/// Ends the connection without a close: no more octets come, and none go out but those that wait. Whoever waits for it goes on.
+pub fn lose<N: Name, R: Wait>(rt: &R, end: &End<N>) {
+    let mut guard = end.shared.lock(rt);
+    end.shared.lost(&mut guard);
+    drop(guard);
+    end.outlet.end(rt);
 }
 
 /// Ends the connection of an end that nobody reads, and says so to who waits until it is open.
-pub fn give_up<N: Name, R: Wait>(rt: &R, shared: &Shared<N>, gate: &Gate) {
-    lose(rt, shared);
+pub fn give_up<N: Name, R: Wait>(rt: &R, end: &End<N>, gate: &Gate) {
+    lose(rt, end);
     gate.tell(rt, Opening::Failed);
 }
 
 /// Closes the connection, or ends it where it cannot close.
-pub fn shut<N: Name, R: Wait>(rt: &R, shared: &Shared<N>) {
-    let mut guard = shared.lock(rt);
-    if shared.shut(&mut guard, None).is_err() {
-        shared.lost(&mut guard);
+pub fn shut<N: Name, R: Wait>(rt: &R, end: &End<N>) {
+    let mut guard = end.shared.lock(rt);
+    let closes = end.shared.shut(&mut guard, None).is_ok();
+    drop(guard);
+    if closes {
+        end.flush(rt);
+    } else {
+        lose(rt, end);
     }
 }
 

@@ -7,7 +7,7 @@ ghost use Rattle.std.specs.Prelude.{◌<◌, ◌≤◌, length, IfSome};
 use crate::options::MAX_FRAME;
 use crate::reading::ReadFault;
 use bytes::{Bytes, BytesMut};
-use std::alloc::Global;
+use std::alloc::{AllocError, Global};
 use std::io::{ErrorKind, Read};
 use std::sync::Wait;
 
@@ -16,6 +16,9 @@ const ROOM: usize = 524288;
 
 /// The least room that a read is given: that of a frame.
 const LEAST: usize = MAX_FRAME as usize;
+
+/// What new room is made of. Octet by octet it would take as long as all else that a long message costs.
+const ZEROS: &[u8; 1024] = &[0; 1024];
 
 /// The first four octets of a protocol header (part 2, 2.2): AMQP. As a size they would be that of a longer frame than any that is taken.
 const PROTOCOL: u32 = 0x414d5150;
@@ -62,10 +65,13 @@ impl Inbox {
 
     /// One read, behind what is there.
     fn read<S: Read>(&mut self, stream: &mut S) -> Result<(), ReadFault> {
-        if self.buffer.capacity().saturating_sub(self.buffer.len()) < LEAST {
-            let Ok(()) = self.buffer.reserve(ROOM) else {
-                return Err(ReadFault::NoMemory);
-            };
+        if self.buffer.capacity().saturating_sub(self.buffer.len()) < LEAST
+            && !self.buffer.try_reclaim(LEAST)
+        {
+            match with_room(*self.buffer.allocator(), self.buffer.as_slice()) {
+                Ok(buffer) => self.buffer = buffer,
+                Err(AllocError) => return Err(ReadFault::NoMemory),
+            }
         }
         match self.buffer.read_from(stream) {
             Ok(0) => Err(ReadFault::EndOfInput),
@@ -74,6 +80,18 @@ impl Inbox {
             Err(error) => Err(ReadFault::Read(error)),
         }
     }
+}
+
+/// These octets, with new room behind them.
+fn with_room(alloc: Global, octets: &[u8]) -> Result<BytesMut, AllocError> {
+    let mut all = Vec::with_capacity(alloc, octets.len().saturating_add(ROOM))?;
+    all.extend_from_slice(octets)?;
+    for _ in 0..ROOM / ZEROS.len() {
+        all.extend_from_slice(ZEROS)?;
+    }
+    let mut buffer = BytesMut::from_vec(all);
+    buffer.truncate(octets.len());
+    Ok(buffer)
 }
 
 /// How many octets the whole frames at the front have.

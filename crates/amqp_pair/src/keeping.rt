@@ -1,14 +1,9 @@
 //! How many entries of its journal an end keeps.
 
-use amqp_shared::{Locked, Name, Shared};
-use std::sync::MutexGuard;
+use amqp_shared::{Guard, Name, Shared};
 
 /// Forgets the journal's entries where more stand than are kept.
-pub fn make_room<N: Name>(
-    shared: &Shared<N>,
-    guard: &mut MutexGuard<'_, Locked<N>>,
-    keep: Option<u32>,
-) {
+pub fn make_room<N: Name>(shared: &Shared<N>, guard: &mut Guard<'_, N>, keep: Option<u32>) {
     let stand = guard.conn().logged().journal().len();
     if is_over(stand, keep) {
         shared.forget(guard);

@@ -5,7 +5,8 @@
 //! | `pair` | `run_pair`: both ends, and what a run tells |
 //! | `options` | what a run is to do |
 //! | `sender`, `receiver` | the threads of each end |
-//! | `reading`, `writing` | the thread that reads an end's socket, and the one that writes it |
+//! | `end` | what the threads of one end share |
+//! | `reading`, `writing` | the thread that reads an end's socket, and by what all threads write it |
 //! | `inbox` | the octets that were read, cut into whole frames |
 //! | `sending` | the messages that one end sends, and what it learns of them |
 //! | `consuming` | the threads that accept them at the other |
@@ -16,8 +17,8 @@
 //! | `gate` | what a thread waits for until its end is open |
 //! | `fault` | why a run fails |
 //!
-//! Each end has a reader, which reads the socket without the lock and feeds what came, and a writer, which takes units from the ring and
-//! writes as many at once as wait. A thread of the one end queues messages and learns of them; consumers of the other accept them.
+//! Each end has a reader, which reads the socket without the lock and feeds what came, and a writer for what the reader puts out. A thread of the one end queues
+//! messages and learns of them, consumers of the other accept them, and each writes what it has put out.
 //!
 //! All threads end by themselves: where the connection has closed, or its octets ended, or a read, a write or memory failed. A thread that stops for a
 //! fault ends its end's connection, which ends the others of its end, and its socket, which ends the peer. A thread that the system does not make ends
@@ -27,6 +28,7 @@
 mod beginning;
 mod beside;
 mod consuming;
+mod end;
 mod ending;
 mod fault;
 mod gate;

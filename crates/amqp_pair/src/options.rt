@@ -32,6 +32,8 @@ pub struct Options {
     pub first_id: u32,
     /// How many entries of its journal each end keeps at most, when it has fed what was read, and when it sends or learns; none: all.
     pub keep: Option<u32>,
+    /// The messages go settled: nothing is told of them, and none is learnt of.
+    pub settled: bool,
 }
 
 impl Options {

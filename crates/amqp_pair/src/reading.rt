@@ -1,4 +1,5 @@
 //! One thread reads an end's octets from its socket and feeds them, and opens the end as the peer's answers allow.
+use crate::end::End;
 use crate::gate::{Gate, Opening};
 use crate::inbox::Inbox;
 use crate::keeping::make_room;
@@ -7,13 +8,13 @@ use amqp_frames::Role;
 use amqp_rules::op::Op;
 use amqp_rules::refusal::Refusal;
 use amqp_rules::status::LinkPhase;
-use amqp_shared::{Locked, Name, Pass, Shared};
+use amqp_shared::{Guard, Name, Pass, Shared};
 use amqp_types::Text;
 use bytes::Bytes;
 use std::alloc::Global;
 use std::io;
 use std::net::{OpenStream, Shutdown, TcpStream};
-use std::sync::{Arc, MutexGuard, Wait};
+use std::sync::{Arc, Wait};
 use thiserror::Error;
 
 /// The one link of the session.
@@ -88,7 +89,7 @@ impl ReadFault {
 /// One end, as its reader sees it.
 struct Reading<'a, N: Name> {
     alloc: Global,
-    shared: &'a Shared<N>,
+    end: &'a End<N>,
     pass: Pass<N>,
     beginning: Beginning,
     stage: Stage,
@@ -96,7 +97,7 @@ struct Reading<'a, N: Name> {
 
 /// Reads and feeds until the connection has ended; where it has not and the octets end, a read fails, an operation is refused, or memory is wanting,
 /// the end is lost. The gate is told as soon as the end is ready, or that it has ended before.
-pub fn read_end<N: Name, R: Wait>(rt: &R, shared: &Shared<N>, reader: Reader<N>) -> ReadOutcome<N> {
+pub fn read_end<N: Name, R: Wait>(rt: &R, end: &End<N>, reader: Reader<N>) -> ReadOutcome<N> {
     let Reader {
         alloc,
         pass,
@@ -107,19 +108,20 @@ pub fn read_end<N: Name, R: Wait>(rt: &R, shared: &Shared<N>, reader: Reader<N>)
     let mut stream = stream;
     let mut reading = Reading {
         alloc,
-        shared,
+        end,
         pass,
         beginning,
         stage: Stage::Opens,
     };
     let read = match reading.read_all(rt, &mut stream, &gate) {
         Ok(()) => Ok(()),
-        Err(fault) => end_by(rt, shared, &stream, fault),
+        Err(fault) => end_by(rt, &end.shared, &stream, fault),
     };
     gate.tell(rt, Opening::Failed);
+    end.outlet.end(rt);
     let Reading {
         alloc: _,
-        shared: _,
+        end: _,
         pass,
         beginning: _,
         stage: _,
@@ -157,15 +159,10 @@ impl<'a, N: Name> Reading<'a, N> {
         let mut inbox = Inbox::new(self.alloc);
         for _ in rt.forever() {
             let octets = inbox.read_frames(rt, stream)?;
-            let mut guard = self.shared.lock(rt);
-            self.feed_piece(rt, &mut guard, &octets)?;
-            if guard.conn().phase() == Phase::Closed {
+            let opens = self.stage != Stage::Runs;
+            if self.take_in(rt, &octets)? {
                 return Ok(());
             }
-            let opens = self.stage != Stage::Runs;
-            self.go_on(&mut guard)?;
-            make_room(self.shared, &mut guard, self.beginning.keep);
-            drop(guard);
             if opens && self.stage == Stage::Runs {
                 gate.tell(rt, Opening::Ready);
             }
@@ -173,11 +170,30 @@ impl<'a, N: Name> Reading<'a, N> {
         unreachable!()
     }
 
+    /// Feeds octets, and does what the session allows behind them; what is put out by either is written by the thread beside this one. Whether the connection
+    /// has ended.
+    fn take_in<R: Wait>(&mut self, rt: &R, octets: &Bytes) -> Result<bool, ReadFault> {
+        let mut guard = self.end.shared.lock(rt);
+        let before = guard.conn().logged().put_out();
+        self.feed_piece(rt, &mut guard, octets)?;
+        let has_ended = guard.conn().phase() == Phase::Closed;
+        if !has_ended {
+            self.go_on(&mut guard)?;
+            make_room(&self.end.shared, &mut guard, self.beginning.keep);
+        }
+        let is_more = before < guard.conn().logged().put_out();
+        drop(guard);
+        if is_more {
+            self.end.outlet.ask(rt);
+        }
+        Ok(has_ended)
+    }
+
     /// Feeds all octets, or as many as there are before the connection ends.
     fn feed_piece<R: Wait>(
         &mut self,
         rt: &R,
-        guard: &mut MutexGuard<'_, Locked<N>>,
+        guard: &mut Guard<'_, N>,
         octets: &Bytes,
     ) -> Result<(), ReadFault> {
         let mut from = 0;
@@ -185,7 +201,11 @@ impl<'a, N: Name> Reading<'a, N> {
             if from >= octets.len() {
                 return Ok(());
             }
-            match self.shared.feed_shared(guard, &mut self.pass, octets, from) {
+            match self
+                .end
+                .shared
+                .feed_shared(guard, &mut self.pass, octets, from)
+            {
                 Ok(fed) => from = from.saturating_add(fed.used),
                 Err(ConnFault::Closed) => return Ok(()),
                 Err(fault) => return Err(ReadFault::Conn(fault)),
@@ -195,7 +215,7 @@ impl<'a, N: Name> Reading<'a, N> {
     }
 
     /// Does what the session allows now: begins, attaches, grants, and renews the window where half of it is used.
-    fn go_on(&mut self, guard: &mut MutexGuard<'_, Locked<N>>) -> Result<(), ReadFault> {
+    fn go_on(&mut self, guard: &mut Guard<'_, N>) -> Result<(), ReadFault> {
         if self.stage == Stage::Opens && guard.conn().phase() == Phase::Running {
             self.does(guard, &Op::Begin)?;
             self.stage = Stage::Begins;
@@ -216,7 +236,7 @@ impl<'a, N: Name> Reading<'a, N> {
     }
 
     /// Attaches the link: whether it was not too early for it.
-    fn attach(&mut self, guard: &mut MutexGuard<'_, Locked<N>>) -> Result<bool, ReadFault> {
+    fn attach(&mut self, guard: &mut Guard<'_, N>) -> Result<bool, ReadFault> {
         let Ok(name) = Text::new(self.alloc, "q") else {
             return Err(ReadFault::NoMemory);
         };
@@ -233,7 +253,7 @@ impl<'a, N: Name> Reading<'a, N> {
         self.does(guard, &attach)
     }
 
-    fn grant(&mut self, guard: &mut MutexGuard<'_, Locked<N>>) -> Result<(), ReadFault> {
+    fn grant(&mut self, guard: &mut Guard<'_, N>) -> Result<(), ReadFault> {
         if self.beginning.role == Role::Receiver {
             let grant = Op::Grant {
                 link: LINK,
@@ -247,8 +267,8 @@ impl<'a, N: Name> Reading<'a, N> {
     }
 
     /// Does the operation: whether it was not too early for it.
-    fn does(&mut self, guard: &mut MutexGuard<'_, Locked<N>>, op: &Op) -> Result<bool, ReadFault> {
-        match self.shared.call(guard, &mut self.pass, op) {
+    fn does(&mut self, guard: &mut Guard<'_, N>, op: &Op) -> Result<bool, ReadFault> {
+        match self.end.shared.call(guard, &mut self.pass, op) {
             Ok(_) => Ok(true),
             Err(Refusal::NotMapped | Refusal::NotRunning) => Ok(false),
             Err(refusal) => Err(ReadFault::Refused(refusal)),
@@ -256,7 +276,7 @@ impl<'a, N: Name> Reading<'a, N> {
     }
 }
 
-fn is_attached<N: Name>(guard: &MutexGuard<'_, Locked<N>>) -> bool {
+fn is_attached<N: Name>(guard: &Guard<'_, N>) -> bool {
     match guard.conn().logged().endpoint().status(LINK) {
         Some(status) => status.phase == LinkPhase::Attached,
         None => false,

@@ -5,12 +5,13 @@ ghost use Rattle.amqp_shared.specs.Passes.{IsNamed};
 use crate::beginning::seed;
 use crate::beside::beside;
 use crate::consuming::{ConsumeOutcome, consume_all};
+use crate::end::End;
 use crate::ending::{give_up, left_of, put, take_apart};
 use crate::fault::PairFault;
 use crate::gate::Gate;
 use crate::options::Options;
 use crate::reading::{Beginning, ReadFault, ReadOutcome, Reader, read_end};
-use crate::writing::{WriteOutcome, Writer, write_end};
+use crate::writing::{Outlet, write_end};
 use amqp_frames::Role;
 use amqp_shared::{Closed, Name, Pass, Seed, Shared, WriterEnd, open_shared};
 use std::alloc::Global;
@@ -56,23 +57,25 @@ where
     R: Threads + Wait + Sync,
     requires { IsNamed seed N.name N.parts N.ring }
 {
-    let (shared, mut pass, end) = open_shared::<N>(seed);
+    let (shared, mut pass, writer) = open_shared::<N>(seed);
     let passes = split_off(alloc, &mut pass, options.consumers)?;
-    let ran = run_end(rt, alloc, &shared, pass, passes, end, options, stream)?;
-    finish(shared, ran)
+    let copy = stream.try_clone().map_err(PairFault::Socket)?;
+    let outlet = Outlet::new(alloc, writer, stream)?;
+    let end = End { shared, outlet };
+    let ran = run_end(rt, alloc, &end, pass, passes, options, copy)?;
+    finish(end, ran)
 }
 
-/// What the threads of the end gave, its reader, its writer and its consumers; and whether the system made all of them.
-type Ran<N> = (ReadOutcome<N>, WriteOutcome<N>, ConsumeOutcome<N>, bool);
+/// What the threads of the end gave, its reader and its consumers; and whether the system made all of them.
+type Ran<N> = (ReadOutcome<N>, ConsumeOutcome<N>, bool);
 
-/// Runs the end over its socket. What it owns is given away before the next that may fail: a function that owns much over several ways out is dear to prove.
+/// Runs the end over its socket.
 fn run_end<N, R>(
     rt: &R,
     alloc: Global,
-    shared: &Shared<N>,
+    end: &End<N>,
     pass: Pass<N>,
     passes: Vec<Pass<N>>,
-    end: WriterEnd<N>,
     options: &Options,
     stream: TcpStream,
 ) -> Result<Ran<N>, PairFault>
@@ -80,7 +83,6 @@ where
     N: Name + Send + Sync,
     R: Threads + Wait + Sync,
 {
-    let copy = stream.try_clone().map_err(PairFault::Socket)?;
     let (gate, told) = Gate::pair(alloc)?;
     let beginning = Beginning {
         role: Role::Receiver,
@@ -90,17 +92,17 @@ where
     let reader = Reader {
         alloc,
         pass,
-        stream: copy,
+        stream,
         beginning,
         gate: told,
     };
-    let writer = Writer { alloc, end, stream };
-    Ok(run_threads(rt, shared, reader, writer, passes, options.credit, &gate))
+    Ok(run_threads(rt, end, reader, passes, options.credit, &gate))
 }
 
 /// What the end has done, once its threads have ended.
-fn finish<N: Name>(shared: Shared<N>, ran: Ran<N>) -> Result<Received, PairFault> {
-    let ((reading, read), (writer, written), consumed, is_made) = ran;
+fn finish<N: Name>(end: End<N>, ran: Ran<N>) -> Result<Received, PairFault> {
+    let (shared, (writer, written)) = end.into_parts();
+    let ((reading, read), consumed, is_made) = ran;
     let (passes, counts) = outcome(is_made, read, written, consumed)?;
     let closed = end_receiver(shared, reading, passes, writer)?;
     Ok(Received {
@@ -135,12 +137,11 @@ fn end_receiver<N: Name>(
     take_apart(shared, passes, writer)
 }
 
-/// The reader, beside the writer and the consumers. With no thread for it the end is given up, and it reads to the end behind the others.
+/// The reader, beside the thread that writes for it and the consumers. With no thread for it the end is given up, and it reads to the end behind the others.
 fn run_threads<N, R>(
     rt: &R,
-    shared: &Shared<N>,
+    end: &End<N>,
     reader: Reader<N>,
-    writer: Writer<N>,
     passes: Vec<Pass<N>>,
     credit: u32,
     gate: &Gate,
@@ -149,43 +150,44 @@ where
     N: Name + Send + Sync,
     R: Threads + Wait + Sync,
 {
-    let (read, (wrote, done, is_written), is_read) = beside(
+    let alloc = reader.alloc;
+    let (read, (done, is_written), is_read) = beside(
         rt,
-        move || read_end(rt, shared, reader),
+        move || read_end(rt, end, reader),
         move |is_read| {
             if !is_read {
-                give_up(rt, shared, gate);
+                give_up(rt, end, gate);
             }
-            write_and_consume(rt, shared, writer, passes, credit, gate)
+            write_and_consume(rt, alloc, end, passes, credit, gate)
         },
     );
-    (read, wrote, done, is_read && is_written)
+    (read, done, is_read && is_written)
 }
 
-/// The writer, beside the consumers, and whether its thread was made. With none the end is given up, and it writes behind them.
+/// The thread that writes for the reader, beside the consumers, and whether it was made. With none the end is given up, and it writes behind them.
 fn write_and_consume<N, R>(
     rt: &R,
-    shared: &Shared<N>,
-    writer: Writer<N>,
+    alloc: Global,
+    end: &End<N>,
     passes: Vec<Pass<N>>,
     credit: u32,
     gate: &Gate,
-) -> (WriteOutcome<N>, ConsumeOutcome<N>, bool)
+) -> (ConsumeOutcome<N>, bool)
 where
     N: Name + Send + Sync,
     R: Threads + Wait + Sync,
 {
-    let alloc = writer.alloc;
-    beside(
+    let ((), done, is_written) = beside(
         rt,
-        move || write_end(rt, shared, writer),
+        move || write_end(rt, end),
         move |is_written| {
             if !is_written {
-                give_up(rt, shared, gate);
+                give_up(rt, end, gate);
             }
-            consume_all(rt, alloc, shared, passes, credit, gate)
+            consume_all(rt, alloc, end, passes, credit, gate)
         },
-    )
+    );
+    (done, is_written)
 }
 
 /// A pass for each consumer.

@@ -4,13 +4,14 @@ ghost use Rattle.amqp_shared.specs.Passes.{IsNamed};
 
 use crate::beginning::seed;
 use crate::beside::beside;
+use crate::end::End;
 use crate::ending::{give_up, left_of, put, take_apart};
 use crate::fault::PairFault;
 use crate::gate::Gate;
 use crate::options::Options;
 use crate::reading::{Beginning, ReadFault, ReadOutcome, Reader, read_end};
 use crate::sending::{Done, Hand, Messages, SendOutcome, send_all};
-use crate::writing::{WriteOutcome, Writer, write_end};
+use crate::writing::{Outlet, write_end};
 use amqp_frames::Role;
 use amqp_rules::refusal::Refusal;
 use amqp_shared::{Closed, Name, Pass, Receipt, Seed, Shared, WriterEnd, open_shared};
@@ -57,7 +58,7 @@ where
     R: Threads + Wait + Sync,
     requires { IsNamed seed N.name N.parts N.ring }
 {
-    let (shared, mut pass, end) = open_shared::<N>(seed);
+    let (shared, mut pass, writer) = open_shared::<N>(seed);
     let Some(reading) = pass.split() else {
         return Err(PairFault::Options);
     };
@@ -65,21 +66,23 @@ where
         pass,
         receipts: messages.receipts(alloc),
     };
-    let ran = run_end(rt, alloc, &shared, reading, hand, end, messages, stream)?;
-    finish(alloc, shared, messages, ran)
+    let copy = stream.try_clone().map_err(PairFault::Socket)?;
+    let outlet = Outlet::new(alloc, writer, stream)?;
+    let end = End { shared, outlet };
+    let ran = run_end(rt, alloc, &end, reading, hand, messages, copy)?;
+    finish(alloc, end, messages, ran)
 }
 
-/// What the threads of the end gave, its reader, its writer and its messages; and whether the system made all of them.
-type Ran<N> = (ReadOutcome<N>, WriteOutcome<N>, SendOutcome<N>, bool);
+/// What the threads of the end gave, its reader and its messages; and whether the system made all of them.
+type Ran<N> = (ReadOutcome<N>, SendOutcome<N>, bool);
 
-/// Runs the end over its socket. What it owns is given away before the next that may fail: a function that owns much over several ways out is dear to prove.
+/// Runs the end over its socket.
 fn run_end<N, R>(
     rt: &R,
     alloc: Global,
-    shared: &Shared<N>,
+    end: &End<N>,
     pass: Pass<N>,
     hand: Hand<N>,
-    end: WriterEnd<N>,
     messages: &Messages,
     stream: TcpStream,
 ) -> Result<Ran<N>, PairFault>
@@ -87,7 +90,6 @@ where
     N: Name + Send + Sync,
     R: Threads + Wait + Sync,
 {
-    let copy = stream.try_clone().map_err(PairFault::Socket)?;
     let (gate, told) = Gate::pair(alloc)?;
     let beginning = Beginning {
         role: Role::Sender,
@@ -97,22 +99,22 @@ where
     let reader = Reader {
         alloc,
         pass,
-        stream: copy,
+        stream,
         beginning,
         gate: told,
     };
-    let writer = Writer { alloc, end, stream };
-    Ok(run_threads(rt, shared, reader, writer, hand, messages, &gate))
+    Ok(run_threads(rt, end, reader, hand, messages, &gate))
 }
 
 /// What the end has done, once its threads have ended.
 fn finish<N: Name>(
     alloc: Global,
-    shared: Shared<N>,
+    end: End<N>,
     messages: &Messages,
     ran: Ran<N>,
 ) -> Result<Sent, PairFault> {
-    let ((reading, read), (writer, written), (hand, sent), is_made) = ran;
+    let (shared, (writer, written)) = end.into_parts();
+    let ((reading, read), (hand, sent), is_made) = ran;
     let done = outcome(is_made, read, written, sent)?;
     let Hand { pass, receipts } = hand;
     let closed = end_sender(alloc, shared, reading, pass, writer)?;
@@ -155,12 +157,11 @@ fn sent_of(
     })
 }
 
-/// The reader, beside the writer and the messages. With no thread for it the end is given up, and it reads to the end behind the others.
+/// The reader, beside the thread that writes for it and the messages. With no thread for it the end is given up, and it reads to the end behind the others.
 fn run_threads<N, R>(
     rt: &R,
-    shared: &Shared<N>,
+    end: &End<N>,
     reader: Reader<N>,
-    writer: Writer<N>,
     hand: Hand<N>,
     messages: &Messages,
     gate: &Gate,
@@ -169,42 +170,42 @@ where
     N: Name + Send + Sync,
     R: Threads + Wait + Sync,
 {
-    let (read, (wrote, done, is_written), is_read) = beside(
+    let (read, (done, is_written), is_read) = beside(
         rt,
-        move || read_end(rt, shared, reader),
+        move || read_end(rt, end, reader),
         move |is_read| {
             if !is_read {
-                give_up(rt, shared, gate);
+                give_up(rt, end, gate);
             }
-            write_and_send(rt, shared, writer, hand, messages, gate)
+            write_and_send(rt, end, hand, messages, gate)
         },
     );
-    (read, wrote, done, is_read && is_written)
+    (read, done, is_read && is_written)
 }
 
-/// The writer, beside the messages, and whether its thread was made. With none the end is given up, and it writes behind them.
+/// The thread that writes for the reader, beside the messages, and whether it was made. With none the end is given up, and it writes behind them.
 fn write_and_send<N, R>(
     rt: &R,
-    shared: &Shared<N>,
-    writer: Writer<N>,
+    end: &End<N>,
     hand: Hand<N>,
     messages: &Messages,
     gate: &Gate,
-) -> (WriteOutcome<N>, SendOutcome<N>, bool)
+) -> (SendOutcome<N>, bool)
 where
     N: Name + Send + Sync,
     R: Threads + Wait + Sync,
 {
-    beside(
+    let ((), done, is_written) = beside(
         rt,
-        move || write_end(rt, shared, writer),
+        move || write_end(rt, end),
         move |is_written| {
             if !is_written {
-                give_up(rt, shared, gate);
+                give_up(rt, end, gate);
             }
-            send_all(rt, shared, hand, messages, gate)
+            send_all(rt, end, hand, messages, gate)
         },
-    )
+    );
+    (done, is_written)
 }
 
 fn end_sender<N: Name>(

@@ -1,6 +1,7 @@
 //! One thread sends an end's messages, and learns what became of each.
 ghost use Rattle.std.specs.Prelude.{◌<◌};
 
+use crate::end::End;
 use crate::ending::shut;
 use crate::fault::PairFault;
 use crate::gate::Gate;
@@ -13,11 +14,11 @@ use amqp_journal::receipt::Receipt;
 use amqp_rules::op::Op;
 use amqp_rules::refusal::Refusal;
 use amqp_rules::reply::Given;
-use amqp_shared::{Locked, Name, Pass, Shared};
+use amqp_shared::{Guard, Name, Pass, Shared};
 use amqp_types::Tag;
 use bytes::Bytes;
 use std::alloc::{AllocError, Global};
-use std::sync::{MutexGuard, Wait};
+use std::sync::Wait;
 
 /// The longest payload of one transfer: the rest of a frame is the transfer's own.
 const MAX_PAYLOAD: usize = (MAX_FRAME - 128) as usize;
@@ -63,6 +64,7 @@ pub struct Messages {
     count: u32,
     first_id: u32,
     keep: Option<u32>,
+    settled: bool,
     payload: Bytes,
 }
 
@@ -77,6 +79,7 @@ impl Messages {
                 count: options.count,
                 first_id: options.first_id,
                 keep: options.keep,
+                settled: options.settled,
                 payload,
             }),
             Err(_) => Err(PairFault::NoMemory),
@@ -123,10 +126,15 @@ impl Messages {
         }
     }
 
-    /// How many operations send all messages, and learn of each.
+    /// Of how many messages something is told, and learnt.
+    fn told(&self) -> u32 {
+        if self.settled { 0 } else { self.count }
+    }
+
+    /// How many operations send all messages, and learn of each of which something is told.
     fn operations(&self) -> usize {
-        let each = self.transfers().saturating_add(1);
-        each.saturating_mul(self.count as usize)
+        let transfers = self.transfers().saturating_mul(self.count as usize);
+        transfers.saturating_add(self.told() as usize)
     }
 
     /// There is a receipt for each operation, and each stands in the journal for its own, at a later place than the one before; or receipts were
@@ -182,7 +190,7 @@ impl Messages {
             link: LINK,
             tag,
             format: 0,
-            settled: false,
+            settled: self.settled,
             payload: self.part(0)?,
             more: MAX_PAYLOAD < self.payload.len(),
         })
@@ -214,10 +222,10 @@ fn is_past(id: u32, first: u32, count: u64) -> bool {
     u64::from(id) == u64::from(first).saturating_add(count) % 4294967296
 }
 
-/// Sends the messages once the end is ready, learns of as many, and closes the connection, also at a refusal that no wait can end.
+/// Sends the messages once the end is ready, learns of each that is not settled, and closes the connection, also at a refusal that no wait can end.
 pub fn send_all<N: Name, R: Wait>(
     rt: &R,
-    shared: &Shared<N>,
+    end: &End<N>,
     hand: Hand<N>,
     messages: &Messages,
     gate: &Gate,
@@ -226,39 +234,38 @@ pub fn send_all<N: Name, R: Wait>(
         return (hand, Err(Refusal::NotRunning));
     }
     let mut hand = hand;
-    let sent = send_and_learn(rt, shared, &mut hand, messages);
-    shut(rt, shared);
+    let sent = send_and_learn(rt, end, &mut hand, messages);
+    shut(rt, end);
     (hand, sent)
 }
-
-type Guard<'b, N> = MutexGuard<'b, Locked<N>>;
 
 /// Where entries are forgotten it learns in between of what was told by then, so that what is told and not learnt of stays little; else behind all
 /// messages, since the receipts of learning stand behind those of sending.
 fn send_and_learn<N: Name, R: Wait>(
     rt: &R,
-    shared: &Shared<N>,
+    end: &End<N>,
     hand: &mut Hand<N>,
     messages: &Messages,
 ) -> Result<Done, Refusal> {
     let run = messages.in_a_run();
     let (mut queued, mut learnt, mut accepted) = (0u64, 0u32, 0u64);
     for first in (0..messages.count).step_by(run as usize) {
-        let end = first.saturating_add(run).min(messages.count);
-        let told = send_run(rt, shared, hand, messages, first, end)?;
-        queued = queued.saturating_add(u64::from(end.saturating_sub(first)));
+        let past = first.saturating_add(run).min(messages.count);
+        let told = send_run(rt, end, hand, messages, first, past)?;
+        end.flush(rt);
+        queued = queued.saturating_add(u64::from(past.saturating_sub(first)));
         learnt = learnt.saturating_add(told.learnt);
         accepted = accepted.saturating_add(told.accepted);
     }
-    let rest = messages.count.saturating_sub(learnt);
-    accepted = accepted.saturating_add(learn_outcomes(rt, shared, hand, messages, rest)?);
+    let rest = messages.told().saturating_sub(learnt);
+    accepted = accepted.saturating_add(learn_outcomes(rt, end, hand, messages, rest)?);
     Ok(Done { queued, accepted })
 }
 
 /// Learns of so many messages: how many were accepted.
 fn learn_outcomes<N: Name, R: Wait>(
     rt: &R,
-    shared: &Shared<N>,
+    end: &End<N>,
     hand: &mut Hand<N>,
     messages: &Messages,
     count: u32,
@@ -266,7 +273,7 @@ fn learn_outcomes<N: Name, R: Wait>(
     let mut accepted = 0u64;
     for first in (0..count).step_by(RUN as usize) {
         let run = count.saturating_sub(first).min(RUN);
-        accepted = accepted.saturating_add(learn_run(rt, shared, hand, messages, run)?);
+        accepted = accepted.saturating_add(learn_run(rt, end, hand, messages, run)?);
     }
     Ok(accepted)
 }
@@ -281,19 +288,19 @@ struct Told {
 /// Queues the messages of these numbers, and learns of what was told by then where entries are forgotten, under one lock but for where it waits.
 fn send_run<N: Name, R: Wait>(
     rt: &R,
-    shared: &Shared<N>,
+    end: &End<N>,
     hand: &mut Hand<N>,
     messages: &Messages,
     first: u32,
-    end: u32,
+    past: u32,
 ) -> Result<Told, Refusal> {
-    let mut guard = shared.lock(rt);
-    make_room(shared, &mut guard, messages.keep);
-    for number in first..end {
-        guard = send_one(rt, shared, guard, hand, messages, number)?;
+    let mut guard = end.shared.lock(rt);
+    make_room(&end.shared, &mut guard, messages.keep);
+    for number in first..past {
+        guard = send_one(rt, end, guard, hand, messages, number)?;
     }
     match messages.keep {
-        Some(_) => learn_told(shared, &mut guard, hand),
+        Some(_) => learn_told(&end.shared, &mut guard, hand),
         None => Ok(Told {
             learnt: 0,
             accepted: 0,
@@ -326,16 +333,16 @@ fn learn_told<N: Name>(
 /// The message of this number: its tag is the number in four octets, and its payload is cut where it is longer than a transfer's may be.
 fn send_one<'b, N: Name, R: Wait>(
     rt: &R,
-    shared: &Shared<N>,
+    end: &'b End<N>,
     guard: Guard<'b, N>,
     hand: &mut Hand<N>,
     messages: &Messages,
     number: u32,
 ) -> Result<Guard<'b, N>, Refusal> {
     let size = messages.payload.len();
-    let mut guard = send_part(rt, shared, guard, hand, messages.start(number))?;
+    let mut guard = send_part(rt, end, guard, hand, messages.start(number))?;
     for from in (MAX_PAYLOAD..size).step_by(MAX_PAYLOAD) {
-        guard = send_part(rt, shared, guard, hand, messages.carry(from))?;
+        guard = send_part(rt, end, guard, hand, messages.carry(from))?;
     }
     Ok(guard)
 }
@@ -343,14 +350,14 @@ fn send_one<'b, N: Name, R: Wait>(
 /// One transfer of a message. The operation and what it gave are let go here.
 fn send_part<'b, N: Name, R: Wait>(
     rt: &R,
-    shared: &Shared<N>,
+    end: &'b End<N>,
     guard: Guard<'b, N>,
     hand: &mut Hand<N>,
     part: Result<Op, Refusal>,
 ) -> Result<Guard<'b, N>, Refusal> {
     match part {
         Ok(op) => {
-            let called = call(rt, shared, guard, hand, &op);
+            let called = call(rt, end, guard, hand, &op);
             drop(op);
             only_guard(called)
         }
@@ -374,17 +381,17 @@ fn only_guard<N: Name>(
 /// Learns of so many messages, under one lock but for where it waits: how many were accepted.
 fn learn_run<N: Name, R: Wait>(
     rt: &R,
-    shared: &Shared<N>,
+    end: &End<N>,
     hand: &mut Hand<N>,
     messages: &Messages,
     count: u32,
 ) -> Result<u64, Refusal> {
-    let mut guard = shared.lock(rt);
-    make_room(shared, &mut guard, messages.keep);
+    let mut guard = end.shared.lock(rt);
+    make_room(&end.shared, &mut guard, messages.keep);
     let mut accepted = 0u64;
     for _ in 0..count {
         let given;
-        (guard, given) = call(rt, shared, guard, hand, &Op::Learn { link: LINK })?;
+        (guard, given) = call(rt, end, guard, hand, &Op::Learn { link: LINK })?;
         if is_accepted(&given) {
             accepted = accepted.saturating_add(1);
         }
@@ -394,18 +401,37 @@ fn learn_run<N: Name, R: Wait>(
 
 fn call<'b, N: Name, R: Wait>(
     rt: &R,
-    shared: &Shared<N>,
+    end: &'b End<N>,
     guard: Guard<'b, N>,
     hand: &mut Hand<N>,
     op: &Op,
 ) -> Result<(Guard<'b, N>, Given), Refusal> {
-    let (guard, answer) = shared.call_wait(rt, guard, &mut hand.pass, op);
+    let (guard, answer) = call_at_once_or_later(rt, end, guard, &mut hand.pass, op);
     match answer {
         Ok((receipt, given)) => match hand.note(receipt) {
             Ok(()) => Ok((guard, given)),
             Err(_) => Err(Refusal::NoMemory),
         },
         Err(refusal) => Err(refusal),
+    }
+}
+
+/// Does the operation. Where it has to wait for it, it first gives the lock back and writes what it has put out.
+fn call_at_once_or_later<'b, N: Name, R: Wait>(
+    rt: &R,
+    end: &'b End<N>,
+    guard: Guard<'b, N>,
+    pass: &mut Pass<N>,
+    op: &Op,
+) -> (Guard<'b, N>, Result<(Receipt, Given), Refusal>) {
+    let mut guard = guard;
+    match end.shared.call(&mut guard, pass, op) {
+        Err(Refusal::NoCredit | Refusal::NoWindow | Refusal::Nothing) => {
+            drop(guard);
+            end.flush(rt);
+            end.shared.call_wait(rt, end.shared.lock(rt), pass, op)
+        }
+        answer => (guard, answer),
     }
 }
 

@@ -1,11 +1,17 @@
-//! One thread writes an end's units to its socket.
+//! What an end puts out goes to its socket. A thread that has put units out writes them itself, without the lock of the session: no other is woken for it. The reader may not wait until
+//! its peer reads, so a thread beside it writes what it has put out.
+use crate::end::End;
+use crate::fault::PairFault;
 use amqp_journal::unit::Unit;
 use amqp_shared::{Name, Shared, WriterEnd};
 use std::alloc::Global;
 use std::io;
-use std::io::Write;
+use std::io::{ErrorKind, IoSlice, Write};
 use std::net::{Shutdown, TcpStream};
-use std::sync::Wait;
+use std::sync::{Condvar, Mutex, Wait};
+
+/// How many units the ring of an end has room for.
+pub const RING: usize = 256;
 
 /// Room for the octets of units that are written together.
 const BATCH: usize = 65536;
@@ -28,12 +34,11 @@ impl Batch {
         Ok(())
     }
 
-    /// Puts a unit behind the others, or writes them and then it.
-    fn put<S: Write>(&mut self, stream: &mut S, unit: &Unit) -> io::Result<()> {
+    /// Puts a unit behind the others. One that is long is written with them, from where it stands.
+    fn put(&mut self, stream: &mut TcpStream, unit: &Unit) -> io::Result<()> {
         let octets = unit.bytes.as_slice();
         if octets.len() >= LONG {
-            self.write(stream)?;
-            return stream.write_all(octets);
+            return self.write_with(stream, octets);
         }
         if self.octets.len() > BATCH - LONG {
             self.write(stream)?;
@@ -41,81 +46,197 @@ impl Batch {
         self.octets.extend_from_slice(octets)?;
         Ok(())
     }
+
+    /// Writes what is there and these octets by one call, and by others what it leaves.
+    fn write_with(&mut self, stream: &mut TcpStream, octets: &[u8]) -> io::Result<()> {
+        let own = self.octets.as_slice();
+        let written = gathered(stream, own, octets)?;
+        stream.write_all(&own[written.min(own.len())..])?;
+        let past = written.saturating_sub(own.len());
+        stream.write_all(&octets[past.min(octets.len())..])?;
+        self.octets.clear();
+        Ok(())
+    }
 }
 
-/// What a writer's thread starts with.
+/// How many octets of both one call writes; none where it was interrupted.
+fn gathered(stream: &TcpStream, first: &[u8], second: &[u8]) -> io::Result<usize> {
+    match stream.write_vectored(&[IoSlice::new(first), IoSlice::new(second)]) {
+        Err(error) if error.kind() == ErrorKind::Interrupted => Ok(0),
+        written => written,
+    }
+}
+
+/// Whoever has it may write.
 #[derive(Drop)]
-pub struct Writer<N: Name> {
-    pub alloc: Global,
-    pub end: WriterEnd<N>,
-    pub stream: TcpStream,
+struct Outgoing<N: Name> {
+    end: WriterEnd<N>,
+    stream: TcpStream,
+    batch: Batch,
+    /// The first write that failed; nothing is written behind it.
+    fault: Option<io::Error>,
 }
 
-/// What a writer's thread hands back.
-pub type WriteOutcome<N> = (WriterEnd<N>, io::Result<()>);
-
-/// Writes the units of the end as they are put out, many at once where they wait, until the connection has ended and all are written; then the
-/// peer is told that no more will come. Where a write fails, the socket is shut.
-pub fn write_end<N: Name, R: Wait>(
-    rt: &R,
-    shared: &Shared<N>,
-    writer: Writer<N>,
-) -> WriteOutcome<N> {
-    let Writer {
-        alloc,
-        end: mut writer,
-        mut stream,
-    } = writer;
-    let written = write_units(rt, alloc, shared, &mut writer, &mut stream);
-    let how = if written.is_ok() {
-        Shutdown::Write
-    } else {
-        Shutdown::Both
-    };
-    // A socket that is shut already needs no more.
-    let _ = stream.shutdown(how);
-    (writer, written)
-}
-
-fn write_units<N: Name, R: Wait, S: Write>(
-    rt: &R,
-    alloc: Global,
-    shared: &Shared<N>,
-    writer: &mut WriterEnd<N>,
-    stream: &mut S,
-) -> io::Result<()> {
-    let mut batch = Batch {
-        octets: Vec::with_capacity(alloc, BATCH)?,
-    };
-    for _ in rt.forever() {
-        let (count, is_closed) = shared.wait_units(rt, writer.taken());
-        take_until(rt, shared, writer, count, &mut batch, stream)?;
-        batch.write(stream)?;
-        if is_closed {
-            return Ok(());
+impl<N: Name> Outgoing<N> {
+    /// Writes all that was put out. Where a write fails, the socket is shut.
+    fn write<R: Wait>(&mut self, rt: &R, shared: &Shared<N>) {
+        if self.fault.is_some() {
+            return;
+        }
+        if let Err(fault) = self.write_units(rt, shared) {
+            // A socket that is shut already needs no more.
+            let _ = self.stream.shutdown(Shutdown::Both);
+            self.fault = Some(fault);
         }
     }
-    unreachable!()
+
+    /// Units wait behind the ring only where it was full: where fewer were taken than it has room for, none do.
+    fn write_units<R: Wait>(&mut self, rt: &R, shared: &Shared<N>) -> io::Result<()> {
+        for _ in rt.forever() {
+            if self.take_all(rt)? < RING as u64 {
+                return self.batch.write(&mut self.stream);
+            }
+            let mut guard = shared.lock(rt);
+            shared.move_units(&mut guard);
+        }
+        unreachable!()
+    }
+
+    /// Takes what is in the ring: how many units.
+    fn take_all<R: Wait>(&mut self, rt: &R) -> io::Result<u64> {
+        let before = self.end.taken();
+        for _ in rt.forever() {
+            match self.end.take() {
+                Some(unit) => self.batch.put(&mut self.stream, &unit)?,
+                None => return Ok(self.end.taken().saturating_sub(before)),
+            }
+        }
+        unreachable!()
+    }
 }
 
-/// Takes units until so many were taken. The ring holds few: more are moved to it as often as it is empty.
-fn take_until<N: Name, R: Wait, S: Write>(
-    rt: &R,
-    shared: &Shared<N>,
-    writer: &mut WriterEnd<N>,
-    count: u64,
-    batch: &mut Batch,
-    stream: &mut S,
-) -> io::Result<()> {
-    for _ in rt.forever() {
-        if writer.taken() >= count {
-            return Ok(());
+/// What the thread beside the reader is asked for.
+#[derive(Clone, Copy, Debug, PartialEq, Eq)]
+enum Asked {
+    Nothing,
+    /// To write what was put out.
+    Units,
+    /// To write it, and to tell the peer that no more will come.
+    End,
+}
+
+/// By which the threads of an end write what they have put out, one at a time.
+#[derive(Drop)]
+pub struct Outlet<N: Name> {
+    outgoing: Mutex<Outgoing<N>>,
+    asked: Mutex<Asked>,
+    changed: Condvar,
+}
+
+impl<N: Name> Outlet<N> {
+    /// With what an end puts out at its beginning still to be written.
+    pub fn new(
+        alloc: Global,
+        end: WriterEnd<N>,
+        stream: TcpStream,
+    ) -> Result<Outlet<N>, PairFault> {
+        let Ok(octets) = Vec::with_capacity(alloc, BATCH) else {
+            return Err(PairFault::NoMemory);
+        };
+        let outgoing = Outgoing {
+            end,
+            stream,
+            batch: Batch { octets },
+            fault: None,
+        };
+        Ok(Outlet {
+            outgoing: Mutex::new(outgoing),
+            asked: Mutex::new(Asked::Units),
+            changed: Condvar::new(),
+        })
+    }
+
+    /// Writes all that was put out, many units at once where they wait. Who calls it has given the session's lock back. A failed write shuts the socket, so that the reader ends
+    /// the connection.
+    pub fn flush<R: Wait>(&self, rt: &R, shared: &Shared<N>) {
+        let mut outgoing = self.outgoing.lock(rt);
+        outgoing.write(rt, shared);
+    }
+
+    /// Asks the thread beside the reader to write what was put out.
+    pub fn ask<R: Wait>(&self, rt: &R) {
+        self.say(rt, Asked::Units);
+    }
+
+    /// The connection has ended: what was put out is the last.
+    pub fn end<R: Wait>(&self, rt: &R) {
+        self.say(rt, Asked::End);
+    }
+
+    fn say<R: Wait>(&self, rt: &R, what: Asked) {
+        let mut asked = self.asked.lock(rt);
+        if *asked != Asked::End {
+            *asked = what;
         }
-        match writer.take() {
-            Some(unit) => batch.put(stream, &unit)?,
-            None => {
-                let _ = shared.wait_units(rt, writer.taken());
+        drop(asked);
+        self.changed.notify_one();
+    }
+
+    /// Waits until something is asked for: whether it is the last.
+    fn is_last<R: Wait>(&self, rt: &R) -> bool {
+        let mut asked = self.asked.lock(rt);
+        for _ in rt.forever() {
+            match *asked {
+                Asked::Nothing => asked = self.changed.wait(rt, asked),
+                Asked::Units => {
+                    *asked = Asked::Nothing;
+                    return false;
+                }
+                Asked::End => return true,
             }
+        }
+        unreachable!()
+    }
+
+    /// Nothing more is written: the peer is told so.
+    fn finish<R: Wait>(&self, rt: &R) {
+        let outgoing = self.outgoing.lock(rt);
+        // A socket that is shut already needs no more.
+        let _ = outgoing.stream.shutdown(Shutdown::Write);
+    }
+
+    /// The writer's end of the ring, and the first write that failed.
+    pub fn into_parts(self) -> WriteOutcome<N> {
+        let Outlet {
+            outgoing,
+            asked: _,
+            changed: _,
+        } = self;
+        let Outgoing {
+            end,
+            stream,
+            batch,
+            fault,
+        } = outgoing.into_inner();
+        drop(stream);
+        drop(batch);
+        match fault {
+            Some(fault) => (end, Err(fault)),
+            None => (end, Ok(())),
+        }
+    }
+}
+
+/// What is left of the outlet of an end.
+pub type WriteOutcome<N> = (WriterEnd<N>, io::Result<()>);
+
+/// Writes what the reader has put out, until the connection has ended and all is written.
+pub fn write_end<N: Name, R: Wait>(rt: &R, end: &End<N>) {
+    for _ in rt.forever() {
+        let is_last = end.outlet.is_last(rt);
+        end.flush(rt);
+        if is_last {
+            return end.outlet.finish(rt);
         }
     }
     unreachable!()

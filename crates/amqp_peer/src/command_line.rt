@@ -165,7 +165,12 @@ fn pair<'a>(alloc: Global) -> Result<Command<'a>, AllocError> {
             0,
             u32::MAX,
         ))?
-        .arg(options::keep(alloc))
+        .arg(options::keep(alloc))?
+        .arg(options::flag(
+            alloc,
+            "settled",
+            "The messages go settled: nothing is told of them",
+        ))
 }
 
 /// An option that has to be there: a number between these.
@@ -192,6 +197,7 @@ fn pair_options(options: &ArgMatches<'_>) -> Options {
         size: options.get_one::<u32>("size").unwrap_or(0),
         first_id: options.get_one::<u32>("first-id").unwrap_or(0),
         keep: options.get_one::<u32>("keep"),
+        settled: options.get_flag("settled"),
     }
 }
 

@@ -365,7 +365,7 @@ fn printed_of(options: &ArgMatches<'_>) -> Printed {
 }
 
 /// An option without a value.
-fn flag<'a>(alloc: Global, name: &'static str, help: &'static str) -> Arg<'a> {
+pub fn flag<'a>(alloc: Global, name: &'static str, help: &'static str) -> Arg<'a> {
     Arg::new(alloc, name)
         .long(name)
         .action(ArgAction::SetTrue)

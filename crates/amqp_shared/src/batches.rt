@@ -1,12 +1,11 @@
 //! Batches of deliveries: taken under one lock, consumed without it, and settled under one lock.
 ghost use Rattle.std.specs.Prelude.{suc, ◌≡◌, ◌<◌, ◌≤◌, ◌+◌, ◌-◌, ◌^◌, ◌++◌, ◌∷◌, ◌↔◌, [], ⊤, length, map, None, IfOk, IfNone, IfSome, IsTrue, IsFalse};
-ghost use Rattle.std.specs.Sync.Mutex.{mutex_guard_value};
 ghost use Rattle.amqp_shared.specs.Batching.{TakesMore, TakesBatch, ConsumesAll, TellsSpan, GoesTo, TellsAll, SettlesAll, IsNext, alone, longer, passed};
 ghost use Rattle.amqp_shared.specs.Consuming.{Tells, Asks, granting, Grants};
 ghost use Rattle.amqp_shared.specs.Renewing.{credit_on, IsDue, IsNotDue, MayRest};
 
 use crate::consumers::Work;
-use crate::locked::Locked;
+use crate::guard::Guard;
 use crate::name::Name;
 use crate::pass::Pass;
 use crate::renewal::Renewal;
@@ -19,7 +18,7 @@ use amqp_rules::reply::{Given, Taken};
 use std::alloc::{AllocError, Global};
 use std::collections::VecDeque;
 use std::marker::Model;
-use std::sync::{MutexGuard, Wait};
+use std::sync::Wait;
 
 /// A delivery, and the state that its work gave it.
 #[derive(Drop)]
@@ -139,7 +138,7 @@ impl Batch {
 /// Another delivery of the link, if one is ready.
 fn take_one<N: Name>(
     shared: &Shared<N>,
-    guard: &mut MutexGuard<'_, Locked<N>>,
+    guard: &mut Guard<'_, N>,
     pass: &mut Pass<N>,
     link: u32,
 ) -> Option<Taken>
@@ -156,7 +155,7 @@ fn take_one<N: Name>(
 /// What else is ready of the link, as far as there is room.
 fn take_more<N: Name>(
     shared: &Shared<N>,
-    guard: &mut MutexGuard<'_, Locked<N>>,
+    guard: &mut Guard<'_, N>,
     pass: &mut Pass<N>,
     link: u32,
     batch: &mut Batch,
@@ -240,11 +239,11 @@ impl Span {
 /// An operation whose answer is not looked at.
 fn apply<N: Name>(
     shared: &Shared<N>,
-    guard: &mut MutexGuard<'_, Locked<N>>,
+    guard: &mut Guard<'_, N>,
     pass: &mut Pass<N>,
     op: Op,
 ) -> Result<(), Refusal>
-    ensures tells { Tells (mutex_guard_value guard.old).conn op result (mutex_guard_value guard.new).conn }
+    ensures tells { Tells guard.old.conn op result guard.new.conn }
     ensures asks { Asks pass.old op result pass.new }
 {
     let answer = shared.call(guard, pass, &op);
@@ -262,11 +261,11 @@ fn apply<N: Name>(
 /// meanwhile.
 fn tell_span<N: Name>(
     shared: &Shared<N>,
-    guard: &mut MutexGuard<'_, Locked<N>>,
+    guard: &mut Guard<'_, N>,
     pass: &mut Pass<N>,
     span: Span,
 ) -> Result<(), Refusal>
-    ensures tells { TellsSpan Tells span (mutex_guard_value guard.old).conn result (mutex_guard_value guard.new).conn }
+    ensures tells { TellsSpan Tells span guard.old.conn result guard.new.conn }
     ensures asks { TellsSpan Asks span pass.old result pass.new }
 {
     let Span {
@@ -292,12 +291,12 @@ fn tell_span<N: Name>(
 /// told.
 fn go_to<N: Name>(
     shared: &Shared<N>,
-    guard: &mut MutexGuard<'_, Locked<N>>,
+    guard: &mut Guard<'_, N>,
     pass: &mut Pass<N>,
     begun: Option<Span>,
     one: Judged,
 ) -> Result<Option<Span>, Refusal>
-    ensures tells { GoesTo Tells begun one (mutex_guard_value guard.old).conn result (mutex_guard_value guard.new).conn }
+    ensures tells { GoesTo Tells begun one guard.old.conn result guard.new.conn }
     ensures asks { GoesTo Asks begun one pass.old result pass.new }
 {
     if one.item.settled {
@@ -324,11 +323,11 @@ fn go_to<N: Name>(
 /// Tells the states of all that were consumed, by one disposition for those that follow one another in one state.
 fn tell_all<N: Name>(
     shared: &Shared<N>,
-    guard: &mut MutexGuard<'_, Locked<N>>,
+    guard: &mut Guard<'_, N>,
     pass: &mut Pass<N>,
     batch: &mut Batch,
 ) -> Result<(), Refusal>
-    ensures tells { TellsAll Tells batch.old.judged None (mutex_guard_value guard.old).conn result (mutex_guard_value guard.new).conn }
+    ensures tells { TellsAll Tells batch.old.judged None guard.old.conn result guard.new.conn }
     ensures asks { TellsAll Asks batch.old.judged None pass.old result pass.new }
     ensures room { batch.new.more ≡ batch.old.more }
 {
@@ -346,8 +345,8 @@ fn tell_all<N: Name>(
 }
 
 /// How many deliveries of the link may still begin; none where there is no such link.
-fn credit_of<N: Name>(guard: &MutexGuard<'_, Locked<N>>, link: u32) -> u32
-    ensures { result ≡ credit_on (mutex_guard_value guard.now).conn link }
+fn credit_of<N: Name>(guard: &Guard<'_, N>, link: u32) -> u32
+    ensures { result ≡ credit_on guard.now.conn link }
 {
     match guard.conn().logged().endpoint().status(link) {
         Some(status) => status.credit,
@@ -358,13 +357,13 @@ fn credit_of<N: Name>(guard: &MutexGuard<'_, Locked<N>>, link: u32) -> u32
 /// Grants the link's credit again, where that is due.
 fn grant_if_due<N: Name>(
     shared: &Shared<N>,
-    guard: &mut MutexGuard<'_, Locked<N>>,
+    guard: &mut Guard<'_, N>,
     pass: &mut Pass<N>,
     link: u32,
     credit: u32,
     renewal: Renewal,
 ) -> Result<(), Refusal>
-    ensures grants { Grants Tells (IsDue renewal credit link) (IsNotDue renewal credit link) (mutex_guard_value guard.old).conn (granting link credit) result (mutex_guard_value guard.new).conn }
+    ensures grants { Grants Tells (IsDue renewal credit link) (IsNotDue renewal credit link) guard.old.conn (granting link credit) result guard.new.conn }
     ensures pass { Grants Asks (λ _. ⊤) (λ _. MayRest renewal) pass.old (granting link credit) result pass.new }
 {
     let rest = credit_of(guard, link);
@@ -383,14 +382,14 @@ fn grant_if_due<N: Name>(
 /// Tells the states of all that were consumed, and grants the credit again, where that is due.
 fn settle_all<N: Name>(
     shared: &Shared<N>,
-    guard: &mut MutexGuard<'_, Locked<N>>,
+    guard: &mut Guard<'_, N>,
     pass: &mut Pass<N>,
     batch: &mut Batch,
     link: u32,
     credit: u32,
     renewal: Renewal,
 ) -> Result<(), Refusal>
-    ensures settles { SettlesAll Tells (IsDue renewal credit link) (IsNotDue renewal credit link) (mutex_guard_value guard.old).conn batch.old.judged link credit result (mutex_guard_value guard.new).conn }
+    ensures settles { SettlesAll Tells (IsDue renewal credit link) (IsNotDue renewal credit link) guard.old.conn batch.old.judged link credit result guard.new.conn }
     ensures pass { SettlesAll Asks (λ _. ⊤) (λ _. MayRest renewal) pass.old batch.old.judged link credit result pass.new }
     ensures room { batch.new.more ≡ batch.old.more }
 {

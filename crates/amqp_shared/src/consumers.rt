@@ -31,6 +31,12 @@ pub trait Work {
     /// Consumes a delivery, and says its state (part 3, 3.4). It is called without the lock.
     fn consume(&mut self, item: &Taken) -> DeliveryState
         ensures { Self.consumes self.old item.now result self.new };
+
+    /// What it consumed was told, and its credit granted where that was due. It is called without the lock, behind each batch: whoever writes what he puts out by himself
+    /// does it here. A work that says nothing does nothing.
+    fn told(&mut self)
+        ensures { self.new ≡ self.old }
+    {}
 }
 
 /// What a consumer hands back.
@@ -118,6 +124,7 @@ fn consume_all<N: Name, W: Work, R: Wait>(
                 stopped,
             };
         }
+        work.told();
     }
     unreachable!()
 }

@@ -5,6 +5,7 @@
 //! |---|---|
 //! | `shared` | `Shared`: the lock, and the calls on the session that it lends |
 //! | `many` | several operations under one lock |
+//! | `guard` | what the lock lends, and who is woken once it is given back |
 //! | `locked` | what lies under the lock: the connection, the book of its passes, and the end of the ring that is pushed to |
 //! | `pass`, `history` | `Pass`: a share of the right to make steps, with the number of those made by it, and what clauses know of its calls |
 //! | `writer` | `WriterEnd`: from which units are written to a socket, without the lock |
@@ -30,7 +31,10 @@
 //! 4. **The writer** takes units from the ring and writes them, without the lock, and no write holds up those who want it. Where `take` answers
 //!    `None` it calls `wait_units` with what it has taken, which takes the lock and moves more to the ring. It ends where the phase is `Closed`
 //!    and all units are taken.
-//! 5. `close`, with all passes and the writer's end, gives the connection back, and the units that nobody took.
+//!    Or the threads that put units out write them, each once it has given the guard back: the writer's end then lies under a lock of its own
+//!    (`amqp_pair` does so, and `Work::told` says to a consumer when).
+//! 5. Whoever waits for what a step has brought is woken when the guard is dropped, once for all steps that were made with it.
+//! 6. `close`, with all passes and the writer's end, gives the connection back, and the units that nobody took.
 //!
 //! # What is proved
 //!
@@ -51,6 +55,7 @@ mod close;
 mod closing;
 mod consumers;
 mod growing;
+mod guard;
 mod history;
 mod locked;
 mod many;
@@ -82,6 +87,7 @@ pub use close::{Closed, NotClosed};
 pub use consumers::{
     Consumed, Terms, Work, run_consumers, run_consumers_in_batches, run_consumers_with,
 };
+pub use guard::Guard;
 pub use locked::Locked;
 pub use many::Called;
 pub use name::{Name, Numbered};

@@ -1,9 +1,8 @@
 //! Several operations under one lock.
 ghost use Rattle.std.specs.Prelude.{◌≡◌, IfOk, OnErr};
-ghost use Rattle.std.specs.Sync.Mutex.{mutex_guard_value};
 ghost use Rattle.amqp_shared.specs.Many.{CallsAll, Tells, Notes};
 
-use crate::locked::Locked;
+use crate::guard::Guard;
 use crate::name::Name;
 use crate::pass::Pass;
 use crate::shared::Shared;
@@ -12,7 +11,6 @@ use amqp_rules::op::Op;
 use amqp_rules::refusal::Refusal;
 use amqp_rules::reply::Given;
 use std::alloc::{AllocError, Global};
-use std::sync::MutexGuard;
 
 /// What several operations were answered.
 #[derive(Drop)]
@@ -33,13 +31,13 @@ impl<N: Name> Shared<N> {
     pub fn call_many(
         &self,
         alloc: Global,
-        guard: &mut MutexGuard<'_, Locked<N>>,
+        guard: &mut Guard<'_, N>,
         pass: &mut Pass<N>,
         ops: &[Op],
     ) -> Result<Called, AllocError>
-        ensures calls { IfOk result (λ c. CallsAll Tells (mutex_guard_value guard.old) ops.now c.answers.items c.refused (mutex_guard_value guard.new)) }
+        ensures calls { IfOk result (λ c. CallsAll Tells guard.old ops.now c.answers.items c.refused guard.new) }
         ensures pass { IfOk result (λ c. CallsAll Notes pass.old ops.now c.answers.items c.refused pass.new) }
-        ensures err { OnErr result ((mutex_guard_value guard.new ≡ mutex_guard_value guard.old) × (pass.new ≡ pass.old)) }
+        ensures err { OnErr result ((guard.new ≡ guard.old) × (pass.new ≡ pass.old)) }
     {
         let mut answers = Vec::with_capacity(alloc, ops.len())?;
         for op in ops {

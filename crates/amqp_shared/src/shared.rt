@@ -1,6 +1,5 @@
 //! A connection that threads share, and the calls on the session that is lent under its lock.
 ghost use Rattle.std.specs.Prelude.{◌≡◌, ◌≢◌, ◌<◌, ◌≤◌, [], length, drop, true, false, None, IfOk, IfErr, OnOk, OnErr, IsFalse};
-ghost use Rattle.std.specs.Sync.Mutex.{mutex_guard_value};
 ghost use Rattle.amqp_conn.specs.Connection.{Connection, connection, in_phase};
 ghost use Rattle.amqp_conn.specs.Feeding.{Feeds, MovesOn};
 ghost use Rattle.amqp_conn.specs.Leaving.{Gives, GivesOf, left_of, but_left};
@@ -13,12 +12,13 @@ ghost use Rattle.amqp_journal.specs.Units.{units};
 ghost use Rattle.amqp_shared.specs.declared.waiting.Change.TheVariants.{Ends};
 
 use crate::growing::push_units;
+use crate::guard::Guard;
 use crate::history::History;
 use crate::locked::Locked;
 use crate::name::Name;
 use crate::pass::{Answer, Pass};
 use crate::seed::Seed;
-use crate::waiting::{Change, Conditions, Waiters, Want, awaited_by, brought, brought_by};
+use crate::waiting::{Change, Conditions, Due, Waiters, Want, awaited_by, brought, brought_by};
 use crate::writer::WriterEnd;
 use amqp_conn::{CloseRefusal, ConnFault, Fed, Left, Phase};
 use amqp_frames::{AmqpError, Role};
@@ -30,7 +30,7 @@ use amqp_types::Boxed;
 use bytes::Bytes;
 use std::alloc::AllocError;
 use std::marker::PhantomData;
-use std::sync::{Mutex, MutexGuard, Wait};
+use std::sync::{Mutex, Wait};
 
 /// A connection that threads share by reference.
 #[derive(Drop)]
@@ -99,8 +99,12 @@ impl<N: Name> Shared<N> {
     }
 
     /// Takes the lock, and lends what lies under it until the guard is dropped. It may wait.
-    pub fn lock<R: Wait>(&self, rt: &R) -> MutexGuard<'_, Locked<N>> {
-        self.locked.lock(rt)
+    pub fn lock<R: Wait>(&self, rt: &R) -> Guard<'_, N> {
+        Guard {
+            locked: self.locked.lock(rt),
+            conditions: &self.conditions,
+            due: Due::NONE,
+        }
     }
 
     /// An operation of the application on the lent session, as `Conn::apply`, counted in the pass. Its receipt stands for it at the journal's
@@ -111,18 +115,18 @@ impl<N: Name> Shared<N> {
     /// Those of `Conn::apply`. A refusal has changed nothing.
     pub fn call(
         &self,
-        guard: &mut MutexGuard<'_, Locked<N>>,
+        guard: &mut Guard<'_, N>,
         pass: &mut Pass<N>,
         op: &Op,
     ) -> Result<(Receipt, Given), Refusal>
-        ensures step { IfOk result (λ r. Makes (mutex_guard_value guard.old).conn op.now r.1 (mutex_guard_value guard.new).conn) }
+        ensures step { IfOk result (λ r. Makes guard.old.conn op.now r.1 guard.new.conn) }
         ensures fits { IfOk result (λ r. Fits op.now r.1) }
-        ensures receipt { IfOk result (λ r. IsReceipt (mutex_guard_value guard.new).conn.core.log op.now r.1 r.0) }
+        ensures receipt { IfOk result (λ r. IsReceipt guard.new.conn.core.log op.now r.1 r.0) }
         ensures place { IfOk result (λ r. pass.old.made ≤ r.0.place) }
         ensures pass { pass.new ≡ after op.now result pass.old }
-        ensures told { OnOk result (IsTold (brought_by_op op.now) (mutex_guard_value guard.old) (mutex_guard_value guard.new)) }
-        ensures refusal { IfErr result (λ e. IsRefused (mutex_guard_value guard.old).conn op.now e) }
-        ensures err { OnErr result (mutex_guard_value guard.new ≡ mutex_guard_value guard.old) }
+        ensures told { OnOk result (IsTold (brought_by_op op.now) guard.old guard.new) }
+        ensures refusal { IfErr result (λ e. IsRefused guard.old.conn op.now e) }
+        ensures err { OnErr result (guard.new ≡ guard.old) }
     {
         let answer = self.attempt(guard, pass, op);
         pass.note(op, &answer);
@@ -130,18 +134,18 @@ impl<N: Name> Shared<N> {
     }
 
     /// `call`, before the pass notes it.
-    fn attempt(&self, guard: &mut MutexGuard<'_, Locked<N>>, pass: &mut Pass<N>, op: &Op) -> Answer
-        ensures step { IfOk result (λ r. Makes (mutex_guard_value guard.old).conn op.now r.1 (mutex_guard_value guard.new).conn) }
+    fn attempt(&self, guard: &mut Guard<'_, N>, pass: &mut Pass<N>, op: &Op) -> Answer
+        ensures step { IfOk result (λ r. Makes guard.old.conn op.now r.1 guard.new.conn) }
         ensures fits { IfOk result (λ r. Fits op.now r.1) }
-        ensures receipt { IfOk result (λ r. IsReceipt (mutex_guard_value guard.new).conn.core.log op.now r.1 r.0) }
+        ensures receipt { IfOk result (λ r. IsReceipt guard.new.conn.core.log op.now r.1 r.0) }
         ensures place { IfOk result (λ r. pass.old.made ≤ r.0.place) }
         ensures pass { OnOk result (pass.new ≡ raised pass.old) }
-        ensures told { OnOk result (IsTold (brought_by_op op.now) (mutex_guard_value guard.old) (mutex_guard_value guard.new)) }
-        ensures refusal { IfErr result (λ e. IsRefused (mutex_guard_value guard.old).conn op.now e) }
-        ensures err { OnErr result (mutex_guard_value guard.new ≡ mutex_guard_value guard.old) }
+        ensures told { OnOk result (IsTold (brought_by_op op.now) guard.old guard.new) }
+        ensures refusal { IfErr result (λ e. IsRefused guard.old.conn op.now e) }
+        ensures err { OnErr result (guard.new ≡ guard.old) }
         ensures rests { OnErr result (pass.new ≡ pass.old) }
     {
-        match guard.apply(pass, op) {
+        match guard.locked.apply(pass, op) {
             Ok(done) => {
                 self.tell(guard, brought_by(op));
                 Ok(done)
@@ -157,17 +161,17 @@ impl<N: Name> Shared<N> {
     /// Those of `Conn::feed`.
     pub fn feed(
         &self,
-        guard: &mut MutexGuard<'_, Locked<N>>,
+        guard: &mut Guard<'_, N>,
         pass: &mut Pass<N>,
         piece: &[u8],
     ) -> Result<Fed, ConnFault>
-        ensures fed { Feeds (mutex_guard_value guard.old).conn piece.now result (unmoved (mutex_guard_value guard.old).conn (mutex_guard_value guard.new).conn) }
+        ensures fed { Feeds guard.old.conn piece.now result (unmoved guard.old.conn guard.new.conn) }
         ensures progress { piece.now ≢ [] → MovesOn result }
-        ensures more { (mutex_guard_value guard.old).conn.core.log.popped ≤ (mutex_guard_value guard.new).conn.core.log.popped }
+        ensures more { guard.old.conn.core.log.popped ≤ guard.new.conn.core.log.popped }
         ensures pass { CountsStep result pass.old pass.new }
-        ensures told { IsTold (brought_by_feed (mutex_guard_value guard.new).conn result) (mutex_guard_value guard.old) (mutex_guard_value guard.new) }
+        ensures told { IsTold (brought_by_feed guard.new.conn result) guard.old guard.new }
     {
-        let result = guard.feed(pass, piece);
+        let result = guard.locked.feed(pass, piece);
         let change = brought(guard.conn(), &result);
         self.tell(guard, change);
         result
@@ -180,19 +184,19 @@ impl<N: Name> Shared<N> {
     /// Those of `Conn::feed`.
     pub fn feed_shared(
         &self,
-        guard: &mut MutexGuard<'_, Locked<N>>,
+        guard: &mut Guard<'_, N>,
         pass: &mut Pass<N>,
         shared: &Bytes,
         from: usize,
     ) -> Result<Fed, ConnFault>
         requires { from ≤ length shared.now }
-        ensures fed { Feeds (mutex_guard_value guard.old).conn (drop from shared.now) result (unmoved (mutex_guard_value guard.old).conn (mutex_guard_value guard.new).conn) }
+        ensures fed { Feeds guard.old.conn (drop from shared.now) result (unmoved guard.old.conn guard.new.conn) }
         ensures progress { drop from shared.now ≢ [] → MovesOn result }
-        ensures more { (mutex_guard_value guard.old).conn.core.log.popped ≤ (mutex_guard_value guard.new).conn.core.log.popped }
+        ensures more { guard.old.conn.core.log.popped ≤ guard.new.conn.core.log.popped }
         ensures pass { CountsStep result pass.old pass.new }
-        ensures told { IsTold (brought_by_feed (mutex_guard_value guard.new).conn result) (mutex_guard_value guard.old) (mutex_guard_value guard.new) }
+        ensures told { IsTold (brought_by_feed guard.new.conn result) guard.old guard.new }
     {
-        let result = guard.feed_shared(pass, shared, from);
+        let result = guard.locked.feed_shared(pass, shared, from);
         let change = brought(guard.conn(), &result);
         self.tell(guard, change);
         result
@@ -205,16 +209,16 @@ impl<N: Name> Shared<N> {
     /// Those of `Conn::close`; nothing has changed then.
     pub fn shut(
         &self,
-        guard: &mut MutexGuard<'_, Locked<N>>,
+        guard: &mut Guard<'_, N>,
         error: Option<Boxed<AmqpError>>,
     ) -> Result<(), CloseRefusal>
-        ensures closes { Closes (mutex_guard_value guard.old).conn.core error result (unmoved (mutex_guard_value guard.old).conn (mutex_guard_value guard.new).conn).core }
-        ensures unread { (mutex_guard_value guard.new).conn.unread ≡ (mutex_guard_value guard.old).conn.unread }
-        ensures more { (mutex_guard_value guard.old).conn.core.log.popped ≤ (mutex_guard_value guard.new).conn.core.log.popped }
-        ensures told { OnOk result (IsTold Ends (mutex_guard_value guard.old) (mutex_guard_value guard.new)) }
-        ensures err { OnErr result (mutex_guard_value guard.new ≡ mutex_guard_value guard.old) }
+        ensures closes { Closes guard.old.conn.core error result (unmoved guard.old.conn guard.new.conn).core }
+        ensures unread { guard.new.conn.unread ≡ guard.old.conn.unread }
+        ensures more { guard.old.conn.core.log.popped ≤ guard.new.conn.core.log.popped }
+        ensures told { OnOk result (IsTold Ends guard.old guard.new) }
+        ensures err { OnErr result (guard.new ≡ guard.old) }
     {
-        match guard.shut(error) {
+        match guard.locked.shut(error) {
             Ok(()) => {
                 self.tell(guard, Change::Ends);
                 Ok(())
@@ -224,11 +228,11 @@ impl<N: Name> Shared<N> {
     }
 
     /// The octets ended, as `Conn::lost`.
-    pub fn lost(&self, guard: &mut MutexGuard<'_, Locked<N>>)
-        ensures lost { (mutex_guard_value guard.new).conn ≡ connection (in_phase Phase.Closed (mutex_guard_value guard.old).conn.core) [] }
-        ensures told { IsTold Ends (mutex_guard_value guard.old) (mutex_guard_value guard.new) }
+    pub fn lost(&self, guard: &mut Guard<'_, N>)
+        ensures lost { guard.new.conn ≡ connection (in_phase Phase.Closed guard.old.conn.core) [] }
+        ensures told { IsTold Ends guard.old guard.new }
     {
-        guard.lost();
+        guard.locked.lost();
         self.tell(guard, Change::Ends);
     }
 
@@ -237,16 +241,13 @@ impl<N: Name> Shared<N> {
     /// # Errors
     ///
     /// Those of `Conn::pop_left`; nothing has changed then.
-    pub fn pop_left(
-        &self,
-        guard: &mut MutexGuard<'_, Locked<N>>,
-    ) -> Result<Option<Left>, AllocError>
-        ensures gives { IfOk result (λ given. Gives (mutex_guard_value guard.old).conn.core given (mutex_guard_value guard.new).conn.core) }
-        ensures unread { (mutex_guard_value guard.new).conn.unread ≡ (mutex_guard_value guard.old).conn.unread }
-        ensures waiters { (mutex_guard_value guard.new).waiters ≡ (mutex_guard_value guard.old).waiters }
-        ensures err { OnErr result (mutex_guard_value guard.new ≡ mutex_guard_value guard.old) }
+    pub fn pop_left(&self, guard: &mut Guard<'_, N>) -> Result<Option<Left>, AllocError>
+        ensures gives { IfOk result (λ given. Gives guard.old.conn.core given guard.new.conn.core) }
+        ensures unread { guard.new.conn.unread ≡ guard.old.conn.unread }
+        ensures waiters { guard.new.waiters ≡ guard.old.waiters }
+        ensures err { OnErr result (guard.new ≡ guard.old) }
     {
-        guard.pop_left()
+        guard.locked.pop_left()
     }
 
     /// The first that the link of this number left, a delivery of a receiver or an outcome of a sender, as `Conn::pop_left_by`: for who has waited for a delivery or an outcome of that link, and was told
@@ -257,16 +258,16 @@ impl<N: Name> Shared<N> {
     /// Those of `Conn::pop_left`; nothing has changed then.
     pub fn pop_left_by(
         &self,
-        guard: &mut MutexGuard<'_, Locked<N>>,
+        guard: &mut Guard<'_, N>,
         role: Role,
         link: u32,
     ) -> Result<Option<Left>, AllocError>
-        ensures gives { IfOk result (λ given. GivesOf role link (mutex_guard_value guard.old).conn.core given (mutex_guard_value guard.new).conn.core) }
-        ensures unread { (mutex_guard_value guard.new).conn.unread ≡ (mutex_guard_value guard.old).conn.unread }
-        ensures waiters { (mutex_guard_value guard.new).waiters ≡ (mutex_guard_value guard.old).waiters }
-        ensures err { OnErr result (mutex_guard_value guard.new ≡ mutex_guard_value guard.old) }
+        ensures gives { IfOk result (λ given. GivesOf role link guard.old.conn.core given guard.new.conn.core) }
+        ensures unread { guard.new.conn.unread ≡ guard.old.conn.unread }
+        ensures waiters { guard.new.waiters ≡ guard.old.waiters }
+        ensures err { OnErr result (guard.new ≡ guard.old) }
     {
-        guard.pop_left_by(role, link)
+        guard.locked.pop_left_by(role, link)
     }
 
     /// How many things are left, as `Conn::left_len`.
@@ -274,30 +275,30 @@ impl<N: Name> Shared<N> {
     /// # Errors
     ///
     /// Those of `Conn::pop_left`; nothing has changed then.
-    pub fn left_len(&self, guard: &mut MutexGuard<'_, Locked<N>>) -> Result<usize, AllocError>
-        ensures len { IfOk result (λ n. n ≡ length (left_of (mutex_guard_value guard.old).conn.core)) }
-        ensures still { OnOk result ((left_of (mutex_guard_value guard.new).conn.core ≡ left_of (mutex_guard_value guard.old).conn.core) × (but_left (mutex_guard_value guard.new).conn.core ≡ but_left (mutex_guard_value guard.old).conn.core)) }
-        ensures unread { (mutex_guard_value guard.new).conn.unread ≡ (mutex_guard_value guard.old).conn.unread }
-        ensures waiters { (mutex_guard_value guard.new).waiters ≡ (mutex_guard_value guard.old).waiters }
-        ensures err { OnErr result (mutex_guard_value guard.new ≡ mutex_guard_value guard.old) }
+    pub fn left_len(&self, guard: &mut Guard<'_, N>) -> Result<usize, AllocError>
+        ensures len { IfOk result (λ n. n ≡ length (left_of guard.old.conn.core)) }
+        ensures still { OnOk result ((left_of guard.new.conn.core ≡ left_of guard.old.conn.core) × (but_left guard.new.conn.core ≡ but_left guard.old.conn.core)) }
+        ensures unread { guard.new.conn.unread ≡ guard.old.conn.unread }
+        ensures waiters { guard.new.waiters ≡ guard.old.waiters }
+        ensures err { OnErr result (guard.new ≡ guard.old) }
     {
-        guard.left_len()
+        guard.locked.left_len()
     }
 
     /// Forgets the lent session's entries so far, as `Conn::forget`. The passes' steps are those of the whole
     /// journal, as before. It wakes nobody.
-    pub fn forget(&self, guard: &mut MutexGuard<'_, Locked<N>>)
-        ensures { mutex_guard_value guard.new ≡ record (mutex_guard_value guard.old) { conn = forgotten (mutex_guard_value guard.old).conn } }
+    pub fn forget(&self, guard: &mut Guard<'_, N>)
+        ensures { guard.new ≡ record guard.old { conn = forgotten guard.old.conn } }
     {
-        guard.forget();
+        guard.locked.forget();
     }
 
     /// Moves units to the ring, as many as fit. It takes no memory.
-    pub fn move_units(&self, guard: &mut MutexGuard<'_, Locked<N>>)
-        ensures moves { MovesUnits (mutex_guard_value guard.old).conn (mutex_guard_value guard.new).conn }
-        ensures waiters { (mutex_guard_value guard.new).waiters ≡ (mutex_guard_value guard.old).waiters }
+    pub fn move_units(&self, guard: &mut Guard<'_, N>)
+        ensures moves { MovesUnits guard.old.conn guard.new.conn }
+        ensures waiters { guard.new.waiters ≡ guard.old.waiters }
     {
-        guard.move_units();
+        guard.locked.move_units();
     }
 
     /// As `call`, but where credit, a window, a delivery or an outcome is wanting it waits for a change and tries again. The guard that it gives
@@ -310,45 +311,40 @@ impl<N: Name> Shared<N> {
     pub fn call_wait<'b, R: Wait>(
         &self,
         rt: &R,
-        guard: MutexGuard<'b, Locked<N>>,
+        guard: Guard<'b, N>,
         pass: &mut Pass<N>,
         op: &Op,
-    ) -> (MutexGuard<'b, Locked<N>>, Result<(Receipt, Given), Refusal>)
+    ) -> (Guard<'b, N>, Result<(Receipt, Given), Refusal>)
         ensures fits { IfOk result.1 (λ r. Fits op.now r.1) }
-        ensures receipt { IfOk result.1 (λ r. IsReceipt (mutex_guard_value result.0).conn.core.log op.now r.1 r.0) }
+        ensures receipt { IfOk result.1 (λ r. IsReceipt result.0.conn.core.log op.now r.1 r.0) }
         ensures place { IfOk result.1 (λ r. pass.old.made ≤ r.0.place) }
         ensures pass { pass.new ≡ after op.now result.1 pass.old }
-        ensures done { IfOk result.1 (λ r. IsDone op.now r.1 (mutex_guard_value result.0).conn) }
-        ensures refusal { IfErr result.1 (λ e. IsRefused (mutex_guard_value result.0).conn op.now e × EndsWait e) }
-        ensures at_once { IsDueAtOnce (due_in (mutex_guard_value guard.entry).conn.core.phase (mutex_guard_value guard.entry).conn.core.log op.now) → Calls (mutex_guard_value guard.entry).conn op.now result.1 (mutex_guard_value result.0).conn }
+        ensures done { IfOk result.1 (λ r. IsDone op.now r.1 result.0.conn) }
+        ensures refusal { IfErr result.1 (λ e. IsRefused result.0.conn op.now e × EndsWait e) }
+        ensures at_once { IsDueAtOnce (due_in guard.entry.conn.core.phase guard.entry.conn.core.log op.now) → Calls guard.entry.conn op.now result.1 result.0.conn }
     {
         let mut guard = guard;
         for _ in rt.forever() {
             match self.turn(&mut guard, pass, op) {
                 Ok(answer) => return (guard, answer),
-                Err(want) => guard = self.conditions.of(want).wait(rt, guard),
+                Err(want) => guard = guard.wait(rt, self.conditions.of(want)),
             }
         }
         unreachable!()
     }
 
     /// One turn of a call that waits: what it answers; or what it waits for now, and nothing else has changed.
-    fn turn(
-        &self,
-        guard: &mut MutexGuard<'_, Locked<N>>,
-        pass: &mut Pass<N>,
-        op: &Op,
-    ) -> Result<Answer, Want>
-        ensures step { IfOk result (λ a. IfOk a (λ r. Makes (mutex_guard_value guard.old).conn op.now r.1 (mutex_guard_value guard.new).conn)) }
+    fn turn(&self, guard: &mut Guard<'_, N>, pass: &mut Pass<N>, op: &Op) -> Result<Answer, Want>
+        ensures step { IfOk result (λ a. IfOk a (λ r. Makes guard.old.conn op.now r.1 guard.new.conn)) }
         ensures fits { IfOk result (λ a. IfOk a (λ r. Fits op.now r.1)) }
-        ensures receipt { IfOk result (λ a. IfOk a (λ r. IsReceipt (mutex_guard_value guard.new).conn.core.log op.now r.1 r.0)) }
+        ensures receipt { IfOk result (λ a. IfOk a (λ r. IsReceipt guard.new.conn.core.log op.now r.1 r.0)) }
         ensures place { IfOk result (λ a. IfOk a (λ r. pass.old.made ≤ r.0.place)) }
         ensures pass { IfOk result (λ a. pass.new ≡ after op.now a pass.old) }
-        ensures refusal { IfOk result (λ a. IfErr a (λ e. IsRefused (mutex_guard_value guard.old).conn op.now e × EndsWait e)) }
-        ensures err { IfOk result (λ a. OnErr a (mutex_guard_value guard.new ≡ mutex_guard_value guard.old)) }
-        ensures late { OnErr result (IsDueAtOnce (due_in (mutex_guard_value guard.old).conn.core.phase (mutex_guard_value guard.old).conn.core.log op.now) → ⊥) }
-        ensures awaits { IfErr result (λ want. IsAwaited (mutex_guard_value guard.old).conn op.now want) }
-        ensures waits { IfErr result (λ want. mutex_guard_value guard.new ≡ record (mutex_guard_value guard.old) { waiters = with_want want true (mutex_guard_value guard.old).waiters }) }
+        ensures refusal { IfOk result (λ a. IfErr a (λ e. IsRefused guard.old.conn op.now e × EndsWait e)) }
+        ensures err { IfOk result (λ a. OnErr a (guard.new ≡ guard.old)) }
+        ensures late { OnErr result (IsDueAtOnce (due_in guard.old.conn.core.phase guard.old.conn.core.log op.now) → ⊥) }
+        ensures awaits { IfErr result (λ want. IsAwaited guard.old.conn op.now want) }
+        ensures waits { IfErr result (λ want. guard.new ≡ record guard.old { waiters = with_want want true guard.old.waiters }) }
         ensures rests { OnErr result (pass.new ≡ pass.old) }
     {
         match self.attempt(guard, pass, op) {
@@ -358,12 +354,12 @@ impl<N: Name> Shared<N> {
                 Ok(answer)
             }
             Err(Refusal::NoCredit | Refusal::NoWindow) => {
-                guard.wait_for(Want::Room);
+                guard.locked.wait_for(Want::Room);
                 Err(Want::Room)
             }
             Err(Refusal::Nothing) => {
                 let want = awaited_by(op);
-                guard.wait_for(want);
+                guard.locked.wait_for(want);
                 Err(want)
             }
             Err(refusal) => {
@@ -385,32 +381,28 @@ impl<N: Name> Shared<N> {
     }
 
     /// What `wait_units` answers, of the session whose guard it gives back.
-    fn news_past<'b, R: Wait>(
-        &'b self,
-        rt: &R,
-        seen: u64,
-    ) -> (MutexGuard<'b, Locked<N>>, (u64, bool))
-        ensures { IsNews seen (mutex_guard_value result.0).conn result.1 }
+    fn news_past<'b, R: Wait>(&'b self, rt: &R, seen: u64) -> (Guard<'b, N>, (u64, bool))
+        ensures { IsNews seen result.0.conn result.1 }
     {
-        let mut guard = self.locked.lock(rt);
+        let mut guard = self.lock(rt);
         for _ in rt.forever() {
             self.move_units(&mut guard);
-            if let Some(news) = guard.news(seen) {
+            if let Some(news) = guard.locked.news(seen) {
                 return (guard, news);
             }
-            guard.await_units(seen);
-            guard = self.conditions.units.wait(rt, guard);
+            guard.locked.await_units(seen);
+            guard = guard.wait(rt, &self.conditions.units);
         }
         unreachable!()
     }
 
     /// Tells all who await what has come: units, and what the change may have brought, which is anything where the journal is full.
-    fn tell(&self, guard: &mut MutexGuard<'_, Locked<N>>, change: Change)
-        ensures conn { (mutex_guard_value guard.new).conn ≡ (mutex_guard_value guard.old).conn }
-        ensures told { IsTold change (mutex_guard_value guard.old) (mutex_guard_value guard.new) }
+    fn tell(&self, guard: &mut Guard<'_, N>, change: Change)
+        ensures conn { guard.new.conn ≡ guard.old.conn }
+        ensures told { IsTold change guard.old guard.new }
     {
         self.wake_writer(guard);
-        let change = if guard.is_at_limit() {
+        let change = if guard.locked.is_at_limit() {
             Change::Ends
         } else {
             change
@@ -419,17 +411,17 @@ impl<N: Name> Shared<N> {
     }
 
     /// Wakes those that wait for units, where there are some now.
-    fn wake_writer(&self, guard: &mut MutexGuard<'_, Locked<N>>)
-        ensures { mutex_guard_value guard.new ≡ record (mutex_guard_value guard.old) { waiters = told_of_units (mutex_guard_value guard.old).conn (mutex_guard_value guard.old).waiters } }
+    fn wake_writer(&self, guard: &mut Guard<'_, N>)
+        ensures { guard.new ≡ record guard.old { waiters = told_of_units guard.old.conn guard.old.waiters } }
     {
-        if guard.end_await_units() {
-            self.conditions.units.notify_all();
+        if guard.locked.end_await_units() {
+            guard.note_units();
         }
     }
 
     /// Wakes callers who wait for what the change may have brought.
-    fn wake_callers(&self, guard: &mut MutexGuard<'_, Locked<N>>, change: Change)
-        ensures { mutex_guard_value guard.new ≡ record (mutex_guard_value guard.old) { waiters = told_of change (mutex_guard_value guard.old).waiters } }
+    fn wake_callers(&self, guard: &mut Guard<'_, N>, change: Change)
+        ensures { guard.new ≡ record guard.old { waiters = told_of change guard.old.waiters } }
     {
         match change {
             Change::Nothing => {}
@@ -443,11 +435,11 @@ impl<N: Name> Shared<N> {
     }
 
     /// The one place in which callers are woken: where some wait for this, and none do any more.
-    fn wake(&self, guard: &mut MutexGuard<'_, Locked<N>>, want: Want)
-        ensures { mutex_guard_value guard.new ≡ record (mutex_guard_value guard.old) { waiters = with_want want false (mutex_guard_value guard.old).waiters } }
+    fn wake(&self, guard: &mut Guard<'_, N>, want: Want)
+        ensures { guard.new ≡ record guard.old { waiters = with_want want false guard.old.waiters } }
     {
-        if guard.end_wait_for(want) {
-            self.conditions.of(want).notify_all();
+        if guard.locked.end_wait_for(want) {
+            guard.note(want);
         }
     }
 }

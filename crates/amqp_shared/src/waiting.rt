@@ -57,6 +57,55 @@ impl Conditions {
             Want::Outcome => &self.outcome,
         }
     }
+
+    /// Wakes all who wait for what is due.
+    pub(crate) fn wake(&self, due: Due) {
+        if due.units {
+            self.units.notify_all();
+        }
+        if due.room {
+            self.room.notify_all();
+        }
+        if due.delivery {
+            self.delivery.notify_all();
+        }
+        if due.outcome {
+            self.outcome.notify_all();
+        }
+    }
+}
+
+/// Who is to be woken: those that wait for these.
+#[derive(Clone, Copy)]
+pub(crate) struct Due {
+    pub(crate) units: bool,
+    pub(crate) room: bool,
+    pub(crate) delivery: bool,
+    pub(crate) outcome: bool,
+}
+
+impl Due {
+    pub(crate) const NONE: Due = Due {
+        units: false,
+        room: false,
+        delivery: false,
+        outcome: false,
+    };
+
+    /// Those that wait for this, too.
+    pub(crate) fn and(self, want: Want) -> Due {
+        match want {
+            Want::Room => Due { room: true, ..self },
+            Want::Delivery => Due {
+                delivery: true,
+                ..self
+            },
+            Want::Outcome => Due {
+                outcome: true,
+                ..self
+            },
+        }
+    }
 }
 
 /// Who waits for what.

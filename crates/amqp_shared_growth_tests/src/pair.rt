@@ -13,6 +13,7 @@ fn options(count: u32, consumers: u32, credit: u32, size: u32) -> Options {
         size,
         first_id: 0,
         keep: None,
+        settled: false,
     }
 }
 

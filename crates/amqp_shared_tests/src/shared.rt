@@ -15,14 +15,14 @@ use amqp_rules::op::Op;
 use amqp_rules::refusal::Refusal;
 use amqp_rules::reply::Given;
 use amqp_shared::{
-    CloseReason, Closed, Locked, Name, NotClosed, Pass, Seed, Shared, WriterEnd, open_shared,
+    CloseReason, Closed, Guard, Name, NotClosed, Pass, Seed, Shared, WriterEnd, open_shared,
 };
 use amqp_types::{Tag, Text};
 use bytes::Bytes;
 use std::alloc::Global;
 use std::marker::Brand;
 use std::process::Abort;
-use std::sync::{MutexGuard, Wait};
+use std::sync::Wait;
 use std::test::Fail;
 use std::thread;
 use std::thread::Threads;
@@ -545,10 +545,10 @@ fn starts_and_learns<N: Name, R: Wait>(
 fn waits_for<'b, N: Name, R: Wait>(
     rt: &R,
     shared: &Shared<N>,
-    guard: MutexGuard<'b, Locked<N>>,
+    guard: Guard<'b, N>,
     pass: &mut Pass<N>,
     op: Op,
-) -> (MutexGuard<'b, Locked<N>>, bool) {
+) -> (Guard<'b, N>, bool) {
     let (guard, answer) = shared.call_wait(rt, guard, pass, &op);
     drop(op);
     (guard, receipt_in(answer).is_some())

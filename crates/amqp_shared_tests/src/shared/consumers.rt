@@ -17,6 +17,7 @@ use std::alloc::{AllocError, Global};
 use std::marker::Brand;
 use std::process::Abort;
 use std::sync::Wait;
+use std::sync::atomic::{AtomicU64, Ordering};
 use std::test::Fail;
 use std::thread::Threads;
 
@@ -517,6 +518,8 @@ struct Choosing<'a, N: Name, R: Wait> {
     rt: &'a R,
     shared: &'a Shared<N>,
     pass: Pass<N>,
+    /// How often it heard that all was told.
+    told: &'a AtomicU64,
 }
 
 impl<'a, N: Name, R: Wait> Drop for Choosing<'a, N, R> {
@@ -525,6 +528,7 @@ impl<'a, N: Name, R: Wait> Drop for Choosing<'a, N, R> {
             rt: _,
             shared: _,
             pass,
+            told: _,
         } = self;
         drop(pass);
     }
@@ -546,6 +550,12 @@ impl<'a, N: Name, R: Wait> Work for Choosing<'a, N, R> {
         }
         DeliveryState::Accepted
     }
+
+    /// The lock is free.
+    fn told(&mut self) {
+        drop(self.shared.lock(self.rt));
+        self.told.fetch_add(1, Ordering::SeqCst);
+    }
 }
 
 #[test]
@@ -553,7 +563,7 @@ fn a_batch_is_settled_at_once(rt: HostRuntime) -> Result<(), Fail> {
     settled_at_once::<Brand, HostRuntime>(&rt, rt.alloc(), seed(rt.alloc(), 4)?)
 }
 
-/// Three dispositions tell of five deliveries, and the credit is granted once.
+/// Three dispositions tell of five deliveries, and the credit is granted once; the work hears behind them that they were told, and not behind the sixth.
 fn settled_at_once<N: Name + Send + Sync, R: Threads + Wait + Abort + Sync>(
     rt: &R,
     alloc: Global,
@@ -569,8 +579,10 @@ fn settled_at_once<N: Name + Send + Sync, R: Threads + Wait + Abort + Sync>(
     let Some(own) = pass.split() else {
         panic!(rt; "no part");
     };
-    let (own, told) = in_batches(rt, alloc, &shared, own, pass)?;
+    let batches = AtomicU64::new(0);
+    let (own, told) = in_batches(rt, alloc, &shared, own, pass, &batches)?;
     assert_eq!(rt; told, (6, Refusal::NotRunning));
+    assert_eq!(rt; batches.load(Ordering::SeqCst), 1);
     assert_eq!(rt; own.made(), 10);
     let guard = shared.lock(rt);
     assert!(rt; are_settled(guard.conn()));
@@ -612,11 +624,17 @@ fn in_batches<N: Name + Send + Sync, R: Threads + Wait + Abort + Sync>(
     shared: &Shared<N>,
     own: Pass<N>,
     pass: Pass<N>,
+    told: &AtomicU64,
 ) -> Result<(Pass<N>, (u64, Refusal)), Fail> {
     let mut passes = Vec::new(alloc);
     passes.push(own)?;
     let mut works = Vec::new(alloc);
-    works.push(Choosing { rt, shared, pass })?;
+    works.push(Choosing {
+        rt,
+        shared,
+        pass,
+        told,
+    })?;
     let terms = Terms {
         link: 1,
         credit: 5,

@@ -3,11 +3,11 @@ ghost use Rattle.std.specs.Prelude.{◌≡◌};
 ghost use Rattle.amqp_shared.specs.Passes.{IsNamed};
 
 use super::{ACCEPTED, CLOSE, FLOW, comes_to, hear, seed, start, with_link};
-use amqp_shared::{Left, Locked, Name, Op, Pass, Refusal, Role, Seed, Shared, open_shared};
+use amqp_shared::{Guard, Left, Name, Op, Pass, Refusal, Role, Seed, Shared, open_shared};
 use std::alloc::Global;
 use std::marker::Brand;
 use std::process::Abort;
-use std::sync::{MutexGuard, Wait};
+use std::sync::Wait;
 use std::test::Fail;
 use std::thread;
 use std::thread::Threads;
@@ -72,7 +72,7 @@ fn learns<N: Name, R: Wait>(rt: &R, alloc: Global, shared: &Shared<N>, pass: Pas
 fn starts<N: Name>(
     alloc: Global,
     shared: &Shared<N>,
-    guard: &mut MutexGuard<'_, Locked<N>>,
+    guard: &mut Guard<'_, N>,
     pass: &mut Pass<N>,
 ) {
     if let Some(start) = start(alloc, [1, 0]) {
@@ -82,7 +82,7 @@ fn starts<N: Name>(
 }
 
 /// Pops what link 0 left: whether that is the outcome of our delivery.
-fn pops<N: Name>(shared: &Shared<N>, guard: &mut MutexGuard<'_, Locked<N>>) -> bool {
+fn pops<N: Name>(shared: &Shared<N>, guard: &mut Guard<'_, N>) -> bool {
     match shared.pop_left_by(guard, Role::Sender, 0) {
         Ok(Some(left)) => is_accepted(left),
         _ => false,

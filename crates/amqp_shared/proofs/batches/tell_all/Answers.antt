@@ -1,5 +1,4 @@
 use Rattle.std.proofs.Common.{Ok, Err, refl, sym, ap, subst, ◌∙◌}
-use Rattle.std.specs.Sync.Mutex.{mutex_guard_value}
 use Rattle.amqp_shared.specs.Consuming.{Tells, Asks}
 use Rattle.amqp_shared.specs.Batching.{InHand, TellsAll, Closes}
 use Rattle.amqp_shared.proofs.batches.tell_all.Goals as goal
@@ -9,10 +8,10 @@ loop-one-preserved g c =
     let was = c.loop-one.invariant in
     let is = c.in-Some.ensures.some in
     let judged = ap (λ (b : InHand). b.judged) is in
-    let now = (mutex_guard_value c.loop-one.guard).conn in (
+    let now = (c.loop-one.guard).conn in (
       sym (ap (λ (b : InHand). b.more) is) ∙ was.0,
       λ result after h. was.1 result after
-          (subst (λ js. TellsAll Tells js c.loop-one.begun now result after) (sym judged) (Ok c.in-Ok.begun, (mutex_guard_value c.go_to.new.guard).conn, c.in-Ok.ensures.tells, h)),
+          (subst (λ js. TellsAll Tells js c.loop-one.begun now result after) (sym judged) (Ok c.in-Ok.begun, c.go_to.new.guard.conn, c.in-Ok.ensures.tells, h)),
       λ result after h. was.2 result after
           (subst (λ js. TellsAll Asks js c.loop-one.begun c.loop-one.pass result after) (sym judged) (Ok c.in-Ok.begun, c.go_to.new.pass, c.in-Ok.ensures.asks, h)),
     )
@@ -22,8 +21,8 @@ returns-in-Err g c =
     let was = c.loop-one.invariant in
     let is = c.in-Some.ensures.some in
     let judged = ap (λ (b : InHand). b.judged) is in
-    let now = (mutex_guard_value c.loop-one.guard).conn in
-    let after = (mutex_guard_value c.go_to.new.guard).conn in
+    let now = (c.loop-one.guard).conn in
+    let after = c.go_to.new.guard.conn in
     let stopped = Err c.in-Err.refusal in
     record {
       tells = was.1 stopped after (subst (λ js. TellsAll Tells js c.loop-one.begun now stopped after) (sym judged) (Err c.in-Err.refusal, after, c.in-Err.ensures.tells, (refl, refl)));
@@ -36,7 +35,7 @@ pub returns-in-None : goal.returns-in-None
 returns-in-None g c =
     let was = c.loop-one.invariant in
     let none = c.in_default.ensures.none in
-    let now = (mutex_guard_value c.loop-one.guard).conn in
+    let now = (c.loop-one.guard).conn in
     record {
       tells = was.1 (Ok tt) now (subst (λ js. TellsAll Tells js c.loop-one.begun now (Ok tt) now) (sym none.0) (subst (λ o. Closes Tells o now (Ok tt) now) (sym c.in-None.is) (refl, refl)));
       asks = was.2 (Ok tt) c.loop-one.pass
@@ -48,8 +47,8 @@ pub returns-in-Some-begun : goal.returns-in-Some-begun
 returns-in-Some-begun g c =
     let was = c.loop-one.invariant in
     let none = c.in_default.ensures.none in
-    let now = (mutex_guard_value c.loop-one.guard).conn in
-    let after = (mutex_guard_value c.tell_span.new.guard).conn in
+    let now = (c.loop-one.guard).conn in
+    let after = c.tell_span.new.guard.conn in
     let told = c.tell_span.result in
     record {
       tells = was.1 told after

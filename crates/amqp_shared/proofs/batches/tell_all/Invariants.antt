@@ -1,5 +1,4 @@
 use Rattle.std.proofs.Common.{◌≡◌, None, Result, length}
-use Rattle.std.specs.Sync.Mutex.{mutex_guard_value}
 use Rattle.amqp_rules.specs.declared.refusal.Refusal.{Refusal}
 use Rattle.amqp_conn.specs.Connection.{Connection}
 use Rattle.amqp_shared.specs.Passes.{Tally}
@@ -11,8 +10,8 @@ use Rattle.amqp_shared.proofs.batches.tell_all.Given as goal
 abbrev pub invariant-loop-one : goal.invariant-loop-one
 invariant-loop-one g l =
     (l.batch.more ≡ l.initial.batch.more)
-    × ((result : Result (Unit {0}) Refusal) → (after : Connection) → TellsAll Tells l.batch.judged l.begun (mutex_guard_value l.guard).conn result after
-    → TellsAll Tells l.initial.batch.judged None (mutex_guard_value l.initial.guard).conn result after)
+    × ((result : Result (Unit {0}) Refusal) → (after : Connection) → TellsAll Tells l.batch.judged l.begun l.guard.conn result after
+    → TellsAll Tells l.initial.batch.judged None l.initial.guard.conn result after)
     × ((result : Result (Unit {0}) Refusal) → (after : Tally) → TellsAll Asks l.batch.judged l.begun l.pass result after
     → TellsAll Asks l.initial.batch.judged None l.initial.pass result after)
 

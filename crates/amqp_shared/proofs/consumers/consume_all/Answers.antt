@@ -76,6 +76,6 @@ loop-preserved g c =
       settles = c.in_default-settle_batch.ensures.pass;
     }
     in (
-      (suc was.0.0, (before, c.loop.count, c.len.result, refl, was.0.1, last)),
+      (suc was.0.0, (before, c.loop.count, c.len.result, refl, was.0.1, subst (λ work. Batched g.W.Work.consumes job.terms job.batch.more before c.len.result (Ok tt) (record { pass = c.settle_batch.new.pass; work = work })) (sym c.told.ensures) last)),
       c.in_default-settle_batch.ensures.room ∙ c.judge_all.ensures.more ∙ c.in_default.ensures.room ∙ was.1,
     )
