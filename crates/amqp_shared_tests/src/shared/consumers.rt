@@ -17,7 +17,6 @@ use std::alloc::{AllocError, Global};
 use std::marker::Brand;
 use std::process::Abort;
 use std::sync::Wait;
-use std::sync::atomic::{AtomicU64, Ordering};
 use std::test::Fail;
 use std::thread::Threads;
 
@@ -513,13 +512,11 @@ const SIXTH: [u8; 22] = [
     0, 0, 0, 0x16, 2, 0, 0, 0, 0, 0x53, 0x14, 0xc0, 8, 4, 0x43, 0x52, 5, 0xa0, 1, 6, 0x43, 0x78,
 ];
 
-/// Accepts all but the third, which it releases; hears of the sixth at the fifth, and ends the connection at the sixth.
+/// Accepts all but the third, which it releases; hears of the sixth at the fifth, and closes the connection once they were told. It ends it at the sixth.
 struct Choosing<'a, N: Name, R: Wait> {
     rt: &'a R,
     shared: &'a Shared<N>,
     pass: Pass<N>,
-    /// How often it heard that all was told.
-    told: &'a AtomicU64,
 }
 
 impl<'a, N: Name, R: Wait> Drop for Choosing<'a, N, R> {
@@ -528,7 +525,6 @@ impl<'a, N: Name, R: Wait> Drop for Choosing<'a, N, R> {
             rt: _,
             shared: _,
             pass,
-            told: _,
         } = self;
         drop(pass);
     }
@@ -551,10 +547,9 @@ impl<'a, N: Name, R: Wait> Work for Choosing<'a, N, R> {
         DeliveryState::Accepted
     }
 
-    /// The lock is free.
     fn told(&mut self) {
-        drop(self.shared.lock(self.rt));
-        self.told.fetch_add(1, Ordering::SeqCst);
+        let mut guard = self.shared.lock(self.rt);
+        let _ = self.shared.shut(&mut guard, None);
     }
 }
 
@@ -563,7 +558,7 @@ fn a_batch_is_settled_at_once(rt: HostRuntime) -> Result<(), Fail> {
     settled_at_once::<Brand, HostRuntime>(&rt, rt.alloc(), seed(rt.alloc(), 4)?)
 }
 
-/// Three dispositions tell of five deliveries, and the credit is granted once; the work hears behind them that they were told, and not behind the sixth.
+/// Three dispositions tell of five deliveries, and the credit is granted once; then the work hears that they were told, without the lock, and no other is taken.
 fn settled_at_once<N: Name + Send + Sync, R: Threads + Wait + Abort + Sync>(
     rt: &R,
     alloc: Global,
@@ -579,32 +574,30 @@ fn settled_at_once<N: Name + Send + Sync, R: Threads + Wait + Abort + Sync>(
     let Some(own) = pass.split() else {
         panic!(rt; "no part");
     };
-    let batches = AtomicU64::new(0);
-    let (own, told) = in_batches(rt, alloc, &shared, own, pass, &batches)?;
-    assert_eq!(rt; told, (6, Refusal::NotRunning));
-    assert_eq!(rt; batches.load(Ordering::SeqCst), 1);
-    assert_eq!(rt; own.made(), 10);
+    let (own, told) = in_batches(rt, alloc, &shared, own, pass)?;
+    assert_eq!(rt; told, (5, Refusal::NotRunning));
+    assert_eq!(rt; own.made(), 9);
     let guard = shared.lock(rt);
     assert!(rt; are_settled(guard.conn()));
     Ok(())
 }
 
-/// The newest entries are two dispositions of deliveries that follow one another with one between them, a grant, and that the sixth was taken.
+/// The newest entries are two dispositions of deliveries that follow one another with one between them, and a grant.
 fn are_settled(conn: &Conn) -> bool {
     let end = u64::from(conn.logged().steps());
     stands_at(
         conn,
         &telling(0, 1, DeliveryState::Accepted),
-        end.saturating_sub(5),
-    ) && stands_at(
-        conn,
-        &telling(2, 2, DeliveryState::Released),
         end.saturating_sub(4),
     ) && stands_at(
         conn,
-        &telling(3, 4, DeliveryState::Accepted),
+        &telling(2, 2, DeliveryState::Released),
         end.saturating_sub(3),
-    ) && stands_at(conn, &granting(5), end.saturating_sub(2))
+    ) && stands_at(
+        conn,
+        &telling(3, 4, DeliveryState::Accepted),
+        end.saturating_sub(2),
+    ) && stands_at(conn, &granting(5), end.saturating_sub(1))
 }
 
 fn telling(first: u32, last: u32, state: DeliveryState) -> Op {
@@ -624,17 +617,11 @@ fn in_batches<N: Name + Send + Sync, R: Threads + Wait + Abort + Sync>(
     shared: &Shared<N>,
     own: Pass<N>,
     pass: Pass<N>,
-    told: &AtomicU64,
 ) -> Result<(Pass<N>, (u64, Refusal)), Fail> {
     let mut passes = Vec::new(alloc);
     passes.push(own)?;
     let mut works = Vec::new(alloc);
-    works.push(Choosing {
-        rt,
-        shared,
-        pass,
-        told,
-    })?;
+    works.push(Choosing { rt, shared, pass })?;
     let terms = Terms {
         link: 1,
         credit: 5,
