@@ -17,7 +17,7 @@ const ROOM: usize = 524288;
 /// The least room that a read is given: that of a frame.
 const LEAST: usize = MAX_FRAME as usize;
 
-/// What new room is made of. Octet by octet it would take as long as all else that a long message costs.
+/// What new room is made of: written octet by octet it would take a third of the time of a long message.
 const ZEROS: &[u8; 1024] = &[0; 1024];
 
 /// The first four octets of a protocol header (part 2, 2.2): AMQP. As a size they would be that of a longer frame than any that is taken.
