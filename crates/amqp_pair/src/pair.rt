@@ -7,14 +7,11 @@ use crate::fault::PairFault;
 use crate::options::Options;
 use crate::receiver::run_receiver;
 use crate::sender::run_sender;
-use std::alloc::{AllocError, Global};
+use std::alloc::Global;
 use std::io::Write;
 use std::net::{IpAddr, Ipv4Addr, Net, OpenListener, SocketAddr, TcpListener, TcpStream};
 use std::sync::Wait;
 use std::thread::Threads;
-
-/// Just less than the largest block, 32 MiB, by which glibc learns how much it is to keep.
-const LARGEST: usize = 33550336;
 
 /// What a run has done.
 #[derive(Clone, Copy, Debug, PartialEq, Eq)]
@@ -46,17 +43,9 @@ where
     if !options.are_in_range() {
         return Err(PairFault::Options);
     }
-    keep_memory(alloc);
     let (stream, peer) = connected(rt)?;
     let totals = run_over(rt, alloc, options, stream, peer)?;
     tell(out, &totals)
-}
-
-/// Asks for a block and gives it back. Glibc then keeps what threads give back until that is twice as much, and pages of long messages are not asked for anew each time. Without
-/// memory for it all goes on as it would.
-fn keep_memory(alloc: Global) {
-    let block: Result<Vec<u8>, AllocError> = Vec::with_capacity(alloc, LARGEST);
-    drop(block);
 }
 
 /// The two ends, over the two ends of a socket. Each is made in its own thread. The options are not looked at: with messages, and without a consumer or

@@ -98,7 +98,7 @@ impl<N: Name> Shared<N> {
         }
     }
 
-    /// Takes the lock, and lends what lies under it until the guard is dropped. It may wait.
+    /// Takes the lock, and lends what lies under it until the guard is dropped: then those are woken whom its steps have told. It may wait.
     pub fn lock<R: Wait>(&self, rt: &R) -> Guard<'_, N> {
         Guard {
             locked: self.locked.lock(rt),
@@ -410,7 +410,7 @@ impl<N: Name> Shared<N> {
         self.wake_callers(guard, change);
     }
 
-    /// Wakes those that wait for units, where there are some now.
+    /// Notes in the guard those that wait for units, where there are some now.
     fn wake_writer(&self, guard: &mut Guard<'_, N>)
         ensures { guard.new ≡ record guard.old { waiters = told_of_units guard.old.conn guard.old.waiters } }
     {
@@ -419,7 +419,7 @@ impl<N: Name> Shared<N> {
         }
     }
 
-    /// Wakes callers who wait for what the change may have brought.
+    /// Notes callers who wait for what the change may have brought.
     fn wake_callers(&self, guard: &mut Guard<'_, N>, change: Change)
         ensures { guard.new ≡ record guard.old { waiters = told_of change guard.old.waiters } }
     {
@@ -434,7 +434,7 @@ impl<N: Name> Shared<N> {
         }
     }
 
-    /// The one place in which callers are woken: where some wait for this, and none do any more.
+    /// The one place in which it is noted that callers are to be woken: where some wait for this, and none do any more.
     fn wake(&self, guard: &mut Guard<'_, N>, want: Want)
         ensures { guard.new ≡ record guard.old { waiters = with_want want false guard.old.waiters } }
     {
