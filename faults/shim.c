@@ -33,6 +33,7 @@
 #include <sys/mman.h>
 #include <sys/socket.h>
 #include <sys/stat.h>
+#include <sys/uio.h>
 #include <time.h>
 #include <unistd.h>
 
@@ -210,6 +211,32 @@ ssize_t send(int socket, const void *octets, size_t length, int flags) {
     if (!strcmp(counted, "send") && fault(socket, count, &length, &answer))
         return answer;
     return real(socket, octets, length, flags);
+}
+
+/* A write of several pieces. Of one that is made short, the first piece that is not empty goes, as far as it may. */
+ssize_t sendmsg(int socket, const struct msghdr *message, int flags) {
+    static ssize_t (*real)(int, const struct msghdr *, int);
+    size_t whole = 0, length;
+    ssize_t answer;
+    if (!real)
+        real = dlsym(RTLD_NEXT, "sendmsg");
+    for (size_t at = 0; at < message->msg_iovlen; at++)
+        whole += message->msg_iov[at].iov_len;
+    length = whole;
+    long count = atomic_fetch_add(&sends, 1) + 1;
+    if (!strcmp(counted, "send") && fault(socket, count, &length, &answer))
+        return answer;
+    for (size_t at = 0; length < whole && at < message->msg_iovlen; at++) {
+        struct iovec piece = message->msg_iov[at];
+        struct msghdr less = *message;
+        if (!piece.iov_len)
+            continue;
+        piece.iov_len = piece.iov_len < length ? piece.iov_len : length;
+        less.msg_iov = &piece;
+        less.msg_iovlen = 1;
+        return real(socket, &less, flags);
+    }
+    return real(socket, message, flags);
 }
 
 int pthread_create(pthread_t *thread, const pthread_attr_t *how, void *(*run)(void *), void *with) {
