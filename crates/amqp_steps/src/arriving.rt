@@ -238,6 +238,14 @@ pub fn session_heard(mut session: Session, expected: Option<u32>) -> Session
     session
 }
 
+/// The session once a transfer was passed over, on a link that we have left: it counts in the window as any other (part 2, 2.5.6).
+pub fn session_passed(session: Session, expected: Option<u32>) -> Session
+    requires { 0 < session.windows.incoming }
+    ensures { result ≡ record session { windows = windows_received session.windows; expected = expected } }
+{
+    session_heard(session, expected)
+}
+
 /// The marks of a link once the peer has begun a delivery.
 pub fn marks_first(l: &Link) -> Marks
     ensures marks { 0 < l.now.credit.credit → with_marks result l.now ≡ record l.now { credit = delivery_begun l.now.credit } }

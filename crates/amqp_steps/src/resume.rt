@@ -50,8 +50,7 @@ pub fn is_sent_anew(verdict: Verdict) -> bool
     ensures { result ≡ sent_anew verdict }
 {
     match verdict {
-        Verdict::Unclear => false,
-        Verdict::Absent => false,
+        Verdict::Unclear | Verdict::Absent => false,
         Verdict::Partial => true,
         Verdict::Held => true,
         Verdict::Outcome => true,

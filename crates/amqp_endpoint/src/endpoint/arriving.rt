@@ -12,7 +12,7 @@ use amqp_links::link::Link;
 use amqp_performatives::copying::copy_state;
 use amqp_steps::arriving::{
     Arriving, arrived_done, begins_unsettled, brought_in, change_of, is_resumed, item_of,
-    marks_first, one_past, passed_expected, piece_of, pieces, session_heard,
+    marks_first, one_past, passed_expected, piece_of, pieces, session_heard, session_passed,
 };
 use amqp_steps::done::{Done, quiet_done};
 use amqp_types::Items;
@@ -98,7 +98,7 @@ impl Endpoint {
         ensures done { result ≡ record { reply = plan_reply (passed_plan self.old expected) self.old; octets = None; given = Given.Nothing } }
         ensures next { self.new ≡ planned self.old (passed_plan self.old expected) }
     {
-        let session = session_heard(self.session, expected);
+        let session = session_passed(self.session, expected);
         self.steps += 1;
         self.session = session;
         quiet_done(self.alloc, Given::Nothing, Given::Nothing)
