@@ -1,10 +1,11 @@
 #!/usr/bin/python3
-"""One end by Qpid Proton, for live/run: peer.py send|receive listen|connect PORT COUNT SIZE OUTCOME [--settled] [--labelled] [--late] [--small] [--drain].
+"""One end by Qpid Proton, for live/run: peer.py send|receive listen|connect PORT COUNT SIZE OUTCOME [--settled] [--labelled] [--late] [--idle N] [--small]
+[--drain].
 
 It sends or takes COUNT messages of SIZE octets, tells the outcome (accept, release, reject, modify) of each that it takes, and
 prints one line: how many it had, or was told to be accepted. With --labelled its messages are durable and have properties, and
-those that it takes count where they have the same. With --late it wants to hear something each second, and sends after
-three. With --small it takes no frame of more than 512 octets. With --drain it drains as one that takes, and prints how many messages
+those that it takes count where they have the same. With --late it sends, or gives credit, after three seconds. With --idle it wants to hear something
+within N seconds. With --small it takes no frame of more than 512 octets. With --drain it drains as one that takes, and prints how many messages
 it had when all credit was used up or given up.
 """
 import sys
@@ -24,6 +25,7 @@ class End(MessagingHandler):
         self.count, self.size, self.is_settled = int(count), int(size), "--settled" in words
         self.is_labelled, self.is_late, self.is_small = "--labelled" in words, "--late" in words, "--small" in words
         self.is_draining = "--drain" in words
+        self.idle = float(words[words.index("--idle") + 1]) if "--idle" in words else None
         self.begun = self.done = 0
         self.drained = None
         self.acceptor = None
@@ -41,26 +43,32 @@ class End(MessagingHandler):
             event.container.create_receiver(connection, "q", options=how)
 
     def on_connection_bound(self, event):
-        if self.is_late:
-            event.transport.idle_timeout = 1
+        if self.idle:
+            event.transport.idle_timeout = self.idle
         if self.is_small:
             event.transport.max_frame_size = 512
 
     def on_link_opened(self, event):
         if event.link.is_receiver and self.is_draining:
             event.link.drain(10)
+        elif event.link.is_receiver and self.is_late:
+            self.late = event.link
+            event.container.schedule(3, self)
         elif event.link.is_receiver:
             event.link.flow(10)
 
     def on_sendable(self, event):
         if self.is_late:
-            self.is_late, self.sender = False, event.sender
+            self.is_late, self.late = False, event.sender
             event.container.schedule(3, self)
         else:
             self.send(event.sender)
 
     def on_timer_task(self, event):
-        self.send(self.sender)
+        if self.role == "send":
+            self.send(self.late)
+        else:
+            self.late.flow(10)
 
     def on_link_flow(self, event):
         if event.link.is_receiver and self.is_draining and not event.link.draining():
@@ -100,6 +108,9 @@ class End(MessagingHandler):
     def on_connection_closing(self, event):
         if self.acceptor:
             self.acceptor.close()
+
+    def on_disconnected(self, event):
+        self.on_connection_closing(event)
 
 
 end = End(sys.argv[1:])

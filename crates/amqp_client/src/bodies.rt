@@ -1,4 +1,4 @@
-//! Messages to be sent: so many of one size, or the lines of an input.
+//! Messages to be sent: so many of one size, or of one file, or the lines of an input.
 use crate::exchange::{Exchange, ExchangeFault};
 use amqp_conn::{Bytes, Text, Value};
 use amqp_messages::{Header, Message, Properties, Section, SectionKind, write_message};
@@ -215,18 +215,24 @@ pub(crate) struct Bodies<'a> {
 }
 
 impl<'a> Bodies<'a> {
-    /// The messages of this exchange.
+    /// The messages of this exchange, with these octets of its file.
     ///
     /// # Errors
     ///
     /// `NotWritable` and `NoMemory`.
-    pub(crate) fn new(alloc: Global, exchange: &Exchange<'a>) -> Result<Bodies<'a>, ExchangeFault> {
+    pub(crate) fn new(
+        alloc: Global,
+        exchange: &Exchange<'a>,
+        file: Option<Vec<u8>>,
+    ) -> Result<Bodies<'a>, ExchangeFault> {
         let labels = exchange.labels;
-        let same = if exchange.is_lines {
-            None
-        } else {
-            let body = shared(vec![in alloc; 0x78u8; exchange.size as usize]?)?;
-            Some(message_of(alloc, &labels, body)?)
+        let same = match file {
+            Some(octets) => Some(message_of(alloc, &labels, shared(octets)?)?),
+            None if exchange.is_lines => None,
+            None => {
+                let body = shared(vec![in alloc; 0x78u8; exchange.size as usize]?)?;
+                Some(message_of(alloc, &labels, body)?)
+            }
         };
         Ok(Bodies {
             alloc,

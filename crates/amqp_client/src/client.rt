@@ -10,7 +10,7 @@ use std::io::{ErrorKind, Read, Write};
 
 /// One end of a connection over a reader and a writer, for a program that does one thing after the other. Its journal's entries are let go as it goes on.
 ///
-/// A read may end with `WouldBlock` or `TimedOut` where nothing came for a [`TICK`](crate::TICK): such reads are the clock by which a beat is sent (part 2,
+/// A read may end with `WouldBlock`, `TimedOut` or `Interrupted` where nothing came for a [`TICK`](crate::TICK): such reads are the clock by which a beat is sent (part 2,
 /// 2.4.5) and a silent peer is left.
 #[derive(Drop)]
 pub struct Client<R, W> {
@@ -136,13 +136,16 @@ impl<R: Read, W: Write> Client<R, W> {
         }
     }
 
-    /// Whether the read that failed ended since nothing came.
+    /// Whether the read that failed ended since nothing came, or the program had stood still.
     fn has_waited(&mut self) -> bool {
         match self.source.take_error() {
             Some(error) => {
                 let kind = error.kind();
                 drop(error);
-                kind == ErrorKind::WouldBlock || kind == ErrorKind::TimedOut
+                matches!(
+                    kind,
+                    ErrorKind::WouldBlock | ErrorKind::TimedOut | ErrorKind::Interrupted
+                )
             }
             None => false,
         }

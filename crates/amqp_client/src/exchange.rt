@@ -3,16 +3,18 @@ use crate::bodies::{Bodies, Labels};
 use crate::client::Client;
 use crate::fault::ClientFault;
 use crate::printing::{Printed, write_taken};
+use crate::progress::{Progress, Watch};
 use crate::sending::Outcomes;
 use crate::traced::Traced;
 use crate::waits::TICK;
 use amqp_conn::{AmqpError, Boxed, Config, Conn, DeliveryState, Role, Taken, Text, error_of};
 use amqp_trace::{Direction, Tracer};
 use std::alloc::{AllocError, Global};
-use std::io;
 use std::io::{BufRead, Read, Write};
 use std::net::{Net, OpenListener, TcpListener, TcpStream};
+use std::rt::{Clock, Files};
 use std::time::Duration;
+use std::{fs, io};
 use thiserror::Error;
 
 /// So many messages are sent before it is learnt what became of them.
@@ -35,8 +37,10 @@ pub struct Exchange<'a> {
     pub count: u32,
     /// A peer of which nothing comes for so many seconds is left; none: it is waited for.
     pub patience: Option<u32>,
-    /// The octets of a message's body, for `send`, but where `is_lines`.
+    /// The octets of a message's body, for `send`, but where `is_lines` or a `file`.
     pub size: u32,
+    /// The file that is each message's body, for `send`.
+    pub file: Option<&'a str>,
     /// Each line of the input is a message, for `send`.
     pub is_lines: bool,
     /// What each message tells beside its body, for `send`.
@@ -51,6 +55,8 @@ pub struct Exchange<'a> {
     pub printed: Printed,
     /// Each frame is told on standard error.
     pub is_traced: bool,
+    /// It is not told on standard error how far it is; nor is it where frames are, or something is printed of each message.
+    pub is_quiet: bool,
 }
 
 /// When `receive` gives credit.
@@ -90,6 +96,8 @@ pub enum ExchangeFault {
     Client(ClientFault),
     #[error("a line cannot be read: {0}")]
     In(io::Error),
+    #[error("the file cannot be read: {0}")]
+    File(io::Error),
     #[error("a message cannot be written: it is too long, or its content-type is not of ASCII")]
     NotWritable,
     #[error("a write failed: {0}")]
@@ -122,7 +130,7 @@ type Told<'a, E> = Client<Traced<'a, TcpStream, E>, Traced<'a, TcpStream, E>>;
 ///
 /// # Errors
 ///
-/// Where a socket fails or the peer ends, an operation is refused, memory is, or a line cannot be read or written. What error the peer told is told in a line
+/// Where a socket fails or the peer ends, an operation is refused, memory is, or a line or the file cannot be read, or a line written. What error the peer told is told in a line
 /// before.
 pub fn run_send<R, I: BufRead, W: Write>(
     rt: &R,
@@ -132,10 +140,13 @@ pub fn run_send<R, I: BufRead, W: Write>(
     out: &mut W,
 ) -> Result<bool, ExchangeFault>
 where
-    R: Net<Stream = TcpStream> + Eprint,
+    R: AllocGlobal + Net<Stream = TcpStream> + Eprint + Clock + Files,
 {
+    let file = file_of(rt, exchange.file)?;
     let mut client = meet(rt, alloc, exchange)?;
-    let sent = send_all(alloc, &mut client, exchange, input);
+    let mut progress = Progress::new(rt, is_told(exchange), wanted_of(exchange));
+    let sent = send_all(alloc, &mut client, exchange, file, input, &mut progress);
+    progress.end();
     let told = tell_error(out, &client, sent.is_err());
     drop(client);
     told.map_err(ExchangeFault::Out)?;
@@ -157,10 +168,12 @@ pub fn run_receive<R, W: Write>(
     out: &mut W,
 ) -> Result<bool, ExchangeFault>
 where
-    R: Net<Stream = TcpStream> + Eprint,
+    R: Net<Stream = TcpStream> + Eprint + Clock,
 {
     let mut client = meet(rt, alloc, exchange)?;
-    let received = receive_all(alloc, &mut client, exchange, out);
+    let mut progress = Progress::new(rt, is_told(exchange), wanted_of(exchange));
+    let received = receive_all(alloc, &mut client, exchange, out, &mut progress);
+    progress.end();
     let told = tell_error(out, &client, received.is_err());
     drop(client);
     told.map_err(ExchangeFault::Out)?;
@@ -171,6 +184,31 @@ where
         return Err(ExchangeFault::Unsettled(received.unsettled));
     }
     Ok(received.unsettled == 0)
+}
+
+/// The octets of the file, if there is one.
+fn file_of<R: AllocGlobal + Files>(
+    rt: &R,
+    file: Option<&str>,
+) -> Result<Option<Vec<u8>>, ExchangeFault> {
+    match file {
+        Some(path) => Ok(Some(fs::read(rt, path).map_err(ExchangeFault::File)?)),
+        None => Ok(None),
+    }
+}
+
+/// How far it is is told.
+fn is_told(exchange: &Exchange<'_>) -> bool {
+    !exchange.is_quiet && !exchange.is_traced && matches!(exchange.printed, Printed::Nothing)
+}
+
+/// How many messages there are to be; none: lines say that.
+fn wanted_of(exchange: &Exchange<'_>) -> Option<u32> {
+    if exchange.is_lines {
+        None
+    } else {
+        Some(exchange.count)
+    }
 }
 
 /// Nothing is printed beside it.
@@ -359,29 +397,33 @@ fn begin<R: Read, W: Write>(
     Ok(client.open(&name, role, &address)?)
 }
 
-/// Sends all messages over this end, learns what became of each, and ends link, session and connection.
+/// Sends all messages over this end, each with these octets of a file as its body, where there are some, learns what became of each, and ends link, session and
+/// connection.
 ///
 /// # Errors
 ///
 /// Where the peer ends, an operation is refused, a line cannot be read, a message cannot be written, or memory is refused.
-pub fn send_all<R: Read, W: Write, I: BufRead>(
+pub fn send_all<R: Read, W: Write, I: BufRead, P: Watch>(
     alloc: Global,
     client: &mut Client<R, W>,
     exchange: &Exchange<'_>,
+    file: Option<Vec<u8>>,
     input: &mut I,
+    watch: &mut P,
 ) -> Result<Sent, ExchangeFault> {
-    let mut bodies = Bodies::new(alloc, exchange)?;
-    let sent = send_bodies(alloc, client, exchange, &mut bodies, input);
+    let mut bodies = Bodies::new(alloc, exchange, file)?;
+    let sent = send_bodies(alloc, client, exchange, &mut bodies, input, watch);
     drop(bodies);
     sent
 }
 
-fn send_bodies<R: Read, W: Write, I: BufRead>(
+fn send_bodies<R: Read, W: Write, I: BufRead, P: Watch>(
     alloc: Global,
     client: &mut Client<R, W>,
     exchange: &Exchange<'_>,
     bodies: &mut Bodies<'_>,
     input: &mut I,
+    watch: &mut P,
 ) -> Result<Sent, ExchangeFault> {
     begin(alloc, client, exchange, Role::Sender)?;
     let mut sent = Sent {
@@ -389,7 +431,7 @@ fn send_bodies<R: Read, W: Write, I: BufRead>(
         outcomes: Outcomes::NONE,
     };
     for first in (0..u32::MAX).step_by(BATCH as usize) {
-        let count = send_batch(client, exchange, bodies, input, first)?;
+        let count = send_batch(client, exchange, bodies, input, first, watch)?;
         if count < BATCH {
             client.give_up();
         }
@@ -406,18 +448,20 @@ fn send_bodies<R: Read, W: Write, I: BufRead>(
 }
 
 /// Sends messages from this number on, `BATCH` at most: how many. Fewer are the last ones.
-fn send_batch<R: Read, W: Write, I: BufRead>(
+fn send_batch<R: Read, W: Write, I: BufRead, P: Watch>(
     client: &mut Client<R, W>,
     exchange: &Exchange<'_>,
     bodies: &mut Bodies<'_>,
     input: &mut I,
     first: u32,
+    watch: &mut P,
 ) -> Result<u32, ExchangeFault> {
     for place in 0..BATCH {
         let number = first.saturating_add(place);
         if !send_next(client, exchange, bodies, input, number)? {
             return Ok(place);
         }
+        watch.note(u64::from(number).saturating_add(1));
     }
     Ok(BATCH)
 }
@@ -483,11 +527,12 @@ fn is_new(known: &mut [bool], place: u32) -> bool {
 /// # Errors
 ///
 /// Where the peer ends, an operation is refused, a write fails, or memory is refused.
-pub fn receive_all<R: Read, W: Write, O: Write>(
+pub fn receive_all<R: Read, W: Write, O: Write, P: Watch>(
     alloc: Global,
     client: &mut Client<R, W>,
     exchange: &Exchange<'_>,
     out: &mut O,
+    watch: &mut P,
 ) -> Result<Received, ExchangeFault> {
     begin(alloc, client, exchange, Role::Receiver)?;
     let mut received = Received {
@@ -496,36 +541,39 @@ pub fn receive_all<R: Read, W: Write, O: Write>(
         unsettled: 0,
     };
     match exchange.renewal {
-        Renewal::Drain => drain_all(alloc, client, exchange, &mut received, out)?,
-        _ => take_all(alloc, client, exchange, &mut received, out)?,
+        Renewal::Drain => drain_all(alloc, client, exchange, &mut received, out, watch)?,
+        _ => take_all(alloc, client, exchange, &mut received, out, watch)?,
     }
     client.finish()?;
     Ok(received)
 }
 
 /// Takes as many messages as are asked for.
-fn take_all<R: Read, W: Write, O: Write>(
+fn take_all<R: Read, W: Write, O: Write, P: Watch>(
     alloc: Global,
     client: &mut Client<R, W>,
     exchange: &Exchange<'_>,
     received: &mut Received,
     out: &mut O,
+    watch: &mut P,
 ) -> Result<(), ExchangeFault> {
     for number in 0..exchange.count {
         renew(client, exchange, exchange.count.saturating_sub(number))?;
         let taken = client.take()?;
         accept(alloc, client, exchange.printed, taken, received, out)?;
+        watch.note(received.count);
     }
     Ok(())
 }
 
 /// Takes messages until the peer has no more, or there were as many as are asked for.
-fn drain_all<R: Read, W: Write, O: Write>(
+fn drain_all<R: Read, W: Write, O: Write, P: Watch>(
     alloc: Global,
     client: &mut Client<R, W>,
     exchange: &Exchange<'_>,
     received: &mut Received,
     out: &mut O,
+    watch: &mut P,
 ) -> Result<(), ExchangeFault> {
     let mut given = 0;
     for _ in 0..exchange.count {
@@ -535,6 +583,7 @@ fn drain_all<R: Read, W: Write, O: Write>(
             None if last_error(client.conn()).is_some() => return Err(ClientFault::Ended.into()),
             None => return Ok(()),
         }
+        watch.note(received.count);
     }
     Ok(())
 }

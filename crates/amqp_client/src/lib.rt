@@ -7,10 +7,11 @@
 //! | `sending` | messages go out, and what became of each is learnt ([`Outcomes`]) |
 //! | `receiving` | messages are taken, and settled |
 //! | `waits` | how long a peer is waited for, and when it is sent a beat |
-//! | `bodies` | messages to be sent: so many of one size, or lines |
+//! | `bodies` | messages to be sent: so many of one size or of one file, or lines |
 //! | `printing`, `json` | messages that were taken, as text and as JSON |
 //! | `ending` | link, session and connection end, each as agreed |
 //! | `traced` | devices of which it is told what goes over them |
+//! | `progress` | how far an exchange is ([`Watch`]) |
 //! | `exchange` | the commands `send` and `receive`, over TCP |
 //! | `fault` | why a client stops |
 //!
@@ -25,6 +26,7 @@ mod fault;
 mod json;
 mod opening;
 mod printing;
+mod progress;
 mod receiving;
 mod sending;
 mod traced;
@@ -35,5 +37,6 @@ pub use bodies::Labels;
 pub use client::Client;
 pub use fault::ClientFault;
 pub use printing::Printed;
+pub use progress::{Unwatched, Watch};
 pub use sending::{Outcome, Outcomes, Told};
 pub use waits::TICK;

@@ -40,6 +40,27 @@ pub enum Request<'a> {
     Serve(Serve<'a>),
 }
 
+impl<'a> Request<'a> {
+    /// The same, and it is not told how far it is.
+    pub fn quiet(self) -> Request<'a>
+        requires { IsAllowed self }
+        ensures { IsAllowed result }
+    {
+        match self {
+            Request::Send(exchange) => Request::Send(quiet(exchange)),
+            Request::Receive(exchange) => Request::Receive(quiet(exchange)),
+            request => request,
+        }
+    }
+}
+
+fn quiet(exchange: Exchange<'_>) -> Exchange<'_> {
+    Exchange {
+        is_quiet: true,
+        ..exchange
+    }
+}
+
 /// What the words ask for, the first of which is the program's name. The error holds what is to be told: a fault of
 /// the words, or the help that they asked for.
 pub fn read_request<'a, S: AsStr>(alloc: Global, words: &'a [S]) -> Result<Request<'a>, Error>

@@ -14,7 +14,7 @@ use anyhow::bail;
 use clap::error::ErrorKind;
 use std::io::{BufRead, Write};
 use std::net::{Net, TcpStream};
-use std::rt::Clock;
+use std::rt::{Clock, Files};
 use std::sync::Wait;
 use std::thread::Threads;
 
@@ -35,7 +35,7 @@ pub fn answer<H, R: BufRead, W: Write>(
     writer: &mut W,
 ) -> anyhow::Result<u8>
 where
-    H: AllocGlobal + Eprint + Clock + Net<Stream = TcpStream> + Threads + Wait + Sync,
+    H: AllocGlobal + Eprint + Clock + Files + Net<Stream = TcpStream> + Threads + Wait + Sync,
     requires { IsAllowed request }
 {
     let alloc = rt.alloc();

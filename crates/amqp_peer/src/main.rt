@@ -33,16 +33,16 @@ use command_line::{Request, read_request};
 use commands::{FAULT, answer, status_of_words};
 use rows::run_rows;
 use std::env::Env;
-use std::io::{BufReader, BufWriter};
+use std::io::{BufReader, BufWriter, IsTerminal};
 use std::net::{Net, TcpStream};
 use std::process::ExitCode;
-use std::rt::Clock;
+use std::rt::{Clock, Files};
 use std::sync::Wait;
 use std::thread::Threads;
 use std::{env, io};
 
 fn main(rt: HostRuntime) -> ExitCode {
-    match run(&rt) {
+    match run(&rt, rt.stderr().is_terminal()) {
         Ok(status) => ExitCode::from(status),
         Err(fault) => {
             // A fault that cannot be told still has its status.
@@ -52,7 +52,8 @@ fn main(rt: HostRuntime) -> ExitCode {
     }
 }
 
-fn run<R>(rt: &R) -> anyhow::Result<u8>
+/// Does what the words ask for; how far it is is told on standard error where that is looked at.
+fn run<R>(rt: &R, is_looked_at: bool) -> anyhow::Result<u8>
 where
     R: AllocGlobal
         + Env
@@ -60,6 +61,7 @@ where
         + Print
         + Eprint
         + Clock
+        + Files
         + Net<Stream = TcpStream>
         + Threads
         + Wait
@@ -67,7 +69,14 @@ where
 {
     let words: Vec<String> = env::args(rt)?.collect(rt.alloc())?;
     match read_request(rt.alloc(), words.as_slice()) {
-        Ok(request) => do_request(rt, request),
+        Ok(request) => {
+            let request = if is_looked_at {
+                request
+            } else {
+                request.quiet()
+            };
+            do_request(rt, request)
+        }
         Err(error) => {
             error.print(rt)?;
             Ok(status_of_words(&error))
@@ -83,6 +92,7 @@ where
         + Print
         + Eprint
         + Clock
+        + Files
         + Net<Stream = TcpStream>
         + Threads
         + Wait

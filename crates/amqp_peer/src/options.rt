@@ -119,11 +119,20 @@ pub fn send<'a>(alloc: Global) -> Result<Command<'a>, AllocError> {
     )?
     .arg(usual(alloc, "size", "The octets of a message's body", "16"))?
     .arg(flag(alloc, "lines", "Each line of standard input is a message"))?
+    .arg(file(alloc)?)?
     .arg(flag(
         alloc,
         "settled",
         "The messages go settled: nothing is told of them",
     ))
+}
+
+fn file<'a>(alloc: Global) -> Result<Arg<'a>, AllocError> {
+    Arg::new(alloc, "file")
+        .long("file")
+        .value_name("PATH")
+        .help("The octets of this file are each message's body")
+        .conflicts_with("lines")
 }
 
 /// The command, with the options that say what each message tells beside its body.
@@ -216,6 +225,7 @@ fn with_peer<'a>(alloc: Global, command: Command<'a>) -> Result<Command<'a>, All
         .arg(text(alloc, "container-id", "This end's name", "amqp_peer"))?
         .arg(max_frame(alloc))?
         .arg(flag(alloc, "trace", "Tells each frame on standard error"))?
+        .arg(flag(alloc, "quiet", "Does not tell how far it is"))?
         .arg(count.value_parser(value_parser!(u32).range(1..)))
 }
 
@@ -281,6 +291,7 @@ fn usual<'a>(
 pub fn send_of<'a>(options: &ArgMatches<'a>) -> Option<Exchange<'a>> {
     Some(Exchange {
         size: options.get_one::<u32>("size")?,
+        file: options.get_str("file"),
         is_lines: options.get_flag("lines"),
         labels: labels_of(options),
         is_settled: options.get_flag("settled"),
@@ -321,6 +332,7 @@ fn exchange_of<'a>(options: &ArgMatches<'a>) -> Option<Exchange<'a>> {
         count: options.get_one::<u32>("count")?,
         patience: options.get_one::<u32>("timeout"),
         size: 0,
+        file: None,
         is_lines: false,
         labels: Labels::NONE,
         is_settled: false,
@@ -328,6 +340,7 @@ fn exchange_of<'a>(options: &ArgMatches<'a>) -> Option<Exchange<'a>> {
         renewal: Renewal::AtZero,
         printed: Printed::Nothing,
         is_traced: options.get_flag("trace"),
+        is_quiet: options.get_flag("quiet"),
     })
 }
 

@@ -17,7 +17,7 @@ use clap::Error;
 use fake::{GivenInput, KeptOutput};
 use std::io::{BufRead, BufReader, Write};
 use std::net::{Net, TcpStream};
-use std::rt::Clock;
+use std::rt::{Clock, Files};
 use std::sync::Wait;
 use std::thread::Threads;
 
@@ -29,7 +29,7 @@ pub fn run_rows<H, R: BufRead, W: Write>(
     writer: &mut W,
 ) -> anyhow::Result<u8>
 where
-    H: AllocGlobal + Eprint + Clock + Net<Stream = TcpStream> + Threads + Wait + Sync,
+    H: AllocGlobal + Eprint + Clock + Files + Net<Stream = TcpStream> + Threads + Wait + Sync,
 {
     let mut cases = Cases::new(rt.alloc());
     take_lines(rt.alloc(), &mut cases, reader, writer)?;
@@ -43,7 +43,7 @@ where
 
 fn run_cases<H, W: Write>(rt: &H, cases: &[Case], writer: &mut W) -> anyhow::Result<u8>
 where
-    H: AllocGlobal + Eprint + Clock + Net<Stream = TcpStream> + Threads + Wait + Sync,
+    H: AllocGlobal + Eprint + Clock + Files + Net<Stream = TcpStream> + Threads + Wait + Sync,
 {
     let mut rows: usize = 0;
     let mut differ: usize = 0;
@@ -58,7 +58,7 @@ where
 /// How many rows of the case are answered otherwise than it wants.
 fn run_case<H, W: Write>(rt: &H, case: &Case, writer: &mut W) -> anyhow::Result<usize>
 where
-    H: AllocGlobal + Eprint + Clock + Net<Stream = TcpStream> + Threads + Wait + Sync,
+    H: AllocGlobal + Eprint + Clock + Files + Net<Stream = TcpStream> + Threads + Wait + Sync,
 {
     let mut differ: usize = 0;
     for row in case.rows.as_slice() {
@@ -73,7 +73,7 @@ where
 /// same.
 fn run_row<H, W: Write>(rt: &H, case: &Case, row: &Row, writer: &mut W) -> anyhow::Result<bool>
 where
-    H: AllocGlobal + Eprint + Clock + Net<Stream = TcpStream> + Threads + Wait + Sync,
+    H: AllocGlobal + Eprint + Clock + Files + Net<Stream = TcpStream> + Threads + Wait + Sync,
 {
     let words = row.words.as_str();
     let had = answer_words(rt, case, words, row.is_run)?;
@@ -112,7 +112,7 @@ fn tell<W: Write>(case: &Case, words: &str, had: &Answer, writer: &mut W) -> any
 /// What the words are answered, which are run or only read.
 fn answer_words<H>(rt: &H, case: &Case, words: &str, is_run: bool) -> anyhow::Result<Answer>
 where
-    H: AllocGlobal + Eprint + Clock + Net<Stream = TcpStream> + Threads + Wait + Sync,
+    H: AllocGlobal + Eprint + Clock + Files + Net<Stream = TcpStream> + Threads + Wait + Sync,
 {
     let mut line: Vec<&str> = Vec::new(rt.alloc());
     line.push("amqp_peer")?;
@@ -154,7 +154,7 @@ fn refuse<H: AllocGlobal>(rt: &H, error: &Error) -> anyhow::Result<Answer> {
 /// What a run answers. What makes it fail stands behind that.
 fn answer_request<H>(rt: &H, case: &Case, request: Request<'_>) -> anyhow::Result<Answer>
 where
-    H: AllocGlobal + Eprint + Clock + Net<Stream = TcpStream> + Threads + Wait + Sync,
+    H: AllocGlobal + Eprint + Clock + Files + Net<Stream = TcpStream> + Threads + Wait + Sync,
     requires { IsAllowed request }
 {
     let input = GivenInput::new(case.input.as_slice(), case.fails);

@@ -78,6 +78,8 @@ fn heard_of(given: &Given) -> Heard {
         Given::Offered(link) => Heard::Offered(*link),
         Given::Ready(link, _) => Heard::Ready(*link),
         Given::Gone(link) => Heard::Gone(*link),
+        // A link that its peer puts aside comes back as one of its own.
+        Given::Parted(link, _) => Heard::Gone(*link),
         _ => Heard::Other,
     }
 }

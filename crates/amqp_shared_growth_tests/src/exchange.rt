@@ -4,7 +4,7 @@ use crate::octets::{DELIVERED, TOLD};
 use amqp_client::exchange::{
     Exchange, Received, Renewal, Sent, client_over, receive_all, send_all,
 };
-use amqp_client::{Client, Labels, Outcomes, Printed};
+use amqp_client::{Client, Labels, Outcomes, Printed, Unwatched};
 use amqp_conn::{Config, Text};
 use amqp_pair::connected;
 use std::alloc::Global;
@@ -24,6 +24,7 @@ const ONE: Exchange<'static> = Exchange {
     count: 1,
     patience: None,
     size: 0,
+    file: None,
     is_lines: false,
     labels: Labels::NONE,
     is_settled: false,
@@ -31,6 +32,7 @@ const ONE: Exchange<'static> = Exchange {
     renewal: Renewal::AtZero,
     printed: Printed::Nothing,
     is_traced: false,
+    is_quiet: true,
 };
 
 /// Three messages, two at a time.
@@ -50,7 +52,14 @@ fn sent(alloc: Global, stream: TcpStream, exchange: &Exchange<'_>) -> Option<Sen
         return None;
     };
     let mut input: &[u8] = &[];
-    let answer = send_all(alloc, &mut client, exchange, &mut input);
+    let answer = send_all(
+        alloc,
+        &mut client,
+        exchange,
+        None,
+        &mut input,
+        &mut Unwatched,
+    );
     drop(client);
     match answer {
         Ok(sent) => Some(sent),
@@ -62,7 +71,7 @@ fn received(alloc: Global, stream: TcpStream, exchange: &Exchange<'_>) -> Option
     let Ok(mut client) = client_over(alloc, stream, exchange) else {
         return None;
     };
-    let answer = receive_all(alloc, &mut client, exchange, &mut sink());
+    let answer = receive_all(alloc, &mut client, exchange, &mut sink(), &mut Unwatched);
     drop(client);
     match answer {
         Ok(received) => Some(received),
@@ -164,7 +173,7 @@ fn sent_to(alloc: Global, second: usize) -> Option<Sent> {
         ..ONE
     };
     let mut input: &[u8] = b"x\ny";
-    let answer = send_all(alloc, &mut client, &lines, &mut input);
+    let answer = send_all(alloc, &mut client, &lines, None, &mut input, &mut Unwatched);
     drop(client);
     match answer {
         Ok(sent) => Some(sent),
@@ -174,7 +183,7 @@ fn sent_to(alloc: Global, second: usize) -> Option<Sent> {
 
 fn received_from(alloc: Global, second: usize) -> Option<Received> {
     let mut client = fed(alloc, &DELIVERED, 96, second)?;
-    let answer = receive_all(alloc, &mut client, &ONE, &mut sink());
+    let answer = receive_all(alloc, &mut client, &ONE, &mut sink(), &mut Unwatched);
     drop(client);
     match answer {
         Ok(received) => Some(received),

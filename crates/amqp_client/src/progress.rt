@@ -1,0 +1,86 @@
+//! How far an exchange is.
+use std::rt::Clock;
+use std::time::Instant;
+
+/// How long it is until more is told, in milliseconds.
+const PAUSE: u64 = 500;
+
+/// Is told how far an exchange is.
+pub trait Watch {
+    /// So many messages were sent, or taken, until now.
+    fn note(&mut self, count: u64);
+}
+
+/// Nobody looks.
+#[derive(Clone, Copy, Debug)]
+pub struct Unwatched;
+
+impl Watch for Unwatched {
+    fn note(&mut self, _count: u64) {}
+}
+
+/// How far it is as a line on standard error, which is written over again. One that cannot be written is left out.
+#[derive(Clone, Copy)]
+pub(crate) struct Progress<'a, E> {
+    rt: &'a E,
+    /// None: nothing is told.
+    begun: Option<Instant>,
+    /// How many messages there are to be; none: that is not known.
+    wanted: Option<u32>,
+    /// When a line was written last, in milliseconds from then on; 0: none was.
+    told: u64,
+}
+
+impl<'a, E: Eprint + Clock> Progress<'a, E> {
+    pub(crate) fn new(rt: &'a E, is_told: bool, wanted: Option<u32>) -> Progress<'a, E> {
+        let begun = if is_told { Instant::now(rt).ok() } else { None };
+        Progress {
+            rt,
+            begun,
+            wanted,
+            told: 0,
+        }
+    }
+
+    /// How long it has taken, in milliseconds; none where nothing is told.
+    fn passed(&self) -> Option<u64> {
+        let passed = self.begun?.elapsed(self.rt).ok()?;
+        Some(
+            passed
+                .as_secs()
+                .saturating_mul(1000)
+                .saturating_add(u64::from(passed.subsec_millis())),
+        )
+    }
+
+    fn tell(&self, count: u64, passed: u64) {
+        let rate = count.saturating_mul(1000) / passed.max(1);
+        match self.wanted {
+            Some(wanted) => {
+                let left = u64::from(wanted).saturating_sub(count);
+                let _ = eprint!(self.rt; "\r{count} messages, {rate} a second, {left} left  ");
+            }
+            None => {
+                let _ = eprint!(self.rt; "\r{count} messages, {rate} a second  ");
+            }
+        }
+    }
+
+    /// Nothing more is told: where a line was written it ends.
+    pub(crate) fn end(&self) {
+        if self.told != 0 {
+            let _ = eprintln!(self.rt;);
+        }
+    }
+}
+
+impl<E: Eprint + Clock> Watch for Progress<'_, E> {
+    fn note(&mut self, count: u64) {
+        if let Some(passed) = self.passed() {
+            if passed >= self.told.saturating_add(PAUSE) {
+                self.tell(count, passed);
+                self.told = passed;
+            }
+        }
+    }
+}
