@@ -1,7 +1,7 @@
 //! The command `bench`, with the commands `codec`, `session` and `sockets` under it and their options. Each option is made where it is added: one that is owned over
 //! the way out of another costs its proof there.
 
-use crate::options::number;
+use crate::options::{number, with};
 use amqp_bench::{Bench, Ends, Messages, SHORT_RUN, Sockets};
 use clap::{Arg, ArgMatches, Command, value_parser};
 use std::alloc::{AllocError, Global};
@@ -16,11 +16,10 @@ const MANY: u32 = 2147483647;
 pub fn bench<'a>(alloc: Global) -> Result<Command<'a>, AllocError> {
     let about =
         "Measures frames, and messages over a session in memory and over sockets; with no command under it a short run of all three";
-    Command::new(alloc, "bench")
-        .about(about)
-        .subcommand(codec(alloc)?)?
-        .subcommand(session(alloc)?)?
-        .subcommand(sockets(alloc)?)
+    let command = Command::new(alloc, "bench").about(about);
+    let command = with(command, codec(alloc))?;
+    let command = with(command, session(alloc))?;
+    with(command, sockets(alloc))
 }
 
 /// What a `bench` is to measure.
@@ -45,13 +44,13 @@ pub fn bench_of(options: &ArgMatches<'_>) -> Bench {
 
 /// The messages that the options ask for. Where no range is named, a disposition names all deliveries that were taken.
 fn messages_of(options: &ArgMatches<'_>) -> Messages {
-    let number = |name: &str, other: u32| options.get_one::<u32>(name).unwrap_or(other);
+    let given = |name: &str, usual: u32| options.get_one::<u32>(name).unwrap_or(usual);
     Messages {
-        count: number("count", 100000),
-        size: number("size", 16),
-        settled: number("settled", 0) == 1,
-        credit: number("credit", 100),
-        range: number("range", u32::MAX),
+        count: given("count", 100000),
+        size: given("size", 16),
+        settled: given("settled", 0) == 1,
+        credit: given("credit", 100),
+        range: given("range", u32::MAX),
         keep: options.get_one::<u32>("keep"),
     }
 }

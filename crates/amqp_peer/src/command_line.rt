@@ -4,7 +4,9 @@ ghost use Rattle.amqp_peer.specs.Requests.{IsAllowed};
 
 use crate::bench_options::{bench, bench_of};
 use crate::options;
-use crate::options::{USUAL, config_of, direction_of, explained_of, receive_of, send_of, serve_of};
+use crate::options::{
+    USUAL, config_of, direction_of, explained_of, receive_of, send_of, serve_of, with,
+};
 use amqp_bench::Bench;
 use amqp_client::exchange::Exchange;
 use amqp_endpoint::config::Config;
@@ -137,20 +139,6 @@ fn program<'a>(alloc: Global) -> Result<Command<'a>, AllocError> {
     let command = command.subcommand(options::example(alloc))?;
     let command = with(command, bench(alloc))?;
     command.subcommand(options::rows(alloc))
-}
-
-/// The command with this one under it.
-fn with<'a>(
-    command: Command<'a>,
-    under: Result<Command<'a>, AllocError>,
-) -> Result<Command<'a>, AllocError> {
-    match under {
-        Ok(under) => command.subcommand(under),
-        Err(error) => {
-            drop(command);
-            Err(error)
-        }
-    }
 }
 
 fn pair<'a>(alloc: Global) -> Result<Command<'a>, AllocError> {

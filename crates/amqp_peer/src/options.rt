@@ -371,6 +371,20 @@ fn printed_of(options: &ArgMatches<'_>) -> Printed {
     }
 }
 
+/// The command with this one under it.
+pub fn with<'a>(
+    command: Command<'a>,
+    under: Result<Command<'a>, AllocError>,
+) -> Result<Command<'a>, AllocError> {
+    match under {
+        Ok(under) => command.subcommand(under),
+        Err(error) => {
+            drop(command);
+            Err(error)
+        }
+    }
+}
+
 /// An option whose value is a number between these.
 pub fn number<'a>(
     alloc: Global,
