@@ -7,6 +7,7 @@ use amqp_frames::{
 use amqp_types::Tag;
 use bytes::Bytes;
 use std::alloc::Global;
+use std::io::Write;
 use std::rt::Clock;
 use std::time::{Duration, Instant};
 
@@ -18,87 +19,127 @@ const BATCH: usize = 60000;
 
 /// Writes and reads each of the three frames so many times, or does one of the six alone: 1 a transfer written, 2 read, 3 and 4 a flow, 5 and 6
 /// a disposition.
-pub fn run_codec<R>(rt: &R, rounds: u32, part: Option<u32>) -> anyhow::Result<()>
+pub fn run_codec<R, W>(rt: &R, rounds: u32, part: Option<u32>, writer: &mut W) -> anyhow::Result<()>
 where
-    R: AllocGlobal + Print + Eprint + Clock,
+    R: AllocGlobal + Eprint + Clock,
+    W: Write,
 {
     let wanted = |number: u32| part.is_none() || part == Some(number);
-    measure_transfer(rt, rounds, wanted(1), wanted(2))?;
-    measure_flow(rt, rounds, wanted(3), wanted(4))?;
-    measure_disposition(rt, rounds, wanted(5), wanted(6))
+    measure_transfer(rt, rounds, wanted(1), wanted(2), writer)?;
+    measure_flow(rt, rounds, wanted(3), wanted(4), writer)?;
+    measure_disposition(rt, rounds, wanted(5), wanted(6), writer)
 }
 
-fn measure_transfer<R>(rt: &R, rounds: u32, writes: bool, reads: bool) -> anyhow::Result<()>
+fn measure_transfer<R, W>(
+    rt: &R,
+    rounds: u32,
+    writes: bool,
+    reads: bool,
+    writer: &mut W,
+) -> anyhow::Result<()>
 where
-    R: AllocGlobal + Print + Eprint + Clock,
+    R: AllocGlobal + Eprint + Clock,
+    W: Write,
 {
     let frame = transfer(rt.alloc())?;
-    let measured = measure(rt, "transfer", &frame, rounds, writes, reads);
+    let measured = measure(rt, "transfer", &frame, rounds, writes, reads, writer);
     drop(frame);
     measured
 }
 
-fn measure_flow<R>(rt: &R, rounds: u32, writes: bool, reads: bool) -> anyhow::Result<()>
+fn measure_flow<R, W>(
+    rt: &R,
+    rounds: u32,
+    writes: bool,
+    reads: bool,
+    writer: &mut W,
+) -> anyhow::Result<()>
 where
-    R: AllocGlobal + Print + Eprint + Clock,
+    R: AllocGlobal + Eprint + Clock,
+    W: Write,
 {
     let frame = flow();
-    let measured = measure(rt, "flow", &frame, rounds, writes, reads);
+    let measured = measure(rt, "flow", &frame, rounds, writes, reads, writer);
     drop(frame);
     measured
 }
 
-fn measure_disposition<R>(rt: &R, rounds: u32, writes: bool, reads: bool) -> anyhow::Result<()>
+fn measure_disposition<R, W>(
+    rt: &R,
+    rounds: u32,
+    writes: bool,
+    reads: bool,
+    writer: &mut W,
+) -> anyhow::Result<()>
 where
-    R: AllocGlobal + Print + Eprint + Clock,
+    R: AllocGlobal + Eprint + Clock,
+    W: Write,
 {
     let frame = disposition();
-    let measured = measure(rt, "disposition", &frame, rounds, writes, reads);
+    let measured = measure(rt, "disposition", &frame, rounds, writes, reads, writer);
     drop(frame);
     measured
 }
 
-fn measure<R>(
+fn measure<R, W>(
     rt: &R,
     name: &str,
     frame: &Frame,
     rounds: u32,
     writes: bool,
     reads: bool,
+    writer: &mut W,
 ) -> anyhow::Result<()>
 where
-    R: AllocGlobal + Print + Eprint + Clock,
+    R: AllocGlobal + Eprint + Clock,
+    W: Write,
 {
     if writes {
-        measure_writing(rt, name, frame, rounds)?;
+        measure_writing(rt, name, frame, rounds, writer)?;
     }
     if reads {
-        measure_reading(rt, name, frame, rounds)?;
+        measure_reading(rt, name, frame, rounds, writer)?;
     }
     Ok(())
 }
 
-fn measure_writing<R>(rt: &R, name: &str, frame: &Frame, rounds: u32) -> anyhow::Result<()>
+fn measure_writing<R, W>(
+    rt: &R,
+    name: &str,
+    frame: &Frame,
+    rounds: u32,
+    writer: &mut W,
+) -> anyhow::Result<()>
 where
-    R: AllocGlobal + Print + Eprint + Clock,
+    R: AllocGlobal + Eprint + Clock,
+    W: Write,
 {
     let begun = Instant::now(rt)?;
     let written = write_many(rt.alloc(), frame, rounds)?;
     let took = begun.elapsed(rt)?;
-    println!(rt; "{name} written {rounds} octets {written}")?;
+    writeln!(writer, "{name} written {rounds} octets {written}")?;
+    writer.flush()?;
     tell(rt, name, "written", rounds, took)
 }
 
-fn measure_reading<R>(rt: &R, name: &str, frame: &Frame, rounds: u32) -> anyhow::Result<()>
+fn measure_reading<R, W>(
+    rt: &R,
+    name: &str,
+    frame: &Frame,
+    rounds: u32,
+    writer: &mut W,
+) -> anyhow::Result<()>
 where
-    R: AllocGlobal + Print + Eprint + Clock,
+    R: AllocGlobal + Eprint + Clock,
+    W: Write,
 {
     let alloc = rt.alloc();
     let octets = write_frame(alloc, frame, MAX_FRAME)?;
     let begun = Instant::now(rt)?;
     let (frames, payload) = read_many(alloc, &octets, rounds)?;
     let took = begun.elapsed(rt)?;
-    println!(rt; "{name} read {frames} payload {payload}")?;
+    writeln!(writer, "{name} read {frames} payload {payload}")?;
+    writer.flush()?;
     tell(rt, name, "read", rounds, took)
 }
 

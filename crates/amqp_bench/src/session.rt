@@ -2,6 +2,7 @@
 
 use crate::end::{End, EndFault, exchange};
 use amqp_conn::{Bytes, Role};
+use std::io::Write;
 use std::rt::Clock;
 use std::time::{Duration, Instant};
 
@@ -36,26 +37,35 @@ pub struct Totals {
 }
 
 /// Sends the messages over a connection, and again over another, so many times.
-pub fn run_sessions<R>(rt: &R, messages: Messages, sessions: u32) -> anyhow::Result<()>
+pub fn run_sessions<R, W>(
+    rt: &R,
+    messages: Messages,
+    sessions: u32,
+    writer: &mut W,
+) -> anyhow::Result<()>
 where
-    R: AllocGlobal + Print + Eprint + Clock,
+    R: AllocGlobal + Eprint + Clock,
+    W: Write,
 {
     for _ in 0..sessions {
-        run_session(rt, messages)?;
+        run_session(rt, messages, writer)?;
     }
     Ok(())
 }
 
-/// Sends the messages. Standard output has what came of it, standard error the time.
-fn run_session<R>(rt: &R, messages: Messages) -> anyhow::Result<()>
+/// Sends the messages, and tells what came of it; standard error has the time.
+fn run_session<R, W>(rt: &R, messages: Messages, writer: &mut W) -> anyhow::Result<()>
 where
-    R: AllocGlobal + Print + Eprint + Clock,
+    R: AllocGlobal + Eprint + Clock,
+    W: Write,
 {
     let (totals, took) = send_messages(rt, messages)?;
-    println!(rt;
+    writeln!(
+        writer,
         "session taken {} octets {} learnt {} steps {}",
         totals.taken, totals.octets, totals.learnt, totals.steps
     )?;
+    writer.flush()?;
     tell(rt, messages.count, took)
 }
 

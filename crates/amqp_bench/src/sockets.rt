@@ -7,6 +7,7 @@ use amqp_conn::{Bytes, Conn, Role};
 use amqp_ready::{Driver, Limits, Round, SlotFault, Welcome};
 use mio::net::{TcpListener, TcpStream};
 use std::alloc::{AllocError, Global};
+use std::io::Write;
 use std::net::{IpAddr, Ipv4Addr, Net, SocketAddr};
 use std::rt::Clock;
 use std::time::{Duration, Instant};
@@ -93,19 +94,22 @@ impl Welcome<Hand> for Receives {
     }
 }
 
-/// Sends the messages over all connections. Standard output has what came of it, standard error the time.
-pub fn run_sockets<R>(rt: &R, sockets: Sockets) -> anyhow::Result<()>
+/// Sends the messages over all connections, and tells what came of it; standard error has the time.
+pub fn run_sockets<R, W>(rt: &R, sockets: Sockets, writer: &mut W) -> anyhow::Result<()>
 where
-    R: AllocGlobal + Print + Eprint + Clock + Net,
+    R: AllocGlobal + Eprint + Clock + Net,
+    W: Write,
 {
     let mut driver = Driver::new(rt, rt.alloc(), EVENTS)?;
     let ran = run_driver(rt, &mut driver, sockets);
     drop(driver);
     let (totals, took) = ran?;
-    println!(rt;
+    writeln!(
+        writer,
         "sockets begun {} learnt {} taken {} octets {} faults {}",
         totals.begun, totals.learnt, totals.taken, totals.octets, totals.faults
     )?;
+    writer.flush()?;
     tell(rt, totals, took)
 }
 

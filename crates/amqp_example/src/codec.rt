@@ -6,17 +6,18 @@ use amqp_types::{Boxed, Tag};
 use anyhow::Context;
 use bytes::Bytes;
 use std::alloc::Global;
+use std::io::Write;
 
 /// The longest frame that either end takes, in octets.
 const MAX_FRAME: u32 = 65536;
 
 /// Writes two frames behind one another, and reads them in pieces of three sizes.
-pub fn run<R: AllocGlobal + Print>(rt: &R) -> anyhow::Result<()> {
-    let stream = write(rt.alloc())?;
-    println!(rt; "written: {} octets", stream.len())?;
-    read_in_three_ways(rt, stream.as_slice())?;
-    show_refusal(rt)?;
-    show_fault(rt)
+pub fn run<W: Write>(alloc: Global, writer: &mut W) -> anyhow::Result<()> {
+    let stream = write(alloc)?;
+    writeln!(writer, "written: {} octets", stream.len())?;
+    read_in_three_ways(alloc, writer, stream.as_slice())?;
+    show_refusal(alloc, writer)?;
+    show_fault(alloc, writer)
 }
 
 /// Two frames.
@@ -35,20 +36,33 @@ fn append(stream: &mut Vec<u8>, frame: Frame) -> anyhow::Result<()> {
     Ok(())
 }
 
-fn read_in_three_ways<R: AllocGlobal + Print>(rt: &R, stream: &[u8]) -> anyhow::Result<()> {
+fn read_in_three_ways<W: Write>(
+    alloc: Global,
+    writer: &mut W,
+    stream: &[u8],
+) -> anyhow::Result<()> {
     for size in [1, 10, 1000] {
-        read_in_pieces(rt, stream, size)?;
+        read_in_pieces(alloc, writer, stream, size)?;
     }
     Ok(())
 }
 
 /// Feeds the stream in pieces of this size, and prints the frames that come out of it.
-fn read_in_pieces<R: AllocGlobal + Print>(rt: &R, stream: &[u8], size: usize) -> anyhow::Result<()>
+fn read_in_pieces<W: Write>(
+    alloc: Global,
+    writer: &mut W,
+    stream: &[u8],
+    size: usize,
+) -> anyhow::Result<()>
     requires { 0 < size }
 {
-    let frames = read(rt.alloc(), stream, size)?;
-    println!(rt; "read in pieces of at most {size}: {} frames", frames.len())?;
-    print_frames(rt, frames.as_slice())
+    let frames = read(alloc, stream, size)?;
+    writeln!(
+        writer,
+        "read in pieces of at most {size}: {} frames",
+        frames.len()
+    )?;
+    print_frames(writer, frames.as_slice())
 }
 
 /// The frames of the stream, which is fed in pieces of this size.
@@ -63,47 +77,50 @@ fn read(alloc: Global, stream: &[u8], size: usize) -> anyhow::Result<Vec<Frame>>
     Ok(frames)
 }
 
-fn print_frames<R: Print>(rt: &R, frames: &[Frame]) -> anyhow::Result<()> {
+fn print_frames<W: Write>(writer: &mut W, frames: &[Frame]) -> anyhow::Result<()> {
     for frame in frames {
-        print_frame(rt, frame)?;
+        print_frame(writer, frame)?;
     }
     Ok(())
 }
 
-fn print_frame<R: Print>(rt: &R, frame: &Frame) -> anyhow::Result<()> {
+fn print_frame<W: Write>(writer: &mut W, frame: &Frame) -> anyhow::Result<()> {
     let payload = frame.payload.len();
     match &frame.body {
-        None => println!(rt; "  an empty frame")?,
+        None => writeln!(writer, "  an empty frame")?,
         Some(Performative::Transfer(body)) => {
             let handle = body.handle;
-            println!(rt; "  transfer on handle {handle}, {payload} octets of payload")?;
+            writeln!(
+                writer,
+                "  transfer on handle {handle}, {payload} octets of payload"
+            )?;
         }
-        Some(performative) => println!(rt; "  {}", performative.name())?,
+        Some(performative) => writeln!(writer, "  {}", performative.name())?,
     }
     Ok(())
 }
 
 /// A frame that cannot be written is refused before memory is asked for.
-fn show_refusal<R: AllocGlobal + Print>(rt: &R) -> anyhow::Result<()> {
-    let frame = transfer(rt.alloc())?;
-    let written = write_frame(rt.alloc(), &frame, 16);
+fn show_refusal<W: Write>(alloc: Global, writer: &mut W) -> anyhow::Result<()> {
+    let frame = transfer(alloc)?;
+    let written = write_frame(alloc, &frame, 16);
     drop(frame);
     match written {
-        Ok(octets) => println!(rt; "written: {} octets", octets.len())?,
-        Err(refusal) => println!(rt; "for a peer that takes 16 octets: {refusal}")?,
+        Ok(octets) => writeln!(writer, "written: {} octets", octets.len())?,
+        Err(refusal) => writeln!(writer, "for a peer that takes 16 octets: {refusal}")?,
     }
     Ok(())
 }
 
 /// Octets that are no frame show a fault as soon as can be: here a size of seven, which is less than a frame's header.
-fn show_fault<R: AllocGlobal + Print>(rt: &R) -> anyhow::Result<()> {
-    let mut framer = Framer::new(rt.alloc(), MAX_FRAME);
+fn show_fault<W: Write>(alloc: Global, writer: &mut W) -> anyhow::Result<()> {
+    let mut framer = Framer::new(alloc, MAX_FRAME);
     match framer.feed(&[0, 0, 0, 7]) {
         Ok((used, frame)) => {
             drop(frame);
-            println!(rt; "taken: {used} octets")?;
+            writeln!(writer, "taken: {used} octets")?;
         }
-        Err(fault) => println!(rt; "octets 00000007: {fault}")?,
+        Err(fault) => writeln!(writer, "octets 00000007: {fault}")?,
     }
     Ok(())
 }

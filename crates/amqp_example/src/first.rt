@@ -6,6 +6,7 @@ use amqp_conn::{
 };
 use anyhow::{Context, bail};
 use std::alloc::Global;
+use std::io::Write;
 
 /// More reads than a peer needs that answers.
 const TURNS: u32 = 100;
@@ -122,8 +123,7 @@ impl Source for Recorded {
 }
 
 /// Sends a message to the recorded peer, and tells what became of it.
-pub fn send_first<R: AllocGlobal + Print>(rt: &R) -> anyhow::Result<()> {
-    let alloc = rt.alloc();
+pub fn send_first<W: Write>(alloc: Global, writer: &mut W) -> anyhow::Result<()> {
     let mut from = Recorded {
         said: 0,
         failures: 0,
@@ -136,5 +136,5 @@ pub fn send_first<R: AllocGlobal + Print>(rt: &R) -> anyhow::Result<()> {
     };
     let settled = learned.get().settled;
     let octets = to.into_inner().len();
-    Ok(println!(rt; "first: settled: {settled}, {octets} octets sent")?)
+    Ok(writeln!(writer, "first: settled: {settled}, {octets} octets sent")?)
 }

@@ -10,6 +10,7 @@ use amqp_conn::{
 use amqp_types::Items;
 use anyhow::{Context, bail};
 use std::alloc::Global;
+use std::io::Write;
 
 /// How many messages are sent; the tag of each is its number.
 const MESSAGES: u8 = 20;
@@ -48,48 +49,50 @@ struct Ends {
 }
 
 /// Sends all messages, over as many connections as it takes.
-pub fn run<R: AllocGlobal + Print>(rt: &R) -> anyhow::Result<()> {
+pub fn run<W: Write>(alloc: Global, writer: &mut W) -> anyhow::Result<()> {
     let mut known = Known {
         next: 0,
         learnt: 0,
         arrived: [0; MESSAGES as usize],
     };
-    let mut from = link(rt.alloc(), Role::Sender)?;
-    let mut to = link(rt.alloc(), Role::Receiver)?;
+    let mut from = link(alloc, Role::Sender)?;
+    let mut to = link(alloc, Role::Receiver)?;
     for number in 0..CONNECTIONS {
-        (from, to) = connect_and_go(rt, number, &from, &to, &mut known)?;
+        (from, to) = connect_and_go(alloc, writer, number, &from, &to, &mut known)?;
         if known.learnt == MESSAGES as u32 {
             break;
         }
     }
     let once = known.arrived.iter().all(|times| *times == 1);
-    Ok(println!(rt; "each of {MESSAGES} messages arrived once: {once}")?)
+    Ok(writeln!(writer, "each of {MESSAGES} messages arrived once: {once}")?)
 }
 
 /// One connection with this number, and what of the link goes with it to the next.
-fn connect_and_go<R: AllocGlobal + Print>(
-    rt: &R,
+fn connect_and_go<W: Write>(
+    alloc: Global,
+    writer: &mut W,
     number: u8,
     from: &Suspended,
     to: &Suspended,
     known: &mut Known,
 ) -> anyhow::Result<(Suspended, Suspended)> {
-    let mut ends = connect(rt.alloc(), from, to)?;
-    let aside = go(rt, number, &mut ends, known);
+    let mut ends = connect(alloc, from, to)?;
+    let aside = go(alloc, writer, number, &mut ends, known);
     drop(ends);
     aside
 }
 
-fn go<R: AllocGlobal + Print>(
-    rt: &R,
+fn go<W: Write>(
+    alloc: Global,
+    writer: &mut W,
     number: u8,
     ends: &mut Ends,
     known: &mut Known,
 ) -> anyhow::Result<(Suspended, Suspended)> {
     if number == 0 {
-        cut_off(rt, ends, known)?;
+        cut_off(alloc, writer, ends, known)?;
     } else {
-        go_on(rt, ends, known)?;
+        go_on(alloc, writer, ends, known)?;
     }
     let from = aside(&ends.one, Role::Sender)?;
     let to = aside(&ends.other, Role::Receiver)?;
@@ -173,37 +176,43 @@ fn exchange(alloc: Global, ends: &mut Ends) -> anyhow::Result<()> {
 }
 
 /// A batch is sent, and the pipe is cut in its last frame. Of the others the receiver takes two and accepts one, which the sender does not hear.
-fn cut_off<R: AllocGlobal + Print>(
-    rt: &R,
+fn cut_off<W: Write>(
+    alloc: Global,
+    writer: &mut W,
     ends: &mut Ends,
     known: &mut Known,
 ) -> anyhow::Result<()> {
-    send(rt.alloc(), &mut ends.one, known)?;
-    let said = hear(rt.alloc(), &mut ends.one, &[])?;
+    send(alloc, &mut ends.one, known)?;
+    let said = hear(alloc, &mut ends.one, &[])?;
     let there = &said[..said.len().saturating_sub(3)];
-    drop(hear(rt.alloc(), &mut ends.other, there)?);
+    drop(hear(alloc, &mut ends.other, there)?);
     take(&mut ends.other, known)?;
     accept_at(&mut ends.other, 0)?;
     take(&mut ends.other, known)?;
     ends.one.lost();
     ends.other.lost();
-    tell(rt, "cut off", ends, known)
+    tell(writer, "cut off", ends, known)
 }
 
 /// What is in doubt is resumed, and batches are sent as long as there are steps for them. Then the connection is closed.
-fn go_on<R: AllocGlobal + Print>(rt: &R, ends: &mut Ends, known: &mut Known) -> anyhow::Result<()> {
-    resume(rt, &mut ends.one, known)?;
-    deliver(rt.alloc(), ends, known)?;
+fn go_on<W: Write>(
+    alloc: Global,
+    writer: &mut W,
+    ends: &mut Ends,
+    known: &mut Known,
+) -> anyhow::Result<()> {
+    resume(alloc, writer, &mut ends.one, known)?;
+    deliver(alloc, ends, known)?;
     for _ in 0..MESSAGES {
         if known.next == MESSAGES || is_near_its_end(ends) {
             break;
         }
-        send(rt.alloc(), &mut ends.one, known)?;
-        deliver(rt.alloc(), ends, known)?;
+        send(alloc, &mut ends.one, known)?;
+        deliver(alloc, ends, known)?;
     }
     ends.one.close(None)?;
-    exchange(rt.alloc(), ends)?;
-    tell(rt, "closed", ends, known)
+    exchange(alloc, ends)?;
+    tell(writer, "closed", ends, known)
 }
 
 /// Either journal has no steps for another batch.
@@ -332,8 +341,9 @@ fn settled(id: u32) -> Op {
 }
 
 /// Resumes what waits on the link, in its order: what did not come is sent again.
-fn resume<R: AllocGlobal + Print>(
-    rt: &R,
+fn resume<W: Write>(
+    alloc: Global,
+    writer: &mut W,
     conn: &mut Conn,
     known: &mut Known,
 ) -> anyhow::Result<()> {
@@ -342,8 +352,8 @@ fn resume<R: AllocGlobal + Print>(
             break;
         };
         let number = tag.octets().first().copied().unwrap_or(0);
-        println!(rt; "message {number} is {verdict:?}")?;
-        resume_one(rt.alloc(), conn, tag, verdict, known)?;
+        writeln!(writer, "message {number} is {verdict:?}")?;
+        resume_one(alloc, conn, tag, verdict, known)?;
     }
     Ok(())
 }
@@ -376,9 +386,10 @@ fn resume_one(
     Ok(())
 }
 
-fn tell<R: Print>(rt: &R, what: &str, ends: &Ends, known: &Known) -> anyhow::Result<()> {
+fn tell<W: Write>(writer: &mut W, what: &str, ends: &Ends, known: &Known) -> anyhow::Result<()> {
     let left = ends.one.logged().steps_left();
-    Ok(println!(rt;
+    Ok(writeln!(
+        writer,
         "{what}: {} messages were sent, {} are known to be accepted, {left} of {STEPS} steps are left",
         known.next, known.learnt
     )?)

@@ -7,6 +7,7 @@ use amqp_conn::{Bytes, Config, Op, Role, Tag, Text, ops};
 use amqp_shared::{Closed, Name, NotClosed, Pass, Seed, Shared, WriterEnd, open_shared};
 use anyhow::{Context, anyhow, ensure};
 use std::alloc::Global;
+use std::io::Write;
 use std::marker::Brand;
 use std::sync::Wait;
 use std::thread;
@@ -22,39 +23,44 @@ const TURNS: u32 = 16;
 const DELIVERIES: u8 = 4;
 
 /// Two threads send; the connection is closed, and comes back with its journal.
-pub fn run<R: AllocGlobal + Print + Threads + Wait + Sync>(rt: &R) -> anyhow::Result<()> {
+pub fn run<R: AllocGlobal + Threads + Wait + Sync, W: Write>(
+    rt: &R,
+    writer: &mut W,
+) -> anyhow::Result<()> {
     let config = Config::new(Text::new(rt.alloc(), "shared")?);
     let seed = Seed::new(rt.alloc(), config, RING)?;
     let mut peer = End::new(rt.alloc(), "peer")?;
-    talk::<Brand, R>(rt, seed, &mut peer)
+    talk::<Brand, R, W>(rt, writer, seed, &mut peer)
 }
 
-fn talk<N: Name + Send + Sync, R: AllocGlobal + Print + Threads + Wait + Sync>(
+fn talk<N: Name + Send + Sync, R: AllocGlobal + Threads + Wait + Sync, W: Write>(
     rt: &R,
+    writer: &mut W,
     seed: Seed,
     peer: &mut End,
 ) -> anyhow::Result<()>
     requires { IsNamed seed N.name N.parts N.ring }
 {
-    let (shared, mut pass, mut writer) = open_shared::<N>(seed);
-    match speak(rt, &shared, &mut pass, &mut writer, peer) {
-        Ok((first, second)) => close(rt, shared, writer, pass, first, second),
+    let (shared, mut pass, mut units) = open_shared::<N>(seed);
+    match speak(rt, writer, &shared, &mut pass, &mut units, peer) {
+        Ok((first, second)) => close(rt.alloc(), writer, shared, units, pass, first, second),
         Err(error) => Err(error),
     }
 }
 
 /// Two threads send, each with a pass of its own, which it gives back.
-fn speak<N: Name + Send + Sync, R: AllocGlobal + Print + Threads + Wait + Sync>(
+fn speak<N: Name + Send + Sync, R: AllocGlobal + Threads + Wait + Sync, W: Write>(
     rt: &R,
+    writer: &mut W,
     shared: &Shared<N>,
     pass: &mut Pass<N>,
-    writer: &mut WriterEnd<N>,
+    units: &mut WriterEnd<N>,
     peer: &mut End,
 ) -> anyhow::Result<(Pass<N>, Pass<N>)> {
-    begin(rt, shared, pass, writer, peer)?;
+    begin(rt, writer, shared, pass, units, peer)?;
     let (first, second) = split(pass)?;
     let (first, second) = send_by_two(rt, shared, first, second);
-    match exchange(rt, shared, pass, writer, peer) {
+    match exchange(rt, writer, shared, pass, units, peer) {
         Ok(()) => Ok((first, second)),
         Err(error) => Err(error),
     }
@@ -68,23 +74,24 @@ fn split<N: Name>(pass: &mut Pass<N>) -> anyhow::Result<(Pass<N>, Pass<N>)> {
 }
 
 /// A session, and a link on which the peer has given credit for ten deliveries.
-fn begin<N: Name, R: AllocGlobal + Print + Wait>(
+fn begin<N: Name, R: AllocGlobal + Wait, W: Write>(
     rt: &R,
+    writer: &mut W,
     shared: &Shared<N>,
     pass: &mut Pass<N>,
-    writer: &mut WriterEnd<N>,
+    units: &mut WriterEnd<N>,
     peer: &mut End,
 ) -> anyhow::Result<()> {
-    exchange(rt, shared, pass, writer, peer)?;
+    exchange(rt, writer, shared, pass, units, peer)?;
     apply(rt, shared, pass, ops::begin())?;
-    exchange(rt, shared, pass, writer, peer)?;
-    peer.apply(rt, ops::begin())?;
-    exchange(rt, shared, pass, writer, peer)?;
+    exchange(rt, writer, shared, pass, units, peer)?;
+    peer.apply(writer, ops::begin())?;
+    exchange(rt, writer, shared, pass, units, peer)?;
     apply(rt, shared, pass, attach(rt.alloc(), "there", Role::Sender)?)?;
-    exchange(rt, shared, pass, writer, peer)?;
-    peer.apply(rt, attach(rt.alloc(), "there", Role::Receiver)?)?;
-    peer.apply(rt, ops::grant(0, 10))?;
-    exchange(rt, shared, pass, writer, peer)
+    exchange(rt, writer, shared, pass, units, peer)?;
+    peer.apply(writer, attach(rt.alloc(), "there", Role::Receiver)?)?;
+    peer.apply(writer, ops::grant(0, 10))?;
+    exchange(rt, writer, shared, pass, units, peer)
 }
 
 /// Each thread has a pass of its own, and takes the lock for one operation at a time.
@@ -146,18 +153,19 @@ fn apply<N: Name, R: Wait>(
 }
 
 /// Each end hears what the other put out.
-fn exchange<N: Name, R: AllocGlobal + Print + Wait>(
+fn exchange<N: Name, R: AllocGlobal + Wait, W: Write>(
     rt: &R,
+    writer: &mut W,
     shared: &Shared<N>,
     pass: &mut Pass<N>,
-    writer: &mut WriterEnd<N>,
+    units: &mut WriterEnd<N>,
     peer: &mut End,
 ) -> anyhow::Result<()> {
     for _ in 0..TURNS {
         shared.move_units(&mut shared.lock(rt));
-        let answer = match writer.take() {
-            Some(unit) => peer.hear(rt, unit.bytes.as_slice())?,
-            None => peer.hear(rt, &[])?,
+        let answer = match units.take() {
+            Some(unit) => peer.hear(rt.alloc(), writer, unit.bytes.as_slice())?,
+            None => peer.hear(rt.alloc(), writer, &[])?,
         };
         hear(rt, shared, pass, &answer)?;
     }
@@ -185,17 +193,18 @@ fn hear<N: Name, R: Wait>(
 }
 
 /// All that belongs to the connection comes together again.
-fn close<N: Name, R: AllocGlobal + Print>(
-    rt: &R,
+fn close<N: Name, W: Write>(
+    alloc: Global,
+    writer: &mut W,
     shared: Shared<N>,
-    writer: WriterEnd<N>,
+    units: WriterEnd<N>,
     pass: Pass<N>,
     first: Pass<N>,
     second: Pass<N>,
 ) -> anyhow::Result<()> {
     let made = [pass.made(), first.made(), second.made()];
-    match gather(rt.alloc(), pass, first, second) {
-        Ok(passes) => tell(rt, made, shared.close(passes, writer)),
+    match gather(alloc, pass, first, second) {
+        Ok(passes) => tell(writer, made, shared.close(passes, units)),
         Err(error) => Err(error),
     }
 }
@@ -213,24 +222,26 @@ fn gather<N: Name>(
     Ok(passes)
 }
 
-fn tell<N: Name, R: Print>(
-    rt: &R,
+fn tell<N: Name, W: Write>(
+    writer: &mut W,
     made: [u64; 3],
     closed: Result<Closed, NotClosed<N>>,
 ) -> anyhow::Result<()> {
     match closed {
-        Ok(closed) => tell_closed(rt, made, &closed),
+        Ok(closed) => tell_closed(writer, made, &closed),
         Err(refusal) => Err(anyhow!("{}", refusal.reason)),
     }
 }
 
-fn tell_closed<R: Print>(rt: &R, made: [u64; 3], closed: &Closed) -> anyhow::Result<()> {
+fn tell_closed<W: Write>(writer: &mut W, made: [u64; 3], closed: &Closed) -> anyhow::Result<()> {
     let steps = closed.conn.logged().steps();
-    println!(rt;
+    writeln!(
+        writer,
         "shared: steps of the passes: {} + {} + {}, of the journal: {steps}",
         made[0], made[1], made[2]
     )?;
-    Ok(println!(rt;
+    Ok(writeln!(
+        writer,
         "shared: units written: {}, left: {}",
         closed.taken,
         closed.left.len()

@@ -2,8 +2,12 @@
 ghost use Rattle.std.specs.Prelude.{IfOk, IfSome};
 ghost use Rattle.amqp_peer.specs.Requests.{IsAllowed};
 
+use crate::bench_options::{bench, bench_of};
 use crate::options;
-use crate::options::{USUAL, config_of, direction_of, explained_of, receive_of, send_of, serve_of};
+use crate::options::{
+    USUAL, config_of, direction_of, explained_of, receive_of, send_of, serve_of, with,
+};
+use amqp_bench::Bench;
 use amqp_client::exchange::Exchange;
 use amqp_endpoint::config::Config;
 use amqp_pair::{MAX_CONSUMERS, MAX_COUNT, MAX_CREDIT, MAX_SIZE, Options};
@@ -11,7 +15,7 @@ use amqp_script::explain::Explained;
 use amqp_serve::Serve;
 use amqp_trace::Direction;
 use clap::error::ErrorKind;
-use clap::{Arg, ArgMatches, Command, Error, value_parser};
+use clap::{Arg, ArgMatches, Command, Error};
 use std::alloc::{AllocError, Global};
 use std::convert::AsStr;
 
@@ -38,6 +42,10 @@ pub enum Request<'a> {
     Receive(Exchange<'a>),
     /// A run of `serve`.
     Serve(Serve<'a>),
+    /// A run of `example`.
+    Example,
+    /// A run of `bench`.
+    Bench(Bench),
 }
 
 impl<'a> Request<'a> {
@@ -104,6 +112,12 @@ fn request_of<'a>(matches: &ArgMatches<'a>) -> Option<Request<'a>>
     if let Some(options) = matches.subcommand_matches("serve") {
         return Some(Request::Serve(serve_of(options)?));
     }
+    if matches.subcommand_matches("example").is_some() {
+        return Some(Request::Example);
+    }
+    if let Some(options) = matches.subcommand_matches("bench") {
+        return Some(Request::Bench(bench_of(options)));
+    }
     if let Some(options) = matches.subcommand_matches("trace") {
         return Some(Request::Trace(direction_of(options), options.get_flag("raw")));
     }
@@ -143,21 +157,9 @@ fn program<'a>(alloc: Global) -> Result<Command<'a>, AllocError> {
     let command = with(command, options::send(alloc))?;
     let command = with(command, options::receive(alloc))?;
     let command = with(command, options::serve(alloc))?;
+    let command = command.subcommand(options::example(alloc))?;
+    let command = with(command, bench(alloc))?;
     command.subcommand(options::rows(alloc))
-}
-
-/// The command with this one under it.
-fn with<'a>(
-    command: Command<'a>,
-    under: Result<Command<'a>, AllocError>,
-) -> Result<Command<'a>, AllocError> {
-    match under {
-        Ok(under) => command.subcommand(under),
-        Err(error) => {
-            drop(command);
-            Err(error)
-        }
-    }
 }
 
 fn pair<'a>(alloc: Global) -> Result<Command<'a>, AllocError> {
@@ -202,12 +204,7 @@ fn number<'a>(
     least: u32,
     most: u32,
 ) -> Arg<'a> {
-    Arg::new(alloc, name)
-        .long(name)
-        .value_name("N")
-        .value_parser(value_parser!(u32).range(i64::from(least)..=i64::from(most)))
-        .required(true)
-        .help(help)
+    options::number(alloc, name, help, least, most).required(true)
 }
 
 fn pair_options(options: &ArgMatches<'_>) -> Options {

@@ -2,7 +2,9 @@
 ghost use Rattle.amqp_peer.specs.Requests.{IsAllowed};
 
 use crate::command_line::Request;
+use amqp_bench::run_bench;
 use amqp_client::exchange::{run_receive, run_send};
+use amqp_example::run_examples;
 use amqp_pair::run_pair;
 use amqp_script::Outcome;
 use amqp_script::driven::run_conn;
@@ -68,8 +70,16 @@ where
             run_serve(rt, alloc, serve, writer)?;
             Ok(DONE)
         }
+        Request::Example => done(run_examples(rt, writer)),
+        Request::Bench(bench) => done(run_bench(rt, bench, writer)),
         Request::Rows => bail!("a row that runs rows"),
     }
+}
+
+/// The status of what is done wherever it does not fail.
+fn done(ran: anyhow::Result<()>) -> anyhow::Result<u8> {
+    ran?;
+    Ok(DONE)
 }
 
 /// The status of messages that were exchanged.

@@ -4,6 +4,7 @@
 //! |---|---|
 //! | `command_line` | what the words of a command line ask for |
 //! | `options` | the commands with their options |
+//! | `bench_options` | the command `bench` with its options |
 //! | `commands` | what each command does, from its input to its output |
 //! | `rows` | the command `rows`: cases of command lines with their inputs, and whether they are answered as they want |
 //! | `amqp_script::driven` | the command `conn`: lines of text on one connection, one answer each |
@@ -14,6 +15,8 @@
 //! | `amqp_pair` | the command `pair`: two ends of a connection over the loopback |
 //! | `amqp_client` | the commands `send` and `receive`: messages to a peer, or from one, over TCP |
 //! | `amqp_serve` | the command `serve`: messages in memory by address, for peers that connect |
+//! | `amqp_example` | the command `example`: how the crates are embedded |
+//! | `amqp_bench` | the command `bench`: how long frames and messages take |
 //!
 //! | exit status | where |
 //! |---|---|
@@ -24,6 +27,7 @@
 
 ghost use Rattle.amqp_peer.specs.Requests.{IsAllowed};
 
+pub mod bench_options;
 pub mod command_line;
 pub mod commands;
 pub mod options;

@@ -1,4 +1,4 @@
-//! The commands `script`, `conn`, `frames`, `rows`, `trace`, `explain`, `send` and `receive` with their options. Each option is made where it is added: one that is owned over
+//! The commands `script`, `conn`, `frames`, `rows`, `example`, `trace`, `explain`, `send`, `receive` and `serve` with their options. Each option is made where it is added: one that is owned over
 //! the way out of another costs its proof there.
 
 use amqp_client::exchange::{Exchange, Renewal};
@@ -56,6 +56,13 @@ pub fn rows<'a>(alloc: Global) -> Command<'a> {
     let about =
         "Reads cases from standard input and tells which of them are answered otherwise than they want";
     Command::new(alloc, "rows").about(about)
+}
+
+/// The command `example`, which has none.
+pub fn example<'a>(alloc: Global) -> Command<'a> {
+    let about =
+        "Runs the examples of how the crates are embedded, each of which tells what it does";
+    Command::new(alloc, "example").about(about)
 }
 
 /// The command `trace` with its options.
@@ -375,6 +382,35 @@ fn printed_of(options: &ArgMatches<'_>) -> Printed {
     } else {
         Printed::Nothing
     }
+}
+
+/// The command with this one under it.
+pub fn with<'a>(
+    command: Command<'a>,
+    under: Result<Command<'a>, AllocError>,
+) -> Result<Command<'a>, AllocError> {
+    match under {
+        Ok(under) => command.subcommand(under),
+        Err(error) => {
+            drop(command);
+            Err(error)
+        }
+    }
+}
+
+/// An option whose value is a number between these.
+pub fn number<'a>(
+    alloc: Global,
+    name: &'static str,
+    help: &'static str,
+    least: u32,
+    most: u32,
+) -> Arg<'a> {
+    Arg::new(alloc, name)
+        .long(name)
+        .value_name("N")
+        .value_parser(value_parser!(u32).range(i64::from(least)..=i64::from(most)))
+        .help(help)
 }
 
 /// An option without a value.

@@ -9,8 +9,6 @@
 //! | `rejoined` | `amqp_conn`: a link that goes on over several connections |
 //! | `shared` | `amqp_shared`: two threads send on one connection |
 //! | `operations` | the operations that these do |
-//!
-//! The exit status is 0, or 1 where a write or an allocation failed; standard error has one line on it.
 #![tactic(auto)]
 
 mod codec;
@@ -21,28 +19,21 @@ mod rejoined;
 mod session;
 mod shared;
 
-use std::process::ExitCode;
+use std::io::Write;
 use std::sync::Wait;
 use std::thread::Threads;
 
-const FAULT: u8 = 1;
-
-fn main(rt: HostRuntime) -> ExitCode {
-    match run(&rt) {
-        Ok(()) => ExitCode::SUCCESS,
-        Err(fault) => {
-            // A fault that cannot be told still has its status.
-            let _ = eprintln!(rt; "amqp_example: {fault}");
-            ExitCode::from(FAULT)
-        }
-    }
-}
-
-fn run<R: AllocGlobal + Print + Threads + Wait + Sync>(rt: &R) -> anyhow::Result<()> {
-    codec::run(rt)?;
-    session::run(rt)?;
-    first::send_first(rt)?;
-    connection::run(rt)?;
-    rejoined::run(rt)?;
-    shared::run(rt)
+/// Runs each example in turn, which tells what it does.
+pub fn run_examples<R: AllocGlobal + Threads + Wait + Sync, W: Write>(
+    rt: &R,
+    writer: &mut W,
+) -> anyhow::Result<()> {
+    let alloc = rt.alloc();
+    codec::run(alloc, writer)?;
+    session::run(alloc, writer)?;
+    first::send_first(alloc, writer)?;
+    connection::run(alloc, writer)?;
+    rejoined::run(alloc, writer)?;
+    shared::run(rt, writer)?;
+    Ok(writer.flush()?)
 }
