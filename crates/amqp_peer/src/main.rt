@@ -6,6 +6,7 @@
 //! | `options` | the commands with their options |
 //! | `bench_options` | the command `bench` with its options |
 //! | `commands` | what each command does, from its input to its output |
+//! | `memory` | how much memory that was given back is kept |
 //! | `rows` | the command `rows`: cases of command lines with their inputs, and whether they are answered as they want |
 //! | `amqp_script::driven` | the command `conn`: lines of text on one connection, one answer each |
 //! | `amqp_script::frames` | the command `frames`: octets in hexadecimal, framed and named |
@@ -30,11 +31,13 @@ ghost use Rattle.amqp_peer.specs.Requests.{IsAllowed};
 pub mod bench_options;
 pub mod command_line;
 pub mod commands;
+pub mod memory;
 pub mod options;
 pub mod rows;
 
 use command_line::{Request, read_request};
 use commands::{FAULT, answer, status_of_words};
+use memory::keep_memory;
 use rows::run_rows;
 use std::env::Env;
 use std::io::{BufReader, BufWriter, IsTerminal};
@@ -71,6 +74,7 @@ where
         + Wait
         + Sync,
 {
+    keep_memory(rt.alloc());
     let words: Vec<String> = env::args(rt)?.collect(rt.alloc())?;
     match read_request(rt.alloc(), words.as_slice()) {
         Ok(request) => {

@@ -7,3 +7,4 @@ pub mod Crossing
 pub mod Walks
 pub mod Rounds
 pub mod Held
+pub mod Asleep

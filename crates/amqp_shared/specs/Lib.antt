@@ -4,6 +4,7 @@ pub mod Session
 pub mod Passes
 pub mod Growing
 pub mod Waking
+pub mod Sleeping
 pub mod Renewing
 pub mod Consuming
 pub mod Batching

@@ -149,6 +149,7 @@ fn take_apart<N: Name>(
         producer,
         limit: _,
         waiters: _,
+        sleepers: _,
     } = locked;
     let WriterEnd {
         consumer,

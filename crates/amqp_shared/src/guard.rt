@@ -36,8 +36,11 @@ impl<'a, N: Name> Drop for Guard<'a, N> {
             conditions,
             due,
         } = self;
+        let mut locked = locked;
+        let seat = locked.rouse();
+        let others = locked.sleepers.has_others();
         drop(locked);
-        conditions.wake(due);
+        conditions.wake(due, seat, others);
     }
 }
 
@@ -73,7 +76,10 @@ impl<'a, N: Name> Guard<'a, N> {
             conditions,
             due,
         } = self;
-        conditions.wake(due);
+        let mut locked = locked;
+        let seat = locked.rouse();
+        let others = locked.sleepers.has_others();
+        conditions.wake(due, seat, others);
         Guard {
             locked: condition.wait(rt, locked),
             conditions,

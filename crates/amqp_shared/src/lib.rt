@@ -14,6 +14,7 @@
 //! | `close`, `closing`, `refused` | how all comes together again |
 //! | `growing` | what each call adds to a connection |
 //! | `waiting` | what threads wait for, and what may bring it |
+//! | `sleepers` | who sleeps until a delivery comes, and which of them is woken |
 //!
 //! # How threads share a connection
 //!
@@ -33,7 +34,8 @@
 //!    and all units are taken.
 //!    Or the threads that put units out write them, each once it has given the guard back: the writer's end then lies under a lock of its own
 //!    (`amqp_pair` does so, and `Work::told` says to a consumer when).
-//! 5. Whoever waits for what a step has brought is woken when the guard is dropped, once for all steps that were made with it.
+//! 5. Whoever waits for what a step has brought is woken when the guard is dropped, once for all steps that were made with it. Of those that wait for a delivery of
+//!    one link one is woken at a time: it looks, takes what it wants, and where it leaves something the next one is woken as it gives the lock back.
 //! 6. `close`, with all passes and the writer's end, gives the connection back, and the units that nobody took.
 //!
 //! # What is proved
@@ -65,6 +67,7 @@ mod refused;
 mod renewal;
 mod seed;
 mod shared;
+mod sleepers;
 mod waiting;
 mod writer;
 

@@ -15,6 +15,7 @@ use crate::growing::{
 };
 use crate::name::{Name, Numbered};
 use crate::pass::Pass;
+use crate::sleepers::Sleepers;
 use crate::waiting::{Waiters, Want, is_closed};
 use amqp_conn::{CloseRefusal, Conn, ConnFault, Fed, Left, Phase};
 use amqp_frames::{AmqpError, Role};
@@ -40,6 +41,8 @@ pub struct Locked<N: Name> {
     /// How many entries the journal may have.
     pub(crate) limit: u32,
     pub(crate) waiters: Waiters,
+    /// Who sleeps until a delivery comes.
+    pub(crate) sleepers: Sleepers,
 }
 
 impl<N: Name> Model for Locked<N> {
@@ -246,6 +249,14 @@ impl<N: Name> Locked<N> {
         let waited = self.waiters.wait_for(want);
         self.waiters = self.waiters.set(want, false);
         waited
+    }
+
+    /// The seat of the sleeper that is to be woken once the lock is given back, if there is one.
+    pub(crate) fn rouse(&mut self) -> Option<usize>
+        ensures { self.new ≡ self.old }
+    {
+        let is_full = self.is_at_limit();
+        self.sleepers.rouse(&self.conn, is_full)
     }
 
     /// The connection has ended.

@@ -18,6 +18,7 @@ use crate::locked::Locked;
 use crate::name::Name;
 use crate::pass::{Answer, Pass};
 use crate::seed::Seed;
+use crate::sleepers::Sleepers;
 use crate::waiting::{Change, Conditions, Due, Waiters, Want, awaited_by, brought, brought_by};
 use crate::writer::WriterEnd;
 use amqp_conn::{CloseRefusal, ConnFault, Fed, Left, Phase};
@@ -75,6 +76,7 @@ fn open_locked<N: Name>(seed: Seed) -> (Locked<N>, Pass<N>, WriterEnd<N>)
             producer,
             limit,
             waiters: Waiters::NONE,
+            sleepers: Sleepers::NONE,
         },
         Pass {
             share,
@@ -327,10 +329,32 @@ impl<N: Name> Shared<N> {
         for _ in rt.forever() {
             match self.turn(&mut guard, pass, op) {
                 Ok(answer) => return (guard, answer),
-                Err(want) => guard = guard.wait(rt, self.conditions.of(want)),
+                Err(want) => guard = self.sleep(rt, guard, want, op),
             }
         }
         unreachable!()
+    }
+
+    /// Gives the lock back until what is wanted may have come, and takes it again.
+    fn sleep<'b, R: Wait>(&self, rt: &R, guard: Guard<'b, N>, want: Want, op: &Op) -> Guard<'b, N> {
+        match op {
+            Op::Take { link } => self.sleep_for_delivery(rt, guard, *link),
+            _ => guard.wait(rt, self.conditions.of(want)),
+        }
+    }
+
+    /// The same for a delivery of this link.
+    fn sleep_for_delivery<'b, R: Wait>(
+        &self,
+        rt: &R,
+        guard: Guard<'b, N>,
+        link: u32,
+    ) -> Guard<'b, N> {
+        let mut guard = guard;
+        let seat = guard.locked.sleepers.sit(link);
+        let mut guard = guard.wait(rt, self.conditions.at(seat));
+        guard.locked.sleepers.rise(seat);
+        guard
     }
 
     /// One turn of a call that waits: what it answers; or what it waits for now, and nothing else has changed.

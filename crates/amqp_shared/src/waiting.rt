@@ -2,11 +2,13 @@
 ghost use Rattle.std.specs.Prelude.{◌≡◌, ◌-◌, length, slice_get, Ok};
 ghost use Rattle.amqp_shared.specs.Waking.{with_want, waits_for, with_units, awaited_by, brought_by_op, brought_by_feed, brought_in, brought_by, brought_by_step, brought_by_frame, brought_by_body, is_ended};
 
+use crate::sleepers::SEATS;
 use amqp_conn::{Conn, ConnFault, Fed, Phase};
 use amqp_frames::{Frame, Performative};
 use amqp_laws::entry::{Entry, Step};
 use amqp_rules::op::Op;
 use amqp_rules::reply::Given;
+use std::array;
 use std::sync::Condvar;
 
 /// What a call waits for.
@@ -33,7 +35,10 @@ pub(crate) enum Change {
 #[derive(Drop)]
 pub(crate) struct Conditions {
     room: Condvar,
+    /// For those that have no seat.
     delivery: Condvar,
+    /// One for each seat of those that wait for a delivery.
+    seats: [Condvar; SEATS],
     outcome: Condvar,
     /// Units were put out, or the connection has ended.
     pub(crate) units: Condvar,
@@ -44,6 +49,7 @@ impl Conditions {
         Conditions {
             room: Condvar::new(),
             delivery: Condvar::new(),
+            seats: array::from_fn(|_| Condvar::new()),
             outcome: Condvar::new(),
             units: Condvar::new(),
         }
@@ -58,15 +64,26 @@ impl Conditions {
         }
     }
 
-    /// Wakes all who wait for what is due.
-    pub(crate) fn wake(&self, due: Due) {
+    /// Where who has this seat waits for a delivery, or who has none.
+    pub(crate) fn at(&self, seat: Option<usize>) -> &Condvar {
+        match seat {
+            Some(place) => self.seats.get(place).unwrap_or(&self.delivery),
+            None => &self.delivery,
+        }
+    }
+
+    /// Wakes all who wait for what is due, but of those who have seats and wait for a delivery this one; and of the others those there are.
+    pub(crate) fn wake(&self, due: Due, seat: Option<usize>, others: bool) {
         if due.units {
             self.units.notify_all();
         }
         if due.room {
             self.room.notify_all();
         }
-        if due.delivery {
+        if seat.is_some() {
+            self.at(seat).notify_one();
+        }
+        if due.delivery && others {
             self.delivery.notify_all();
         }
         if due.outcome {

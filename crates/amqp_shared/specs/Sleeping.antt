@@ -1,0 +1,11 @@
+-- Who sleeps until a delivery of a link comes is left asleep only where there is none, and one may still come.
+use Rattle.std.specs.Prelude.{ℕ, ◌≡◌, Err}
+use Rattle.amqp_rules.specs.declared.refusal.Refusal.TheVariants.{Nothing}
+use Rattle.amqp_rules.specs.Take.{take_answer}
+use Rattle.amqp_laws.specs.Past.{past}
+use Rattle.amqp_laws.specs.At.{at}
+use Rattle.amqp_conn.specs.Connection.{Connection}
+
+-- whoever takes of the link would be told that there is nothing
+abbrev pub IsNothingYet : Connection → ℕ → Type 0
+IsNothingYet c link = take_answer (at c.core.log.config (past c.core.log.journal)) link ≡ Err Nothing
