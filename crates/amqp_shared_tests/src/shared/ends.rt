@@ -55,12 +55,15 @@ enum Way {
     Loses,
 }
 
-/// What the waiter of this number waits for: a delivery to take, credit, and what the peer tells.
+/// More of those that wait for a delivery than sleep at conditions of their own, with the two others.
+const MANY: u8 = 21;
+
+/// What the waiter of this number waits for: credit, what the peer tells, and all others a delivery to take.
 fn wanted(alloc: Global, number: u8) -> Option<Op> {
     match number {
-        0 => Some(Op::Take { link: 1 }),
         1 => start(alloc, [1, 0]),
-        _ => Some(Op::Learn { link: 0 }),
+        2 => Some(Op::Learn { link: 0 }),
+        _ => Some(Op::Take { link: 1 }),
     }
 }
 
@@ -248,42 +251,42 @@ fn we_detach(rt: HostRuntime) -> Result<(), Fail> {
 fn we_end(rt: HostRuntime) -> Result<(), Fail> {
     let seed = seed_of(rt.alloc(), 16, 1000)?;
     let due = (Refusal::NoLink, Refusal::NotMapped);
-    refused_all::<Brand, HostRuntime>(&rt, rt.alloc(), seed, (0, 3), Way::Ends, due)
+    refused_all::<Brand, HostRuntime>(&rt, rt.alloc(), seed, (0, MANY), Way::Ends, due)
 }
 
 #[test]
 fn we_shut(rt: HostRuntime) -> Result<(), Fail> {
     let seed = seed_of(rt.alloc(), 16, 1000)?;
     let due = (Refusal::NotRunning, Refusal::NotRunning);
-    refused_all::<Brand, HostRuntime>(&rt, rt.alloc(), seed, (0, 3), Way::Shuts, due)
+    refused_all::<Brand, HostRuntime>(&rt, rt.alloc(), seed, (0, MANY), Way::Shuts, due)
 }
 
 #[test]
 fn the_octets_end(rt: HostRuntime) -> Result<(), Fail> {
     let seed = seed_of(rt.alloc(), 16, 1000)?;
     let due = (Refusal::NotRunning, Refusal::NotRunning);
-    refused_all::<Brand, HostRuntime>(&rt, rt.alloc(), seed, (0, 3), Way::Loses, due)
+    refused_all::<Brand, HostRuntime>(&rt, rt.alloc(), seed, (0, MANY), Way::Loses, due)
 }
 
 #[test]
 fn the_journal_is_full(rt: HostRuntime) -> Result<(), Fail> {
-    let seed = seed_of(rt.alloc(), 16, 11)?;
+    let seed = seed_of(rt.alloc(), 16, 29)?;
     let due = (Refusal::JournalFull, Refusal::JournalFull);
-    refused_all::<Brand, HostRuntime>(&rt, rt.alloc(), seed, (0, 3), Way::Fills, due)
+    refused_all::<Brand, HostRuntime>(&rt, rt.alloc(), seed, (0, MANY), Way::Fills, due)
 }
 
 #[test]
 fn the_peer_detaches(rt: HostRuntime) -> Result<(), Fail> {
     let seed = seed_of(rt.alloc(), 16, 1000)?;
     let due = (Refusal::NoLink, Refusal::NoLink);
-    refused_all::<Brand, HostRuntime>(&rt, rt.alloc(), seed, (0, 3), Way::HearsDetaches, due)
+    refused_all::<Brand, HostRuntime>(&rt, rt.alloc(), seed, (0, MANY), Way::HearsDetaches, due)
 }
 
 #[test]
 fn the_peer_ends(rt: HostRuntime) -> Result<(), Fail> {
     let seed = seed_of(rt.alloc(), 16, 1000)?;
     let due = (Refusal::NoLink, Refusal::NotMapped);
-    refused_all::<Brand, HostRuntime>(&rt, rt.alloc(), seed, (0, 3), Way::HearsEnd, due)
+    refused_all::<Brand, HostRuntime>(&rt, rt.alloc(), seed, (0, MANY), Way::HearsEnd, due)
 }
 
 #[test]
