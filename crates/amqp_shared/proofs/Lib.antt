@@ -7,4 +7,3 @@ pub mod Crossing
 pub mod Walks
 pub mod Rounds
 pub mod Held
-pub mod Asleep
