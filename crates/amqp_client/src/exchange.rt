@@ -1,17 +1,20 @@
 //! The commands `send` and `receive`: messages to a peer, or from one, over TCP.
+use crate::again::pause;
 use crate::bodies::{Bodies, Labels};
 use crate::client::Client;
 use crate::fault::ClientFault;
 use crate::printing::{Printed, write_taken};
 use crate::progress::{Progress, Watch};
+use crate::receive_again::receive_again;
+use crate::send_again::send_again;
 use crate::sending::Outcomes;
 use crate::traced::Traced;
 use crate::waits::TICK;
 use amqp_conn::{AmqpError, Boxed, Config, Conn, DeliveryState, Role, Taken, Text, error_of};
 use amqp_trace::{Direction, Tracer};
 use std::alloc::{AllocError, Global};
-use std::io::{BufRead, Read, Write};
-use std::net::{Net, OpenListener, TcpListener, TcpStream};
+use std::io::{BufRead, ErrorKind, Read, Write};
+use std::net::{Net, OpenListener, SocketAddr, TcpListener, TcpStream};
 use std::rt::{Clock, Files};
 use std::time::Duration;
 use std::{fs, io};
@@ -57,6 +60,10 @@ pub struct Exchange<'a> {
     pub is_traced: bool,
     /// It is not told on standard error how far it is; nor is it where frames are, or something is printed of each message.
     pub is_quiet: bool,
+    /// The file that says what became of each message: with it a connection that is lost is taken up again, and a run that was killed.
+    pub journal: Option<&'a str>,
+    /// How often in a row another connection is tried where none brings anything; of no use without a `journal`.
+    pub retries: u32,
 }
 
 /// When `receive` gives credit.
@@ -104,6 +111,16 @@ pub enum ExchangeFault {
     Out(io::Error),
     #[error("{0} of the messages could not be accepted: the peer may send them again")]
     Unsettled(u64),
+    #[error("{0} of the messages were accepted, and the peer may ask for that again")]
+    Doubted(u64),
+    #[error("the journal failed: {0}")]
+    Journal(io::Error),
+    #[error("line {0} of the journal is none, or cannot stand there")]
+    NoLine(u64),
+    #[error("the journal is of another link")]
+    OtherLink,
+    #[error("the journal has more messages than there are")]
+    TooFew,
     #[error("memory was refused")]
     NoMemory,
 }
@@ -143,16 +160,42 @@ where
     R: AllocGlobal + Net<Stream = TcpStream> + Eprint + Clock + Files,
 {
     let file = file_of(rt, exchange.file)?;
-    let mut client = meet(rt, alloc, exchange)?;
     let mut progress = Progress::new(rt, is_told(exchange), wanted_of(exchange));
-    let sent = send_all(alloc, &mut client, exchange, file, input, &mut progress);
+    let sent = match exchange.journal {
+        Some(path) => send_again(rt, alloc, exchange, path, file, input, out, &mut progress),
+        None => send_once(rt, alloc, exchange, file, input, out, &mut progress),
+    };
     progress.end();
-    let told = tell_error(out, &client, sent.is_err());
-    drop(client);
-    told.map_err(ExchangeFault::Out)?;
     let sent = sent?;
     tell_sent(out, &sent).map_err(ExchangeFault::Out)?;
     Ok(exchange.is_settled || sent.outcomes.accepted == sent.count)
+}
+
+/// Sends them over one connection.
+fn send_once<R, I: BufRead, W: Write, P: Watch>(
+    rt: &R,
+    alloc: Global,
+    exchange: &Exchange<'_>,
+    file: Option<Vec<u8>>,
+    input: &mut I,
+    out: &mut W,
+    watch: &mut P,
+) -> Result<Sent, ExchangeFault>
+where
+    R: Net<Stream = TcpStream> + Eprint + Clock,
+{
+    let mut client = match meet(rt, alloc, exchange, None) {
+        Ok(client) => client,
+        Err(fault) => {
+            drop(file);
+            return Err(fault);
+        }
+    };
+    let sent = send_all(alloc, &mut client, exchange, file, input, watch);
+    let told = tell_error(out, &client, sent.is_err());
+    drop(client);
+    told.map_err(ExchangeFault::Out)?;
+    sent
 }
 
 /// Takes messages, prints what is asked for of each, accepts it, and tells in three lines how many there were, how many octets they had, and how many could not be
@@ -168,22 +211,47 @@ pub fn run_receive<R, W: Write>(
     out: &mut W,
 ) -> Result<bool, ExchangeFault>
 where
-    R: Net<Stream = TcpStream> + Eprint + Clock,
+    R: AllocGlobal + Net<Stream = TcpStream> + Eprint + Clock + Files,
 {
-    let mut client = meet(rt, alloc, exchange)?;
     let mut progress = Progress::new(rt, is_told(exchange), wanted_of(exchange));
-    let received = receive_all(alloc, &mut client, exchange, out, &mut progress);
+    let received = match exchange.journal {
+        Some(path) => receive_again(rt, alloc, exchange, path, out, &mut progress),
+        None => receive_once(rt, alloc, exchange, out, &mut progress),
+    };
     progress.end();
-    let told = tell_error(out, &client, received.is_err());
-    drop(client);
-    told.map_err(ExchangeFault::Out)?;
     let received = received?;
     if !is_alone(exchange.printed) {
         tell_received(out, received).map_err(ExchangeFault::Out)?;
     } else if received.unsettled != 0 {
-        return Err(ExchangeFault::Unsettled(received.unsettled));
+        return Err(unsettled(exchange, received.unsettled));
     }
     Ok(received.unsettled == 0)
+}
+
+fn unsettled(exchange: &Exchange<'_>, count: u64) -> ExchangeFault {
+    match exchange.journal {
+        Some(_) => ExchangeFault::Doubted(count),
+        None => ExchangeFault::Unsettled(count),
+    }
+}
+
+/// Takes them over one connection.
+fn receive_once<R, W: Write, P: Watch>(
+    rt: &R,
+    alloc: Global,
+    exchange: &Exchange<'_>,
+    out: &mut W,
+    watch: &mut P,
+) -> Result<Received, ExchangeFault>
+where
+    R: Net<Stream = TcpStream> + Eprint + Clock,
+{
+    let mut client = meet(rt, alloc, exchange, None)?;
+    let received = receive_all(alloc, &mut client, exchange, out, watch);
+    let told = tell_error(out, &client, received.is_err());
+    drop(client);
+    told.map_err(ExchangeFault::Out)?;
+    received
 }
 
 /// The octets of the file, if there is one.
@@ -217,7 +285,7 @@ fn is_alone(printed: Printed) -> bool {
 }
 
 /// Where it failed: the error that the peer told by its close, or by the frame that came last.
-fn tell_error<R: Read, W: Write, O: Write>(
+pub(crate) fn tell_error<R: Read, W: Write, O: Write>(
     out: &mut O,
     client: &Client<R, W>,
     has_failed: bool,
@@ -275,13 +343,14 @@ fn tell_received<W: Write>(out: &mut W, received: Received) -> io::Result<()> {
     out.flush()
 }
 
-/// The peer, over a socket.
-fn meet<'a, R: Net<Stream = TcpStream> + Eprint>(
+/// The peer, over a socket. One that is to connect is waited for so many pauses; none: for good.
+pub(crate) fn meet<'a, R: Net<Stream = TcpStream> + Eprint + Clock>(
     rt: &'a R,
     alloc: Global,
     exchange: &Exchange<'_>,
+    pauses: Option<u32>,
 ) -> Result<Told<'a, R>, ExchangeFault> {
-    let writer = stream_of(rt, exchange).map_err(ExchangeFault::Socket)?;
+    let writer = stream_of(rt, exchange, pauses).map_err(ExchangeFault::Socket)?;
     let reader = reader_of(&writer, exchange.patience).map_err(ExchangeFault::Socket)?;
     let heard = tracer(alloc, exchange, Direction::Heard, exchange.max_frame);
     let sent = tracer(alloc, exchange, Direction::Sent, u32::MAX);
@@ -306,10 +375,14 @@ fn tracer(
     }
 }
 
-fn stream_of<R: Net<Stream = TcpStream>>(rt: &R, exchange: &Exchange<'_>) -> io::Result<TcpStream> {
+fn stream_of<R: Net<Stream = TcpStream> + Clock>(
+    rt: &R,
+    exchange: &Exchange<'_>,
+    pauses: Option<u32>,
+) -> io::Result<TcpStream> {
     let there = (exchange.host, exchange.port);
     let met = if exchange.is_listening {
-        accepted(rt, there)
+        accepted(rt, there, pauses)
     } else {
         TcpStream::connect(rt, there)
     };
@@ -319,15 +392,38 @@ fn stream_of<R: Net<Stream = TcpStream>>(rt: &R, exchange: &Exchange<'_>) -> io:
     }
 }
 
-/// The first peer that connects there.
-fn accepted<R: Net<Stream = TcpStream>>(rt: &R, there: (&str, u16)) -> io::Result<TcpStream> {
+/// The first peer that connects there, within so many pauses; none: at any time.
+fn accepted<R: Net<Stream = TcpStream> + Clock>(
+    rt: &R,
+    there: (&str, u16),
+    pauses: Option<u32>,
+) -> io::Result<TcpStream> {
     let listener = TcpListener::bind(rt, there)?;
-    let answer = listener.accept();
+    let answer = match pauses {
+        Some(pauses) => accept_within(rt, &listener, pauses),
+        None => listener.accept(),
+    };
     drop(listener);
     match answer {
         Ok((stream, _)) => Ok(stream),
         Err(error) => Err(error),
     }
+}
+
+fn accept_within<R: Clock, L: OpenListener<Stream = TcpStream>>(
+    rt: &R,
+    listener: &L,
+    pauses: u32,
+) -> io::Result<(TcpStream, SocketAddr)> {
+    listener.set_nonblocking(true)?;
+    for _ in 0..pauses {
+        match listener.accept() {
+            Err(error) if error.kind() == ErrorKind::WouldBlock => drop(error),
+            answer => return answer,
+        }
+        pause(rt);
+    }
+    listener.accept()
 }
 
 fn without_delay(stream: TcpStream) -> io::Result<TcpStream> {

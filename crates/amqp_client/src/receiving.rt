@@ -1,7 +1,7 @@
 //! Messages are taken, and settled.
 use crate::client::{Client, LINK};
 use crate::fault::ClientFault;
-use amqp_conn::{Boxed, DeliveryState, Given, Left, Op, Refusal, Role, Taken, ops};
+use amqp_conn::{Boxed, DeliveryState, Given, Left, Op, Refusal, Role, Tag, Taken, ops};
 use std::io::{Read, Write};
 
 fn taken_of(given: Given) -> Option<Boxed<Taken>> {
@@ -88,8 +88,63 @@ impl<R: Read, W: Write> Client<R, W> {
         Ok(None)
     }
 
+    /// The next message that is there; none where there is none, or the link is gone. It waits for nothing.
+    pub(crate) fn take_ready(&mut self) -> Result<Option<Boxed<Taken>>, ClientFault> {
+        let op = ops::take(LINK);
+        let answer = self.conn.apply(&op);
+        drop(op);
+        match answer {
+            Ok(given) => Ok(taken_of(given)),
+            Err(Refusal::NoMemory) => Err(ClientFault::NoMemory),
+            Err(_) => Ok(None),
+        }
+    }
+
+    /// The link is there, and the sender has not settled the delivery with this tag that we have taken: it waits to be resumed, or is held.
+    pub(crate) fn is_unsettled(&self, tag: &Tag) -> bool {
+        let endpoint = self.conn.logged().endpoint();
+        match endpoint.link_of(LINK) {
+            Some(link) if link.waits(tag) => return true,
+            Some(_) => {}
+            None => return false,
+        }
+        for place in 0..endpoint.unsettled_len(Role::Receiver) {
+            match endpoint.unsettled_at(Role::Receiver, place) {
+                Some(item) if item.tag == *tag => return true,
+                _ => {}
+            }
+        }
+        false
+    }
+
+    /// How many deliveries wait to be resumed by the sender. O(n) for n of them.
+    pub(crate) fn waiting_len(&self) -> u32 {
+        let endpoint = self.conn.logged().endpoint();
+        for place in 0..u32::MAX {
+            if endpoint.waiting_at(LINK, place as usize).is_none() {
+                return place;
+            }
+        }
+        u32::MAX
+    }
+
+    /// Accepts the message with this id, and leaves it to the sender to settle it (part 2, 2.6.12): so it stays known here until the sender knows, too.
+    pub(crate) fn accept_unsettled(&mut self, id: u32) -> Result<(), ClientFault> {
+        let told = self.perform(Op::Dispose {
+            role: Role::Receiver,
+            first: id,
+            last: id,
+            settled: false,
+            state: Some(DeliveryState::Accepted),
+        });
+        match told {
+            Err(ClientFault::Refused(Refusal::NothingHeld)) => Ok(()),
+            answer => answer,
+        }
+    }
+
     /// What the link left, which is gone.
-    fn take_last(&mut self) -> Result<Option<Boxed<Taken>>, ClientFault> {
+    pub(crate) fn take_last(&mut self) -> Result<Option<Boxed<Taken>>, ClientFault> {
         match self.conn.pop_left_by(Role::Receiver, LINK) {
             Ok(Some(left)) => Ok(left_of(left)),
             Ok(None) => Ok(None),

@@ -131,7 +131,19 @@ pub fn send<'a>(alloc: Global) -> Result<Command<'a>, AllocError> {
         alloc,
         "settled",
         "The messages go settled: nothing is told of them",
-    ))
+    ))?
+    .arg(journal(alloc, "settled")?)
+}
+
+/// The option of `send` and `receive` that says which file is their journal, which does not go with this other one.
+fn journal<'a>(alloc: Global, other: &'static str) -> Result<Arg<'a>, AllocError> {
+    let help =
+        "Keeps in this file what became of each message: lost connections, and runs that were killed, are taken up again";
+    Arg::new(alloc, "journal")
+        .long("journal")
+        .value_name("PATH")
+        .help(help)
+        .conflicts_with(other)
 }
 
 fn file<'a>(alloc: Global) -> Result<Arg<'a>, AllocError> {
@@ -175,7 +187,8 @@ pub fn receive<'a>(alloc: Global) -> Result<Command<'a>, AllocError> {
         .arg(drain(alloc)?)?
         .arg(flag(alloc, "lines", lines))?
         .arg(flag(alloc, "sections", sections))?
-        .arg(flag(alloc, "json", json))
+        .arg(flag(alloc, "json", json))?
+        .arg(journal(alloc, "drain")?)
 }
 
 /// The command `serve` with its options.
@@ -213,6 +226,8 @@ pub fn serve<'a>(alloc: Global) -> Result<Command<'a>, AllocError> {
 /// The command, with the options that say who the peer is, and of how many messages.
 fn with_peer<'a>(alloc: Global, command: Command<'a>) -> Result<Command<'a>, AllocError> {
     let count = usual(alloc, "count", "How many messages", "1");
+    let retries =
+        "With a journal: how often in a row a peer is tried again where that brings nothing";
     command
         .arg(text(
             alloc,
@@ -233,6 +248,7 @@ fn with_peer<'a>(alloc: Global, command: Command<'a>) -> Result<Command<'a>, All
         .arg(max_frame(alloc))?
         .arg(flag(alloc, "trace", "Tells each frame on standard error"))?
         .arg(flag(alloc, "quiet", "Does not tell how far it is"))?
+        .arg(usual(alloc, "retries", retries, "20"))?
         .arg(count.value_parser(value_parser!(u32).range(1..)))
 }
 
@@ -348,6 +364,8 @@ fn exchange_of<'a>(options: &ArgMatches<'a>) -> Option<Exchange<'a>> {
         printed: Printed::Nothing,
         is_traced: options.get_flag("trace"),
         is_quiet: options.get_flag("quiet"),
+        journal: options.get_str("journal"),
+        retries: options.get_one::<u32>("retries")?,
     })
 }
 
