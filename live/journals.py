@@ -34,6 +34,8 @@ class Cutter:
         except OSError:
             near.close()
             return
+        for it in (near, far):
+            it.setsockopt(socket.IPPROTO_TCP, socket.TCP_NODELAY, 1)
         left = [self.cuts.pop(0) if self.cuts else None]
         ends = [threading.Thread(target=self.carry, args=(*it, left), daemon=True) for it in ((near, far), (far, near))]
         for it in ends:
