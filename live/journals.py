@@ -9,7 +9,7 @@ import time
 
 COUNT = 2000
 # When an end is killed: how many lines `receive` had printed.
-KILLS = ((1, 300), (150, 151), (700, 1200), (1990, 1999))
+KILLS = ((1, 300), (150, 151), (700, 1200), (1700, 1850))
 # After how many octets, of both ways, a connection is cut, one behind the other; the next one stays.
 CUTS = (0, 8, 100, 300, 700, 2000, 20000, 30000)
 

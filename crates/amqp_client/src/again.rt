@@ -20,7 +20,7 @@ const MOST: u32 = 1024;
 /// What an attach takes for a delivery that it brings in, in octets: a tag of 32 octets, a state, and their heads.
 const ITEM: u32 = 44;
 
-/// The connection ended without being closed, or there is none: what it was about can go on over another one.
+/// The connection ended without being closed as agreed, or none came about: what it was about can go on over another one.
 pub(crate) fn is_lost(fault: &ExchangeFault) -> bool {
     match fault {
         ExchangeFault::Socket(_) => true,
@@ -33,9 +33,31 @@ fn is_lost_by(fault: &ClientFault) -> bool {
     match fault {
         ClientFault::EndOfInput
         | ClientFault::Silent
+        | ClientFault::Ended
         | ClientFault::Pump(PumpFault::Read)
         | ClientFault::Pump(PumpFault::Write) => true,
         _ => false,
+    }
+}
+
+/// A peer that closes the connection with an error has ended it before its time.
+pub(crate) fn unless_forced<R: Read, W: Write>(
+    ended: Result<(), ExchangeFault>,
+    client: &Client<R, W>,
+) -> Result<(), ExchangeFault> {
+    match ended {
+        Err(ExchangeFault::Client(ClientFault::Closed)) if client.conn().ended_by().is_some() => {
+            Err(ExchangeFault::Client(ClientFault::Ended))
+        }
+        ended => ended,
+    }
+}
+
+/// It failed, and not since the connection was lost.
+pub(crate) fn has_failed(ended: &Result<(), ExchangeFault>) -> bool {
+    match ended {
+        Ok(()) => false,
+        Err(fault) => !is_lost(fault),
     }
 }
 
@@ -85,13 +107,17 @@ impl Tries {
         if self.left == 0 || !is_lost(&fault) {
             return Err(fault);
         }
-        self.left -= 1;
+        self.left = self.left.saturating_sub(1);
         self.is_again = true;
         if !exchange.is_quiet {
             let _ = eprintln!(rt; "again: {fault}");
         }
+        // The peer is not kept waiting by one that listens.
+        let is_ready = exchange.is_listening && !matches!(fault, ExchangeFault::Socket(_));
         drop(fault);
-        pause(rt);
+        if !is_ready {
+            pause(rt);
+        }
         Ok(())
     }
 }

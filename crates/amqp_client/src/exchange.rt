@@ -99,6 +99,8 @@ pub struct Received {
 pub enum ExchangeFault {
     #[error("a socket failed: {0}")]
     Socket(io::Error),
+    #[error("no peer has connected")]
+    NoPeer,
     #[error("{0}")]
     Client(ClientFault),
     #[error("a line cannot be read: {0}")]
@@ -162,7 +164,7 @@ where
     let file = file_of(rt, exchange.file)?;
     let mut progress = Progress::new(rt, is_told(exchange), wanted_of(exchange));
     let sent = match exchange.journal {
-        Some(path) => send_again(rt, alloc, exchange, path, file, input, out, &mut progress),
+        Some(path) => send_again(rt, exchange, path, file, input, out, &mut progress),
         None => send_once(rt, alloc, exchange, file, input, out, &mut progress),
     };
     progress.end();
@@ -215,7 +217,7 @@ where
 {
     let mut progress = Progress::new(rt, is_told(exchange), wanted_of(exchange));
     let received = match exchange.journal {
-        Some(path) => receive_again(rt, alloc, exchange, path, out, &mut progress),
+        Some(path) => receive_again(rt, exchange, path, out, &mut progress),
         None => receive_once(rt, alloc, exchange, out, &mut progress),
     };
     progress.end();
@@ -350,7 +352,7 @@ pub(crate) fn meet<'a, R: Net<Stream = TcpStream> + Eprint + Clock>(
     exchange: &Exchange<'_>,
     pauses: Option<u32>,
 ) -> Result<Told<'a, R>, ExchangeFault> {
-    let writer = stream_of(rt, exchange, pauses).map_err(ExchangeFault::Socket)?;
+    let writer = stream_of(rt, exchange, pauses).map_err(unless_none)?;
     let reader = reader_of(&writer, exchange.patience).map_err(ExchangeFault::Socket)?;
     let heard = tracer(alloc, exchange, Direction::Heard, exchange.max_frame);
     let sent = tracer(alloc, exchange, Direction::Sent, u32::MAX);
@@ -360,6 +362,14 @@ pub(crate) fn meet<'a, R: Net<Stream = TcpStream> + Eprint + Clock>(
         Traced::new(writer, rt, sent),
         exchange,
     )
+}
+
+fn unless_none(error: io::Error) -> ExchangeFault {
+    if error.kind() == ErrorKind::WouldBlock {
+        ExchangeFault::NoPeer
+    } else {
+        ExchangeFault::Socket(error)
+    }
 }
 
 fn tracer(

@@ -228,6 +228,10 @@ fn digits_of(alloc: Global, name: &str) -> Result<Vec<u8>, ExchangeFault> {
     }
 }
 
+fn put<W: Write>(out: &mut W, line: &Line<'_>) -> io::Result<()> {
+    writeln!(out, "{line}")
+}
+
 impl<F: Write + OpenFile + Drop> Journal<F> {
     /// How many lines were noted since it was opened.
     pub(crate) fn noted(&self) -> u64 {
@@ -255,7 +259,7 @@ impl<F: Write + OpenFile + Drop> Journal<F> {
             Some(link) if link.as_slice() == digits.as_slice() => Ok(()),
             Some(_) => Err(ExchangeFault::OtherLink),
             None => {
-                self.note(Line::Link(role, digits.as_slice()))?;
+                self.note(&Line::Link(role, digits.as_slice()))?;
                 self.link = Some(digits);
                 self.sync()
             }
@@ -267,7 +271,7 @@ impl<F: Write + OpenFile + Drop> Journal<F> {
     /// # Errors
     ///
     /// `Journal` where the write fails.
-    pub(crate) fn note(&mut self, line: Line<'_>) -> Result<(), ExchangeFault> {
+    pub(crate) fn note(&mut self, line: &Line<'_>) -> Result<(), ExchangeFault> {
         match self.write(line) {
             Ok(()) => {
                 self.noted = self.noted.saturating_add(1);
@@ -278,9 +282,9 @@ impl<F: Write + OpenFile + Drop> Journal<F> {
     }
 
     /// In one write, so that a line is torn by nothing but a kill in its middle.
-    fn write(&mut self, line: Line<'_>) -> io::Result<()> {
+    fn write(&mut self, line: &Line<'_>) -> io::Result<()> {
         self.line.clear();
-        writeln!(self.line, "{line}")?;
+        put(&mut self.line, line)?;
         self.file.write_all(self.line.as_slice())?;
         self.file.flush()
     }

@@ -77,14 +77,6 @@ fn brought(alloc: Global, role: Role, tags: &[Tag]) -> Result<Brought, AllocErro
     Brought::new(alloc, items)
 }
 
-/// The receiver settles second, so that it keeps what it has accepted until the sender knows that (part 2, 2.8.3).
-fn settling_of(role: Role) -> u8 {
-    match role {
-        Role::Sender => ops::RECEIVER_FIRST,
-        Role::Receiver => ops::RECEIVER_SECOND,
-    }
-}
-
 /// The attach, which brings these deliveries in.
 fn rejoining(alloc: Global, attach: Op, items: Brought) -> Result<Op, AllocError> {
     match attach {
@@ -92,17 +84,17 @@ fn rejoining(alloc: Global, attach: Op, items: Brought) -> Result<Op, AllocError
             name,
             role,
             snd,
+            rcv,
             source,
             target,
             count,
             max_message,
-            ..
         } => {
             let rejoin = Rejoin {
                 name,
                 role,
                 snd,
-                rcv: settling_of(role),
+                rcv,
                 source,
                 target,
                 count,

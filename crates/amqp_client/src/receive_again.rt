@@ -1,13 +1,12 @@
 //! The command `receive` with a journal: each message is written out once, over as many connections as it takes, in as many runs.
-use crate::again::{Recalls, Tries, join, most_in_doubt, recall_all};
+use crate::again::{Recalls, Tries, has_failed, join, most_in_doubt, recall_all, unless_forced};
 use crate::client::Client;
 use crate::exchange::{Exchange, ExchangeFault, Received, Renewal, meet, tell_error};
 use crate::fault::ClientFault;
 use crate::journal::{Journal, Line, open_journal, text_of, whole_lines};
 use crate::printing::{Printed, write_taken};
 use crate::progress::Watch;
-use crate::send_again::has_failed;
-use amqp_conn::{Boxed, Refusal, Role, Tag, Taken};
+use amqp_conn::{Boxed, DeliveryState, Refusal, Role, Tag, Taken};
 use std::alloc::Global;
 use std::collections::VecDeque;
 use std::fs::OpenFile;
@@ -23,9 +22,18 @@ struct Known {
     count: u64,
     /// Their octets.
     octets: u64,
-    /// The tags of those that the sender has not settled yet.
-    doubts: VecDeque<Tag>,
+    /// The tags of those that were accepted over an earlier connection: whether their sender knows that is not known.
+    brought: VecDeque<Tag>,
+    /// The tags of those that were accepted over this connection: it is not known yet whether their sender has heard that.
+    told: VecDeque<Tag>,
     alloc: Global,
+}
+
+fn push(tags: &mut VecDeque<Tag>, tag: Tag) -> Result<(), ExchangeFault> {
+    match tags.push_back(tag) {
+        Ok(()) => Ok(()),
+        Err(_) => Err(ExchangeFault::NoMemory),
+    }
 }
 
 impl Known {
@@ -34,7 +42,8 @@ impl Known {
             link: None,
             count: 0,
             octets: 0,
-            doubts: VecDeque::new(alloc),
+            brought: VecDeque::new(alloc),
+            told: VecDeque::new(alloc),
             alloc,
         }
     }
@@ -48,28 +57,30 @@ impl Known {
     }
 
     fn take(&mut self, tag: Tag, octets: u64) -> Result<(), ExchangeFault> {
-        match self.doubts.push_back(tag) {
-            Ok(()) => {
-                self.count = self.count.saturating_add(1);
-                self.octets = self.octets.saturating_add(octets);
-                Ok(())
-            }
-            Err(_) => Err(ExchangeFault::NoMemory),
-        }
+        push(&mut self.told, tag)?;
+        self.count = self.count.saturating_add(1);
+        self.octets = self.octets.saturating_add(octets);
+        Ok(())
     }
 
-    /// False where the message is not in doubt.
+    /// False where no message with this tag is in doubt.
     fn settle(&mut self, tag: &Tag) -> bool {
-        match self.doubts.iter().position(|doubt| *doubt == *tag) {
-            Some(place) => self.doubts.remove(place).is_some(),
+        match self.told.iter().position(|told| *told == *tag) {
+            Some(place) => self.told.remove(place).is_some(),
             None => false,
         }
     }
 
-    /// The tags of what is in doubt.
-    fn tags(&self) -> Result<Vec<Tag>, ExchangeFault> {
+    /// Another connection begins: the tags of what it brings in.
+    fn bring(&mut self) -> Result<Vec<Tag>, ExchangeFault> {
+        for _ in 0..u64::MAX {
+            match self.told.pop_front() {
+                Some(tag) => push(&mut self.brought, tag)?,
+                None => break,
+            }
+        }
         let mut tags = Vec::new(self.alloc);
-        for tag in self.doubts.iter() {
+        for tag in self.brought.iter() {
             if tags.push(*tag).is_err() {
                 return Err(ExchangeFault::NoMemory);
             }
@@ -77,11 +88,16 @@ impl Known {
         Ok(tags)
     }
 
+    /// How many messages are in doubt.
+    fn doubts(&self) -> usize {
+        self.brought.len().saturating_add(self.told.len())
+    }
+
     fn received(&self) -> Received {
         Received {
             count: self.count,
             octets: self.octets,
-            unsettled: self.doubts.len() as u64,
+            unsettled: self.doubts() as u64,
         }
     }
 }
@@ -100,17 +116,26 @@ impl Recalls for Known {
     }
 }
 
+/// Credit was given. A message that comes by it shows that the sender has heard what was told before (part 2, 2.6.7).
+#[derive(Clone, Copy)]
+struct Mark {
+    /// So many of the messages that were told come before it.
+    count: usize,
+    /// So many messages may still come by older credit.
+    left: u32,
+}
+
 /// The messages of an exchange, and its journal.
 #[derive(Drop)]
 struct Receives<F> {
     journal: Journal<F>,
     known: Known,
+    mark: Option<Mark>,
 }
 
 /// As `run_receive`, with the journal at this path: what came of it, in all runs.
 pub(crate) fn receive_again<R, W: Write, P: Watch>(
     rt: &R,
-    alloc: Global,
     exchange: &Exchange<'_>,
     path: &str,
     out: &mut W,
@@ -119,14 +144,14 @@ pub(crate) fn receive_again<R, W: Write, P: Watch>(
 where
     R: AllocGlobal + Net<Stream = TcpStream> + Eprint + Clock + Files,
 {
-    match receives_of(rt, alloc, path) {
+    match receives_of(rt, path) {
         Ok(mut receives) => {
-            let ended = receive_on(rt, alloc, exchange, &mut receives, out, watch);
+            let ended = receive_on(rt, exchange, &mut receives, out, watch);
             let received = receives.known.received();
             let has_all = receives.has_all(exchange);
             drop(receives);
             match ended {
-                Err(fault) if !has_all => Err(fault),
+                Err(fault) if !has_all || !is_of_peer(&fault) => Err(fault),
                 _ => Ok(received),
             }
         }
@@ -134,25 +159,35 @@ where
     }
 }
 
+/// The peer is gone: what it has not settled is in doubt, and all else is done.
+fn is_of_peer(fault: &ExchangeFault) -> bool {
+    match fault {
+        ExchangeFault::Socket(_) | ExchangeFault::NoPeer | ExchangeFault::Client(_) => true,
+        _ => false,
+    }
+}
+
 /// What the journal at this path tells.
 fn receives_of<R: AllocGlobal + Files>(
     rt: &R,
-    alloc: Global,
     path: &str,
 ) -> Result<Receives<R::File>, ExchangeFault> {
     let text = text_of(rt, path)?;
-    let mut known = Known::none(alloc);
+    let mut known = Known::none(rt.alloc());
     recall_all(text.as_slice(), &mut known)?;
     let mut journal = open_journal(rt, path, whole_lines(text.as_slice()).len())?;
     if let Some(digits) = known.link.take() {
         journal.set_link(digits);
     }
-    Ok(Receives { journal, known })
+    Ok(Receives {
+        journal,
+        known,
+        mark: None,
+    })
 }
 
 fn receive_on<R, F: Write + OpenFile + Drop, W: Write, P: Watch>(
     rt: &R,
-    alloc: Global,
     exchange: &Exchange<'_>,
     receives: &mut Receives<F>,
     out: &mut W,
@@ -166,7 +201,13 @@ where
         if receives.is_done(exchange) {
             break;
         }
-        match receive_over(rt, alloc, exchange, receives, out, watch, tries.pauses()) {
+        // Nobody may come who asks for what is done.
+        let pauses = if receives.has_all(exchange) {
+            Some(exchange.retries)
+        } else {
+            tries.pauses()
+        };
+        match receive_over(rt, exchange, receives, out, watch, pauses) {
             Ok(()) => break,
             Err(fault) => tries.again(rt, exchange, fault, receives.journal.noted())?,
         }
@@ -177,7 +218,6 @@ where
 /// Goes on over one connection.
 fn receive_over<R, F: Write + OpenFile + Drop, W: Write, P: Watch>(
     rt: &R,
-    alloc: Global,
     exchange: &Exchange<'_>,
     receives: &mut Receives<F>,
     out: &mut W,
@@ -187,8 +227,9 @@ fn receive_over<R, F: Write + OpenFile + Drop, W: Write, P: Watch>(
 where
     R: AllocGlobal + Net<Stream = TcpStream> + Eprint + Clock + Files,
 {
-    let mut client = meet(rt, alloc, exchange, pauses)?;
-    let ended = receives.go_on(alloc, &mut client, exchange, out, watch);
+    let mut client = meet(rt, rt.alloc(), exchange, pauses)?;
+    let ended = receives.go_on(rt.alloc(), &mut client, exchange, out, watch);
+    let ended = unless_forced(ended, &client);
     let told = tell_error(out, &client, has_failed(&ended));
     drop(client);
     told.map_err(ExchangeFault::Out)?;
@@ -203,7 +244,7 @@ impl<F: Write + OpenFile + Drop> Receives<F> {
 
     /// And the sender knows of each that it is accepted.
     fn is_done(&self, exchange: &Exchange<'_>) -> bool {
-        self.has_all(exchange) && self.known.doubts.is_empty()
+        self.has_all(exchange) && self.known.doubts() == 0
     }
 
     /// Goes on over this end until all is done, and ends link, session and connection.
@@ -216,8 +257,10 @@ impl<F: Write + OpenFile + Drop> Receives<F> {
         watch: &mut P,
     ) -> Result<(), ExchangeFault> {
         let ended = self.exchange(alloc, client, exchange, out, watch);
-        // What the sender settled before the end is known, too.
-        self.note_settled(client)?;
+        // Neither end keeps anything of a link that was detached for good, also where what came behind that is lost.
+        if client.is_gone_for_good() {
+            self.settle_all()?;
+        }
         self.journal.sync()?;
         match ended {
             Err(fault) if self.is_done(exchange) => {
@@ -236,26 +279,33 @@ impl<F: Write + OpenFile + Drop> Receives<F> {
         out: &mut O,
         watch: &mut P,
     ) -> Result<(), ExchangeFault> {
-        let tags = self.known.tags()?;
-        join(
-            alloc,
-            client,
-            exchange,
-            Role::Receiver,
-            &mut self.journal,
-            tags.as_slice(),
-        )?;
+        let tags = self.known.bring()?;
+        self.mark = None;
+        let role = Role::Receiver;
+        join(alloc, client, exchange, role, &mut self.journal, &tags)?;
         for _ in 0..u64::MAX {
             self.take_all(alloc, client, exchange, out, watch)?;
-            self.note_settled(client)?;
-            if self.is_done(exchange) {
+            self.look_brought(client)?;
+            if self.has_all(exchange) && self.known.brought.is_empty() {
                 break;
             }
             self.renew(client, exchange)?;
             self.turn(client)?;
         }
+        self.finish(client)
+    }
+
+    /// The sender answers our detach behind all that it was told. Where it closes before, as agreed, it wants to know no more.
+    fn finish<R: Read, W: Write>(
+        &mut self,
+        client: &mut Client<R, W>,
+    ) -> Result<(), ExchangeFault> {
         self.journal.sync()?;
-        Ok(client.finish()?)
+        client.finish()?;
+        if client.conn().ended_by().is_some() {
+            return Err(ExchangeFault::Client(ClientFault::Ended));
+        }
+        self.settle_all()
     }
 
     /// What was noted is kept before anything goes out.
@@ -347,43 +397,86 @@ impl<F: Write + OpenFile + Drop> Receives<F> {
         let written = write_taken(alloc, printed, &taken.get().payload, out);
         drop(taken);
         written?;
-        self.journal.note(Line::Taken(tag, octets))?;
+        self.confirm()?;
+        self.journal.note(&Line::Taken(tag, octets))?;
         self.known.take(tag, octets)?;
-        if is_settled {
-            return self.settle(tag);
-        }
-        Ok(client.accept_unsettled(id)?)
-    }
-
-    /// The sender knows what became of the message.
-    fn settle(&mut self, tag: Tag) -> Result<(), ExchangeFault> {
-        if self.known.settle(&tag) {
-            return self.journal.note(Line::Settled(tag));
+        if !is_settled {
+            // Where the link is gone the message stays in doubt.
+            client.settle_as(id, DeliveryState::Accepted)?;
         }
         Ok(())
     }
 
-    /// Notes what the sender has settled, in the order in which it was taken. Where it has put the link aside, or ended the session, nothing is known of that.
-    fn note_settled<R: Read, W: Write>(
-        &mut self,
-        client: &mut Client<R, W>,
-    ) -> Result<(), ExchangeFault> {
-        if client.is_gone() && !client.is_gone_for_good() {
-            return Ok(());
+    /// A message came: where it came by newer credit, what was told before that is known to the sender.
+    fn confirm(&mut self) -> Result<(), ExchangeFault> {
+        match self.mark {
+            Some(mark) if mark.left == 0 => {
+                self.mark = None;
+                self.settle_told(mark.count)
+            }
+            Some(mark) => {
+                self.mark = Some(Mark {
+                    left: mark.left.saturating_sub(1),
+                    ..mark
+                });
+                Ok(())
+            }
+            None => Ok(()),
         }
-        for _ in 0..u64::MAX {
-            match self.first_doubt() {
-                Some(tag) if !client.is_unsettled(&tag) => self.settle(tag)?,
-                _ => break,
+    }
+
+    /// Of so many messages that were told the sender knows what became of them.
+    fn settle_told(&mut self, count: usize) -> Result<(), ExchangeFault> {
+        for _ in 0..count {
+            match self.known.told.pop_front() {
+                Some(tag) => self.journal.note(&Line::Settled(tag))?,
+                None => break,
             }
         }
         Ok(())
     }
 
-    fn first_doubt(&self) -> Option<Tag> {
-        match self.known.doubts.front() {
-            Some(tag) => Some(*tag),
-            None => None,
+    /// Nothing is in doubt any more.
+    fn settle_all(&mut self) -> Result<(), ExchangeFault> {
+        for _ in 0..u64::MAX {
+            match self.known.brought.pop_front() {
+                Some(tag) => self.journal.note(&Line::Settled(tag))?,
+                None => break,
+            }
+        }
+        let count = self.known.told.len();
+        self.settle_told(count)
+    }
+
+    /// Looks, in their order, for what was brought in and waits no longer: the sender has not told of it, or has resumed it, settled or not.
+    fn look_brought<R: Read, W: Write>(
+        &mut self,
+        client: &mut Client<R, W>,
+    ) -> Result<(), ExchangeFault> {
+        for _ in 0..u64::MAX {
+            match self.known.brought.front() {
+                Some(tag) if !client.is_gone() && !client.waits(tag) => {}
+                _ => break,
+            }
+            if let Some(tag) = self.known.brought.pop_front() {
+                self.settle_brought(client, tag)?;
+            }
+        }
+        Ok(())
+    }
+
+    fn settle_brought<R: Read, W: Write>(
+        &mut self,
+        client: &mut Client<R, W>,
+        tag: Tag,
+    ) -> Result<(), ExchangeFault> {
+        match client.held(&tag) {
+            Some(id) => {
+                push(&mut self.known.told, tag)?;
+                client.settle_as(id, DeliveryState::Accepted)?;
+                Ok(())
+            }
+            None => self.journal.note(&Line::Settled(tag)),
         }
     }
 
@@ -397,15 +490,29 @@ impl<F: Write + OpenFile + Drop> Receives<F> {
             return Ok(());
         }
         let waiting = client.waiting_len();
-        let most = most_in_doubt(client).saturating_sub(self.known.doubts.len()) as u64;
+        // What came by the credit before is in doubt until something comes by this one.
+        let most = most_in_doubt(client).saturating_sub(self.known.brought.len()) / 2;
         let wanted = u64::from(exchange.count).saturating_sub(self.known.count);
-        let room = wanted.min(most).saturating_add(u64::from(waiting));
+        let room = wanted
+            .min(most.max(1) as u64)
+            .saturating_add(u64::from(waiting));
         let credit = room.min(u64::from(exchange.credit)) as u32;
         let left = client.credit();
         if left < credit && left <= least_of(exchange) {
             client.grant(credit)?;
+            self.set_mark(left);
         }
         Ok(client.renew_window()?)
+    }
+
+    /// Credit was given while so much was left. A message that has begun may come beside what that stands for.
+    fn set_mark(&mut self, left: u32) {
+        if self.mark.is_none() {
+            self.mark = Some(Mark {
+                count: self.known.told.len(),
+                left: left.saturating_add(1),
+            });
+        }
     }
 }
 

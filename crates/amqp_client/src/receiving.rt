@@ -100,21 +100,24 @@ impl<R: Read, W: Write> Client<R, W> {
         }
     }
 
-    /// The link is there, and the sender has not settled the delivery with this tag that we have taken: it waits to be resumed, or is held.
-    pub(crate) fn is_unsettled(&self, tag: &Tag) -> bool {
-        let endpoint = self.conn.logged().endpoint();
-        match endpoint.link_of(LINK) {
-            Some(link) if link.waits(tag) => return true,
-            Some(_) => {}
-            None => return false,
+    /// The delivery with this tag waits to be resumed by the sender.
+    pub(crate) fn waits(&self, tag: &Tag) -> bool {
+        match self.conn.logged().endpoint().link_of(LINK) {
+            Some(link) => link.waits(tag),
+            None => false,
         }
+    }
+
+    /// The id of the delivery with this tag, where it is unsettled. O(n) for n of them.
+    pub(crate) fn held(&self, tag: &Tag) -> Option<u32> {
+        let endpoint = self.conn.logged().endpoint();
         for place in 0..endpoint.unsettled_len(Role::Receiver) {
             match endpoint.unsettled_at(Role::Receiver, place) {
-                Some(item) if item.tag == *tag => return true,
+                Some(item) if item.tag == *tag => return Some(item.id),
                 _ => {}
             }
         }
-        false
+        None
     }
 
     /// How many deliveries wait to be resumed by the sender. O(n) for n of them.
@@ -126,21 +129,6 @@ impl<R: Read, W: Write> Client<R, W> {
             }
         }
         u32::MAX
-    }
-
-    /// Accepts the message with this id, and leaves it to the sender to settle it (part 2, 2.6.12): so it stays known here until the sender knows, too.
-    pub(crate) fn accept_unsettled(&mut self, id: u32) -> Result<(), ClientFault> {
-        let told = self.perform(Op::Dispose {
-            role: Role::Receiver,
-            first: id,
-            last: id,
-            settled: false,
-            state: Some(DeliveryState::Accepted),
-        });
-        match told {
-            Err(ClientFault::Refused(Refusal::NothingHeld)) => Ok(()),
-            answer => answer,
-        }
     }
 
     /// What the link left, which is gone.

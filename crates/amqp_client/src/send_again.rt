@@ -1,5 +1,5 @@
 //! The command `send` with a journal: each message goes once, over as many connections as it takes, in as many runs.
-use crate::again::{Recalls, Tries, is_lost, join, most_in_doubt, recall_all};
+use crate::again::{Recalls, Tries, has_failed, join, most_in_doubt, recall_all, unless_forced};
 use crate::bodies::Bodies;
 use crate::client::Client;
 use crate::exchange::{Exchange, ExchangeFault, Sent, meet, tell_error};
@@ -145,7 +145,6 @@ struct Sends<'a, F> {
 /// As `run_send`, with the journal at this path.
 pub(crate) fn send_again<R, I: BufRead, W: Write, P: Watch>(
     rt: &R,
-    alloc: Global,
     exchange: &Exchange<'_>,
     path: &str,
     file: Option<Vec<u8>>,
@@ -156,10 +155,10 @@ pub(crate) fn send_again<R, I: BufRead, W: Write, P: Watch>(
 where
     R: AllocGlobal + Net<Stream = TcpStream> + Eprint + Clock + Files,
 {
-    let bodies = Bodies::new(alloc, exchange, file)?;
-    match sends_of(rt, alloc, path, bodies) {
+    let bodies = Bodies::new(rt.alloc(), exchange, file)?;
+    match sends_of(rt, path, bodies) {
         Ok(mut sends) => {
-            let sent = send_on(rt, alloc, exchange, &mut sends, input, out, watch);
+            let sent = send_on(rt, exchange, &mut sends, input, out, watch);
             drop(sends);
             sent
         }
@@ -170,11 +169,10 @@ where
 /// What the journal at this path tells.
 fn sends_of<'a, R: AllocGlobal + Files>(
     rt: &R,
-    alloc: Global,
     path: &str,
     bodies: Bodies<'a>,
 ) -> Result<Sends<'a, R::File>, ExchangeFault> {
-    match recalled(rt, alloc, path) {
+    match recalled(rt, path) {
         Ok((journal, known)) => Ok(Sends {
             journal,
             bodies,
@@ -191,11 +189,10 @@ fn sends_of<'a, R: AllocGlobal + Files>(
 
 fn recalled<R: AllocGlobal + Files>(
     rt: &R,
-    alloc: Global,
     path: &str,
 ) -> Result<(Journal<R::File>, Known), ExchangeFault> {
     let text = text_of(rt, path)?;
-    let mut known = Known::none(alloc);
+    let mut known = Known::none(rt.alloc());
     recall_all(text.as_slice(), &mut known)?;
     let mut journal = open_journal(rt, path, whole_lines(text.as_slice()).len())?;
     if let Some(digits) = known.link.take() {
@@ -206,7 +203,6 @@ fn recalled<R: AllocGlobal + Files>(
 
 fn send_on<R, F: Write + OpenFile + Drop, I: BufRead, W: Write, P: Watch>(
     rt: &R,
-    alloc: Global,
     exchange: &Exchange<'_>,
     sends: &mut Sends<'_, F>,
     input: &mut I,
@@ -222,16 +218,7 @@ where
         if sends.is_done() {
             break;
         }
-        match send_over(
-            rt,
-            alloc,
-            exchange,
-            sends,
-            input,
-            out,
-            watch,
-            tries.pauses(),
-        ) {
+        match send_over(rt, exchange, sends, input, out, watch, tries.pauses()) {
             Ok(()) => break,
             Err(fault) => tries.again(rt, exchange, fault, sends.journal.noted())?,
         }
@@ -245,7 +232,6 @@ where
 /// Goes on over one connection.
 fn send_over<R, F: Write + OpenFile + Drop, I: BufRead, W: Write, P: Watch>(
     rt: &R,
-    alloc: Global,
     exchange: &Exchange<'_>,
     sends: &mut Sends<'_, F>,
     input: &mut I,
@@ -256,20 +242,13 @@ fn send_over<R, F: Write + OpenFile + Drop, I: BufRead, W: Write, P: Watch>(
 where
     R: AllocGlobal + Net<Stream = TcpStream> + Eprint + Clock + Files,
 {
-    let mut client = meet(rt, alloc, exchange, pauses)?;
-    let ended = sends.go_on(alloc, &mut client, exchange, input, watch);
+    let mut client = meet(rt, rt.alloc(), exchange, pauses)?;
+    let ended = sends.go_on(rt.alloc(), &mut client, exchange, input, watch);
+    let ended = unless_forced(ended, &client);
     let told = tell_error(out, &client, has_failed(&ended));
     drop(client);
     told.map_err(ExchangeFault::Out)?;
     ended
-}
-
-/// It failed, and not since the connection was lost.
-pub(crate) fn has_failed(ended: &Result<(), ExchangeFault>) -> bool {
-    match ended {
-        Ok(()) => false,
-        Err(fault) => !is_lost(fault),
-    }
 }
 
 impl<F: Write + OpenFile + Drop> Sends<'_, F> {
@@ -321,9 +300,12 @@ impl<F: Write + OpenFile + Drop> Sends<'_, F> {
         watch: &mut P,
     ) -> Result<(), ExchangeFault> {
         let ended = self.exchange(alloc, client, exchange, input, watch);
-        // What was told before the end is known, too.
+        // What was told before the end is known, too, and only then the peer's detach is answered.
         self.learn(client)?;
         self.journal.sync()?;
+        if client.is_gone() {
+            client.write_out();
+        }
         match ended {
             Err(fault) if self.is_done() => {
                 drop(fault);
@@ -383,7 +365,7 @@ impl<F: Write + OpenFile + Drop> Sends<'_, F> {
     /// What is told of a message once more is passed over.
     fn note_end(&mut self, number: u32, outcome: Outcome) -> Result<(), ExchangeFault> {
         if self.known.end(number, outcome) {
-            return self.journal.note(Line::Told(outcome, number));
+            return self.journal.note(&Line::Told(outcome, number));
         }
         Ok(())
     }
@@ -507,7 +489,7 @@ impl<F: Write + OpenFile + Drop> Sends<'_, F> {
         client: &mut Client<R, W>,
     ) -> Result<(), ExchangeFault> {
         let number = self.known.next;
-        self.journal.note(Line::Begun(number))?;
+        self.journal.note(&Line::Begun(number))?;
         self.known.begin(self.pending.take())?;
         self.send_once_more(client, number)
     }
