@@ -13,6 +13,7 @@
 //! | `traced` | devices of which it is told what goes over them |
 //! | `progress` | how far an exchange is ([`Watch`]) |
 //! | `exchange` | the commands `send` and `receive`, over TCP |
+//! | `meeting` | a peer is met over TCP |
 //! | `journal` | the file of lines that says what became of each message |
 //! | `again` | an exchange that goes on over one connection after the other |
 //! | `send_again`, `receive_again` | both commands with a journal |
@@ -29,6 +30,7 @@ pub mod exchange;
 mod fault;
 pub mod journal;
 mod json;
+mod meeting;
 mod opening;
 mod printing;
 mod progress;

@@ -1,9 +1,10 @@
 //! The command `receive` with a journal: each message is written out once, over as many connections as it takes, in as many runs.
 use crate::again::{Recalls, Tries, has_failed, join, most_in_doubt, recall_all, unless_forced};
 use crate::client::Client;
-use crate::exchange::{Exchange, ExchangeFault, Received, Renewal, meet, tell_error};
+use crate::exchange::{Exchange, ExchangeFault, Received, Renewal, tell_error};
 use crate::fault::ClientFault;
 use crate::journal::{Journal, Line, open_journal, text_of, whole_lines};
+use crate::meeting::meet;
 use crate::printing::{Printed, write_taken};
 use crate::progress::Watch;
 use amqp_conn::{Boxed, DeliveryState, Refusal, Role, Tag, Taken};

@@ -2,9 +2,10 @@
 use crate::again::{Recalls, Tries, has_failed, join, most_in_doubt, recall_all, unless_forced};
 use crate::bodies::Bodies;
 use crate::client::Client;
-use crate::exchange::{Exchange, ExchangeFault, Sent, meet, tell_error};
+use crate::exchange::{Exchange, ExchangeFault, Sent, tell_error};
 use crate::fault::ClientFault;
 use crate::journal::{Journal, Line, open_journal, text_of, whole_lines};
+use crate::meeting::meet;
 use crate::progress::Watch;
 use crate::sending::{Outcome, Outcomes, number_of};
 use amqp_conn::{Bytes, Refusal, Role, Tag, Verdict};
