@@ -136,7 +136,7 @@ pub(crate) fn most_in_doubt<R: Read, W: Write>(client: &Client<R, W>) -> usize {
 /// Is told each line of a journal's text, in its order.
 pub(crate) trait Recalls {
     /// False where there can be no such line behind those before.
-    fn recall(&mut self, line: Line<'_>) -> Result<bool, ExchangeFault>;
+    fn recall(&mut self, line: &Line<'_>) -> Result<bool, ExchangeFault>;
 }
 
 /// What the whole lines of the text tell.
@@ -157,7 +157,7 @@ pub(crate) fn recall_all<T: Recalls>(text: &[u8], to: &mut T) -> Result<(), Exch
 
 fn recall_one<T: Recalls>(line: &[u8], to: &mut T) -> Result<bool, ExchangeFault> {
     match read_line(line) {
-        Some(line) => to.recall(line),
+        Some(line) => to.recall(&line),
         None => Ok(false),
     }
 }

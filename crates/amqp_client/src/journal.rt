@@ -24,6 +24,48 @@ pub enum Line<'a> {
     Settled(Tag),
 }
 
+impl<'a> Line<'a> {
+    /// Our role on the link, and the link's name in hexadecimal, where it tells these.
+    pub(crate) fn link(&self) -> Option<(Role, &'a [u8])> {
+        match self {
+            Line::Link(role, name) => Some((*role, *name)),
+            _ => None,
+        }
+    }
+
+    /// The number of a message that begins.
+    pub(crate) fn begun(&self) -> Option<u32> {
+        match self {
+            Line::Begun(number) => Some(*number),
+            _ => None,
+        }
+    }
+
+    /// What became of the message with which number.
+    pub(crate) fn told(&self) -> Option<(Outcome, u32)> {
+        match self {
+            Line::Told(outcome, number) => Some((*outcome, *number)),
+            _ => None,
+        }
+    }
+
+    /// The tag of a message that was taken, and how many octets it has.
+    pub(crate) fn taken(&self) -> Option<(Tag, u64)> {
+        match self {
+            Line::Taken(tag, octets) => Some((*tag, *octets)),
+            _ => None,
+        }
+    }
+
+    /// The tag of a message that its sender knows to be accepted.
+    pub(crate) fn settled(&self) -> Option<Tag> {
+        match self {
+            Line::Settled(tag) => Some(*tag),
+            _ => None,
+        }
+    }
+}
+
 impl Display for Line<'_> {
     fn fmt<W: fmt::Write>(&self, f: &mut Formatter<W>) -> fmt::Result {
         match self {

@@ -104,15 +104,17 @@ impl Known {
 }
 
 impl Recalls for Known {
-    fn recall(&mut self, line: Line<'_>) -> Result<bool, ExchangeFault> {
-        match line {
-            Line::Link(role, digits) => self.take_link(role, digits),
-            Line::Taken(tag, octets) => {
-                self.take(tag, octets)?;
-                Ok(true)
-            }
-            Line::Settled(tag) => Ok(self.settle(&tag)),
-            _ => Ok(false),
+    fn recall(&mut self, line: &Line<'_>) -> Result<bool, ExchangeFault> {
+        if let Some((role, digits)) = line.link() {
+            return self.take_link(role, digits);
+        }
+        if let Some((tag, octets)) = line.taken() {
+            self.take(tag, octets)?;
+            return Ok(true);
+        }
+        match line.settled() {
+            Some(tag) => Ok(self.settle(&tag)),
+            None => Ok(false),
         }
     }
 }

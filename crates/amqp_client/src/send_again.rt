@@ -118,14 +118,18 @@ fn shared(message: &Option<Bytes>) -> Result<Option<Bytes>, ExchangeFault> {
 }
 
 impl Recalls for Known {
-    fn recall(&mut self, line: Line<'_>) -> Result<bool, ExchangeFault> {
-        match line {
-            Line::Link(role, digits) => self.take_link(role, digits),
-            Line::Begun(number) if number == self.next && number < u32::MAX => {
+    fn recall(&mut self, line: &Line<'_>) -> Result<bool, ExchangeFault> {
+        if let Some((role, digits)) = line.link() {
+            return self.take_link(role, digits);
+        }
+        if let Some((outcome, number)) = line.told() {
+            return Ok(self.end(number, outcome));
+        }
+        match line.begun() {
+            Some(number) if number == self.next && number < u32::MAX => {
                 self.begin(None)?;
                 Ok(true)
             }
-            Line::Told(outcome, number) => Ok(self.end(number, outcome)),
             _ => Ok(false),
         }
     }
