@@ -8,7 +8,7 @@ use crate::sending::Outcomes;
 use crate::traced::Traced;
 use crate::waits::TICK;
 use amqp_conn::{AmqpError, Boxed, Config, Conn, DeliveryState, Role, Taken, Text, error_of};
-use amqp_trace::{Direction, Tracer};
+use amqp_trace::{Direction, Look, Teller, Tracer};
 use std::alloc::{AllocError, Global};
 use std::io::{BufRead, Read, Write};
 use std::net::{Net, OpenListener, TcpListener, TcpStream};
@@ -53,8 +53,8 @@ pub struct Exchange<'a> {
     pub renewal: Renewal,
     /// What is printed of each message, for `receive`.
     pub printed: Printed,
-    /// Each frame is told on standard error.
-    pub is_traced: bool,
+    /// How each frame is told on standard error; none: it is not.
+    pub trace: Option<Look>,
     /// It is not told on standard error how far it is; nor is it where frames are, or something is printed of each message.
     pub is_quiet: bool,
 }
@@ -199,7 +199,7 @@ fn file_of<R: AllocGlobal + Files>(
 
 /// How far it is is told.
 fn is_told(exchange: &Exchange<'_>) -> bool {
-    !exchange.is_quiet && !exchange.is_traced && matches!(exchange.printed, Printed::Nothing)
+    !exchange.is_quiet && exchange.trace.is_none() && matches!(exchange.printed, Printed::Nothing)
 }
 
 /// How many messages there are to be; none: lines say that.
@@ -283,8 +283,8 @@ fn meet<'a, R: Net<Stream = TcpStream> + Eprint>(
 ) -> Result<Told<'a, R>, ExchangeFault> {
     let writer = stream_of(rt, exchange).map_err(ExchangeFault::Socket)?;
     let reader = reader_of(&writer, exchange.patience).map_err(ExchangeFault::Socket)?;
-    let heard = tracer(alloc, exchange, Direction::Heard, exchange.max_frame);
-    let sent = tracer(alloc, exchange, Direction::Sent, u32::MAX);
+    let heard = teller(alloc, exchange, Direction::Heard, exchange.max_frame);
+    let sent = teller(alloc, exchange, Direction::Sent, u32::MAX);
     client_of(
         alloc,
         Traced::new(reader, rt, heard),
@@ -293,17 +293,15 @@ fn meet<'a, R: Net<Stream = TcpStream> + Eprint>(
     )
 }
 
-fn tracer(
+fn teller(
     alloc: Global,
     exchange: &Exchange<'_>,
     direction: Direction,
     max_frame: u32,
-) -> Option<Tracer> {
-    if exchange.is_traced {
-        Some(Tracer::new(alloc, direction, max_frame))
-    } else {
-        None
-    }
+) -> Option<Teller> {
+    let look = exchange.trace?;
+    let tracer = Tracer::new(alloc, direction, look, max_frame);
+    Some(Teller::new(None, tracer))
 }
 
 fn stream_of<R: Net<Stream = TcpStream>>(rt: &R, exchange: &Exchange<'_>) -> io::Result<TcpStream> {

@@ -31,7 +31,7 @@ const ONE: Exchange<'static> = Exchange {
     credit: 1,
     renewal: Renewal::AtZero,
     printed: Printed::Nothing,
-    is_traced: false,
+    trace: None,
     is_quiet: true,
 };
 
