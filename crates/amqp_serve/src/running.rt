@@ -170,11 +170,7 @@ where
 }
 
 /// Turns until as many messages went as are asked for, and then until each connection is closed, or some seconds have passed.
-fn turn_on<R: Clock + Eprint + Wait>(
-    rt: &R,
-    hall: &Hall,
-    server: &mut Server,
-) -> io::Result<()> {
+fn turn_on<R: Clock + Eprint + Wait>(rt: &R, hall: &Hall, server: &mut Server) -> io::Result<()> {
     let begun = Instant::now(rt)?;
     for _ in 0..u64::MAX {
         if hall.is_over(rt) {

@@ -624,12 +624,7 @@ fn end_with<R: Wait>(rt: &R, hall: &Hall, visitor: &mut Visitor, is_fault: bool)
     store.take_back(visitor);
 }
 
-fn tell_ended<R: Wait + Eprint>(
-    rt: &R,
-    hall: &Hall,
-    visitor: &Visitor,
-    fault: Option<SlotFault>,
-) {
+fn tell_ended<R: Wait + Eprint>(rt: &R, hall: &Hall, visitor: &Visitor, fault: Option<SlotFault>) {
     if let Some(trace) = &visitor.trace {
         let number = trace.number();
         let voice = hall.voice().lock(rt);

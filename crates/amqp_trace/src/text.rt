@@ -88,11 +88,7 @@ impl Line {
         Some((front, error, rest))
     }
 
-    fn write_colored<W: fmt::Write>(
-        &self,
-        f: &mut fmt::Formatter<W>,
-        color: &str,
-    ) -> fmt::Result {
+    fn write_colored<W: fmt::Write>(&self, f: &mut fmt::Formatter<W>, color: &str) -> fmt::Result {
         f.write_str(color)?;
         match self.parts() {
             Some((front, error, rest)) => {

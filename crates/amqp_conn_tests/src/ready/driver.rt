@@ -284,7 +284,9 @@ fn is_recorded<R: Net>(rt: &R, alloc: Global, driver: &mut Driver<Closes>) -> io
         (Some(one), Some(other)) => are_alike(one, other),
         _ => false,
     };
-    let is_rest_empty = heard_of(driver, near_key).is_some_and(|it: Heard| -> bool { it.written == NOTHING });
+    let is_rest_empty = heard_of(driver, near_key).is_some_and(|it: Heard| -> bool {
+        it.written == NOTHING
+    });
     Ok(is_near && is_far && are_alike && is_rest_empty)
 }
 
