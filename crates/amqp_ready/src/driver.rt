@@ -53,15 +53,29 @@ impl<H: Handler + Drop> Driver<H> {
     ///
     /// Where the system has no poll, or memory is refused.
     pub fn new<R: Net>(rt: &R, alloc: Global, events: usize) -> io::Result<Driver<H>> {
-        let poll = Poll::new(rt)?;
-        Ok(Driver {
-            poll,
-            events: Events::with_capacity(alloc, events)?,
-            slots: Slots::new(alloc),
-            listener: None,
-            is_short: false,
-            recorded_in: None,
-        })
+        Driver::over(Poll::new(rt)?, alloc, events)
+    }
+
+    /// As `new`, over a poll that was made before: a thread without the runtime's `Net` may have its driver so.
+    ///
+    /// # Errors
+    ///
+    /// Where memory is refused.
+    pub fn over(poll: Poll, alloc: Global, events: usize) -> io::Result<Driver<H>> {
+        match Events::with_capacity(alloc, events) {
+            Ok(events) => Ok(Driver {
+                poll,
+                events,
+                slots: Slots::new(alloc),
+                listener: None,
+                is_short: false,
+                recorded_in: None,
+            }),
+            Err(error) => {
+                drop(poll);
+                Err(io::Error::from(error))
+            }
+        }
     }
 
     /// What goes over each stream that is added from here on is recorded, in memory from there. Who asks for it takes it (`take_recorded`) behind each turn,

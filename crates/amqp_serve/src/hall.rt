@@ -3,8 +3,8 @@ use crate::queues::{Message, Queues};
 use crate::visitor::{Unlearnt, Visitor};
 use amqp_conn::Text;
 use amqp_trace::Look;
-use mio::Waker;
-use mio::net::TcpStream;
+use mio::net::{TcpListener, TcpStream};
+use mio::{Poll, Waker};
 use std::alloc::{AllocError, Global};
 use std::collections::VecDeque;
 use std::io::ErrorKind;
@@ -20,6 +20,15 @@ pub struct Terms {
     pub count: Option<u32>,
     /// How each frame is told; none: it is not.
     pub trace: Option<Look>,
+}
+
+/// What a thread begins with.
+#[derive(Drop)]
+pub struct Job {
+    /// Its place among the threads.
+    pub place: usize,
+    /// What its driver waits by.
+    pub poll: Poll,
 }
 
 /// What a server has done.
@@ -151,6 +160,8 @@ impl Desk {
 #[derive(Drop)]
 pub struct Hall {
     terms: Terms,
+    /// Where peers connect, until a thread has it.
+    listener: Mutex<Option<TcpListener>>,
     store: Mutex<Store>,
     desks: Vec<Mutex<Desk>>,
     /// Who has it tells.
@@ -159,17 +170,22 @@ pub struct Hall {
 
 impl Hall {
     /// For so many threads, none of which is there yet. Its queues have so many messages together at most.
-    pub fn new(terms: Terms, limit: usize, threads: u32) -> Result<Hall, AllocError> {
+    pub fn new(
+        terms: Terms,
+        limit: usize,
+        threads: u32,
+        listener: TcpListener,
+    ) -> Result<Hall, AllocError> {
         let alloc = terms.alloc;
         let mut desks = Vec::new(alloc);
-        for _ in 0..threads {
-            desks.push(Mutex::new(Desk {
-                peers: VecDeque::new(alloc),
-                waker: None,
-            }))?;
+        if let Err(error) = add_desks(alloc, &mut desks, threads) {
+            drop(desks);
+            drop(listener);
+            return Err(error);
         }
         Ok(Hall {
             terms,
+            listener: Mutex::new(Some(listener)),
             store: Mutex::new(Store::new(alloc, limit)),
             desks,
             voice: Mutex::new(()),
@@ -178,6 +194,11 @@ impl Hall {
 
     pub fn terms(&self) -> Terms {
         self.terms
+    }
+
+    /// The listener, for the thread that asks first.
+    pub fn take_listener<R: Wait>(&self, rt: &R) -> Option<TcpListener> {
+        self.listener.lock(rt).take()
     }
 
     /// How many places there are.
@@ -242,20 +263,22 @@ impl Hall {
 
     /// Gives a peer to one of the threads that are there, each in its turn. For want of memory its stream is closed.
     pub fn deal<R: Wait>(&self, rt: &R, peer: Peer) {
-        let place = self.place_for(rt, peer.number);
-        self.hand(rt, place, peer);
+        match self.place_for(rt, peer.number) {
+            Some(place) => self.hand(rt, place, peer),
+            None => drop(peer),
+        }
     }
 
-    /// The place of the thread whose turn it is; 0 where none is there.
-    fn place_for<R: Wait>(&self, rt: &R, number: u64) -> usize {
+    /// The place of the thread whose turn it is, of those that are there.
+    fn place_for<R: Wait>(&self, rt: &R, number: u64) -> Option<usize> {
         let count = self.desks.len();
         for step in 0..count {
             let place = (number as usize).wrapping_add(step) % count;
             if self.is_there(rt, place) {
-                return place;
+                return Some(place);
             }
         }
-        0
+        None
     }
 
     fn is_there<R: Wait>(&self, rt: &R, place: usize) -> bool {
@@ -279,4 +302,14 @@ impl Hall {
     pub fn next_peer<R: Wait>(&self, rt: &R, place: usize) -> Option<Peer> {
         self.desks.get(place)?.lock(rt).peers.pop_front()
     }
+}
+
+fn add_desks(alloc: Global, desks: &mut Vec<Mutex<Desk>>, count: u32) -> Result<(), AllocError> {
+    for _ in 0..count {
+        desks.push(Mutex::new(Desk {
+            peers: VecDeque::new(alloc),
+            waker: None,
+        }))?;
+    }
+    Ok(())
 }

@@ -1,10 +1,11 @@
 //! A server that listens, on one thread or several.
-use crate::hall::{Hall, Terms};
+use crate::hall::{Hall, Job, Terms, Totals};
 use crate::server::Server;
 use amqp_trace::Look;
+use mio::Poll;
 use mio::net::TcpListener;
-use std::alloc::Global;
-use std::io::Write;
+use std::alloc::{AllocError, Global};
+use std::io::{ErrorKind, Write};
 use std::net::{IpAddr, Net, SocketAddr};
 use std::rt::Clock;
 use std::sync::Wait;
@@ -73,34 +74,18 @@ where
         count: serve.count,
         trace: serve.trace,
     };
-    let there = SocketAddr::new(host, serve.port);
-    match Hall::new(terms, serve.limit as usize, serve.threads.max(1)) {
+    let listener = TcpListener::bind(rt, SocketAddr::new(host, serve.port))?;
+    if let Err(error) = tell_listens(&listener, writer) {
+        drop(listener);
+        return Err(ServeFault::Io(error));
+    }
+    match Hall::new(terms, serve.limit as usize, serve.threads.max(1), listener) {
         Ok(hall) => {
-            let served = serve_at(rt, &hall, there, writer);
+            let served = serve_on(rt, &hall, writer);
             drop(hall);
             served
         }
         Err(error) => Err(ServeFault::Io(io::Error::from(error))),
-    }
-}
-
-fn serve_at<R, W: Write>(
-    rt: &R,
-    hall: &Hall,
-    there: SocketAddr,
-    writer: &mut W,
-) -> Result<(), ServeFault>
-where
-    R: Net + Clock + Eprint + Threads + Wait + Sync,
-{
-    let listener = TcpListener::bind(rt, there)?;
-    let told = tell_listens(&listener, writer);
-    match told {
-        Ok(()) => serve_on(rt, hall, listener, writer),
-        Err(error) => {
-            drop(listener);
-            Err(ServeFault::Io(error))
-        }
     }
 }
 
@@ -110,20 +95,18 @@ fn tell_listens<W: Write>(listener: &TcpListener, writer: &mut W) -> io::Result<
     writer.flush()
 }
 
-fn serve_on<R, W: Write>(
-    rt: &R,
-    hall: &Hall,
-    listener: TcpListener,
-    writer: &mut W,
-) -> Result<(), ServeFault>
+fn serve_on<R, W: Write>(rt: &R, hall: &Hall, writer: &mut W) -> Result<(), ServeFault>
 where
     R: Net + Clock + Eprint + Threads + Wait + Sync,
 {
-    run_threads(rt, hall, listener);
-    let (failed, totals, left) = {
-        let store = hall.store().lock(rt);
-        (store.failed(), store.totals(), store.left())
-    };
+    let jobs = jobs_of(rt, hall)?;
+    run_side_by_side(rt, hall, jobs).map_err(io::Error::from)?;
+    tell_served(rt, hall, writer)
+}
+
+/// What was done, by all threads.
+fn tell_served<R: Wait, W: Write>(rt: &R, hall: &Hall, writer: &mut W) -> Result<(), ServeFault> {
+    let (failed, totals, left) = done_by(rt, hall);
     if let Some(kind) = failed {
         return Err(ServeFault::Io(io::Error::from(kind)));
     }
@@ -136,25 +119,47 @@ where
     Ok(())
 }
 
-/// All threads, each at its place; the one that calls has the listener. Where the system makes no thread, those that are there serve alone.
-fn run_threads<R>(rt: &R, hall: &Hall, listener: TcpListener)
-where
-    R: Net + Clock + Eprint + Threads + Wait + Sync,
-{
-    thread::scope(thread::scope_env(), rt, |scope| {
-        for place in 1..hall.len() {
-            let _ = scope.spawn(move || run_place(rt, hall, place, None));
-        }
-        run_place(rt, hall, 0, Some(listener));
-    });
+fn done_by<R: Wait>(rt: &R, hall: &Hall) -> (Option<ErrorKind>, Totals, usize) {
+    let store = hall.store().lock(rt);
+    (store.failed(), store.totals(), store.left())
 }
 
-/// The thread at this place, until as many messages went as are asked for.
-fn run_place<R>(rt: &R, hall: &Hall, place: usize, listener: Option<TcpListener>)
+/// What each thread begins with.
+fn jobs_of<R: Net>(rt: &R, hall: &Hall) -> io::Result<Vec<Job>> {
+    let mut jobs = Vec::new(hall.terms().alloc);
+    match add_jobs(rt, &mut jobs, hall.len()) {
+        Ok(()) => Ok(jobs),
+        Err(error) => {
+            drop(jobs);
+            Err(error)
+        }
+    }
+}
+
+fn add_jobs<R: Net>(rt: &R, jobs: &mut Vec<Job>, count: usize) -> io::Result<()> {
+    for place in 0..count {
+        let poll = Poll::new(rt)?;
+        if jobs.push(Job { place, poll }).is_err() {
+            return Err(io::Error::from(AllocError));
+        }
+    }
+    Ok(())
+}
+
+/// All threads, each at its place. Where the system makes none, they run one after the other: the first listens, and goes on until all is done.
+fn run_side_by_side<R>(rt: &R, hall: &Hall, jobs: Vec<Job>) -> Result<(), AllocError>
 where
-    R: Net + Clock + Eprint + Wait,
+    R: Clock + Eprint + Threads + Wait + Sync,
 {
-    let fault = match Server::new(rt, hall, place, listener) {
+    let done = thread::map_vec(rt, jobs, &|job: Job| run_place(rt, hall, job))?;
+    drop(done);
+    Ok(())
+}
+
+/// The thread at its place, until as many messages went as are asked for.
+fn run_place<R: Clock + Eprint + Wait>(rt: &R, hall: &Hall, job: Job) {
+    let place = job.place;
+    let fault = match Server::new(rt, hall, job) {
         Ok(mut server) => {
             let turned = turn_on(rt, hall, &mut server);
             drop(server);

@@ -1,14 +1,14 @@
 //! The connections of one thread, and what goes from them to the queues and from these to them.
-use crate::hall::{Hall, Peer, Terms};
+use crate::hall::{Hall, Job, Peer, Terms};
 use crate::queues::Message;
 use crate::traced::Trace;
 use crate::visitor::{Arrived, Told, Unlearnt, Visitor, grant, told_in};
 use amqp_conn::{Bytes, Config, Conn, DeliveryState, Given, Op, Role, Tag, Text};
 use amqp_ready::{Driver, Ended, Limits, SlotFault};
-use mio::net::{TcpListener, TcpStream};
+use mio::net::TcpStream;
 use std::alloc::Global;
 use std::io;
-use std::net::{Net, SocketAddr};
+use std::net::SocketAddr;
 use std::sync::Wait;
 use std::time::Duration;
 
@@ -60,16 +60,12 @@ pub struct Server {
 }
 
 impl Server {
-    /// Without a connection yet. The peers that connect at its listener, if it has one, are dealt to all threads.
-    pub fn new<R: Net + Wait>(
-        rt: &R,
-        hall: &Hall,
-        place: usize,
-        listener: Option<TcpListener>,
-    ) -> io::Result<Server> {
+    /// Without a connection yet. The first one listens, and deals the peers that connect to all threads.
+    pub fn new<R: Wait>(rt: &R, hall: &Hall, job: Job) -> io::Result<Server> {
         let terms = hall.terms();
-        let mut driver = Driver::new(rt, terms.alloc, EVENTS)?;
-        match begin(rt, hall, place, listener, &mut driver) {
+        let Job { place, poll } = job;
+        let mut driver = Driver::over(poll, terms.alloc, EVENTS)?;
+        match begin(rt, hall, place, &mut driver) {
             Ok(()) => Ok(Server {
                 terms,
                 place,
@@ -603,18 +599,17 @@ fn begin<R: Wait>(
     rt: &R,
     hall: &Hall,
     place: usize,
-    listener: Option<TcpListener>,
     driver: &mut Driver<Visitor>,
 ) -> io::Result<()> {
     let terms = hall.terms();
     if terms.trace.is_some() {
         driver.record(terms.alloc);
     }
-    if let Some(listener) = listener {
-        driver.listen(listener)?;
-    }
     hall.enter(rt, place, driver.waker()?);
-    Ok(())
+    match hall.take_listener(rt) {
+        Some(listener) => driver.listen(listener),
+        None => Ok(()),
+    }
 }
 
 /// The connection has ended: it is counted, and what it was sent and did not tell of is in its queue.
