@@ -2,8 +2,8 @@
 use crate::fault::ClientFault;
 use crate::waits::Waits;
 use amqp_conn::{
-    Config, Conn, FromStd, Given, Left, Op, Phase, Pump, PumpEnd, PumpFault, Refusal, Role, Sink,
-    Source,
+    Config, Conn, FromStd, Given, Hears, Left, Op, Phase, Pump, PumpEnd, PumpFault, Refusal, Role,
+    Sink, Source,
 };
 use std::alloc::{AllocError, Global};
 use std::io::{ErrorKind, Read, Write};
@@ -22,6 +22,7 @@ pub struct Client<R, W> {
     pub(crate) is_opened: bool,
     /// Nothing more is sent: credit that the peer wants back is given up.
     has_sent: bool,
+    partings: Partings,
     pump: Pump,
     source: FromStd<R>,
     sink: FromStd<W>,
@@ -33,6 +34,26 @@ pub(crate) const LINK: u32 = 0;
 
 /// What the header of a SASL layer begins with (part 5, 5.3.1). A frame that begins so has 1095586128 octets.
 const SASL: [u8; 5] = [0x41, 0x4d, 0x51, 0x50, 3];
+
+/// Hears how the link ends.
+#[derive(Clone, Copy)]
+struct Partings {
+    /// It was detached for good (part 2, 2.6.6): neither end keeps anything of it.
+    is_for_good: bool,
+}
+
+impl Hears for Partings {
+    ghost use Rattle.std.specs.Prelude.{None};
+
+    ghost heard = { λ p. None };
+
+    fn hear(&mut self, given: Given) {
+        if let Given::Gone(_) = &given {
+            self.is_for_good = true;
+        }
+        drop(given);
+    }
+}
 
 /// What the peer says may change it.
 fn is_early(refusal: Refusal, is_opened: bool) -> bool {
@@ -69,6 +90,7 @@ impl<R: Drop, W: Drop> Client<R, W> {
                 window,
                 is_opened: false,
                 has_sent: false,
+                partings: Partings { is_for_good: false },
                 pump: Pump::new(),
                 source: FromStd::new(reader),
                 sink: FromStd::new(writer),
@@ -174,8 +196,13 @@ impl<R: Read, W: Write> Client<R, W> {
             return Err(PumpFault::Write);
         }
         self.conn.forget();
-        self.pump
-            .run(&mut self.source, &mut self.sink, &mut self.conn, 1)
+        self.pump.drive(
+            &mut self.source,
+            &mut self.sink,
+            &mut self.conn,
+            &mut self.partings,
+            1,
+        )
     }
 
     /// Writes what was put out, as far as that can be done. What is read on the way is fed.
@@ -208,6 +235,11 @@ impl<R: Read, W: Write> Client<R, W> {
             Some(_) => false,
             None => true,
         }
+    }
+
+    /// The link was detached for good: what is in doubt on it is over.
+    pub(crate) fn is_gone_for_good(&self) -> bool {
+        self.partings.is_for_good && self.is_gone()
     }
 
     /// What the link left, first for this role of ours, where it is gone (part 2, 2.6.6); else the fault.

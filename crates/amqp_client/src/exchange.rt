@@ -2,18 +2,18 @@
 use crate::bodies::{Bodies, Labels};
 use crate::client::Client;
 use crate::fault::ClientFault;
+use crate::meeting::{client_of, meet, reader_of};
 use crate::printing::{Printed, write_taken};
 use crate::progress::{Progress, Watch};
+use crate::receive_again::receive_again;
+use crate::send_again::send_again;
 use crate::sending::Outcomes;
-use crate::traced::Traced;
-use crate::waits::TICK;
-use amqp_conn::{AmqpError, Boxed, Config, Conn, DeliveryState, Role, Taken, Text, error_of};
-use amqp_trace::{Direction, Tracer};
+use amqp_conn::{AmqpError, Boxed, Conn, DeliveryState, Role, Taken, Text, error_of};
+use amqp_trace::Look;
 use std::alloc::{AllocError, Global};
 use std::io::{BufRead, Read, Write};
-use std::net::{Net, OpenListener, TcpListener, TcpStream};
+use std::net::{Net, TcpStream};
 use std::rt::{Clock, Files};
-use std::time::Duration;
 use std::{fs, io};
 use thiserror::Error;
 
@@ -53,10 +53,14 @@ pub struct Exchange<'a> {
     pub renewal: Renewal,
     /// What is printed of each message, for `receive`.
     pub printed: Printed,
-    /// Each frame is told on standard error.
-    pub is_traced: bool,
+    /// How each frame is told on standard error; none: it is not.
+    pub trace: Option<Look>,
     /// It is not told on standard error how far it is; nor is it where frames are, or something is printed of each message.
     pub is_quiet: bool,
+    /// The file that says what became of each message: with it a connection that is lost is taken up again, and a run that was killed.
+    pub journal: Option<&'a str>,
+    /// How often in a row another connection is tried where none brings anything; of no use without a `journal`.
+    pub retries: u32,
 }
 
 /// When `receive` gives credit.
@@ -92,6 +96,8 @@ pub struct Received {
 pub enum ExchangeFault {
     #[error("a socket failed: {0}")]
     Socket(io::Error),
+    #[error("no peer has connected")]
+    NoPeer,
     #[error("{0}")]
     Client(ClientFault),
     #[error("a line cannot be read: {0}")]
@@ -104,6 +110,16 @@ pub enum ExchangeFault {
     Out(io::Error),
     #[error("{0} of the messages could not be accepted: the peer may send them again")]
     Unsettled(u64),
+    #[error("{0} of the messages were accepted, and the peer may ask for that again")]
+    Doubted(u64),
+    #[error("the journal failed: {0}")]
+    Journal(io::Error),
+    #[error("line {0} of the journal is none, or cannot stand there")]
+    NoLine(u64),
+    #[error("the journal is of another link")]
+    OtherLink,
+    #[error("the journal has more messages than there are")]
+    TooFew,
     #[error("memory was refused")]
     NoMemory,
 }
@@ -121,9 +137,6 @@ impl From<AllocError> for ExchangeFault {
 }
 
 type Tcp = Client<TcpStream, TcpStream>;
-
-/// An end of which each frame may be told.
-type Told<'a, E> = Client<Traced<'a, TcpStream, E>, Traced<'a, TcpStream, E>>;
 
 /// Sends messages, learns what became of each, and tells in six lines how many there were, and how many were accepted, rejected, released, modified, and settled
 /// without an outcome. True where each was accepted, or they went settled.
@@ -143,16 +156,42 @@ where
     R: AllocGlobal + Net<Stream = TcpStream> + Eprint + Clock + Files,
 {
     let file = file_of(rt, exchange.file)?;
-    let mut client = meet(rt, alloc, exchange)?;
     let mut progress = Progress::new(rt, is_told(exchange), wanted_of(exchange));
-    let sent = send_all(alloc, &mut client, exchange, file, input, &mut progress);
+    let sent = match exchange.journal {
+        Some(path) => send_again(rt, exchange, path, file, input, out, &mut progress),
+        None => send_once(rt, alloc, exchange, file, input, out, &mut progress),
+    };
     progress.end();
-    let told = tell_error(out, &client, sent.is_err());
-    drop(client);
-    told.map_err(ExchangeFault::Out)?;
     let sent = sent?;
     tell_sent(out, &sent).map_err(ExchangeFault::Out)?;
     Ok(exchange.is_settled || sent.outcomes.accepted == sent.count)
+}
+
+/// Sends them over one connection.
+fn send_once<R, I: BufRead, W: Write, P: Watch>(
+    rt: &R,
+    alloc: Global,
+    exchange: &Exchange<'_>,
+    file: Option<Vec<u8>>,
+    input: &mut I,
+    out: &mut W,
+    watch: &mut P,
+) -> Result<Sent, ExchangeFault>
+where
+    R: Net<Stream = TcpStream> + Eprint + Clock,
+{
+    let mut client = match meet(rt, alloc, exchange, None) {
+        Ok(client) => client,
+        Err(fault) => {
+            drop(file);
+            return Err(fault);
+        }
+    };
+    let sent = send_all(alloc, &mut client, exchange, file, input, watch);
+    let told = tell_error(out, &client, sent.is_err());
+    drop(client);
+    told.map_err(ExchangeFault::Out)?;
+    sent
 }
 
 /// Takes messages, prints what is asked for of each, accepts it, and tells in three lines how many there were, how many octets they had, and how many could not be
@@ -168,22 +207,47 @@ pub fn run_receive<R, W: Write>(
     out: &mut W,
 ) -> Result<bool, ExchangeFault>
 where
-    R: Net<Stream = TcpStream> + Eprint + Clock,
+    R: AllocGlobal + Net<Stream = TcpStream> + Eprint + Clock + Files,
 {
-    let mut client = meet(rt, alloc, exchange)?;
     let mut progress = Progress::new(rt, is_told(exchange), wanted_of(exchange));
-    let received = receive_all(alloc, &mut client, exchange, out, &mut progress);
+    let received = match exchange.journal {
+        Some(path) => receive_again(rt, exchange, path, out, &mut progress),
+        None => receive_once(rt, alloc, exchange, out, &mut progress),
+    };
     progress.end();
-    let told = tell_error(out, &client, received.is_err());
-    drop(client);
-    told.map_err(ExchangeFault::Out)?;
     let received = received?;
     if !is_alone(exchange.printed) {
         tell_received(out, received).map_err(ExchangeFault::Out)?;
     } else if received.unsettled != 0 {
-        return Err(ExchangeFault::Unsettled(received.unsettled));
+        return Err(unsettled(exchange, received.unsettled));
     }
     Ok(received.unsettled == 0)
+}
+
+fn unsettled(exchange: &Exchange<'_>, count: u64) -> ExchangeFault {
+    match exchange.journal {
+        Some(_) => ExchangeFault::Doubted(count),
+        None => ExchangeFault::Unsettled(count),
+    }
+}
+
+/// Takes them over one connection.
+fn receive_once<R, W: Write, P: Watch>(
+    rt: &R,
+    alloc: Global,
+    exchange: &Exchange<'_>,
+    out: &mut W,
+    watch: &mut P,
+) -> Result<Received, ExchangeFault>
+where
+    R: Net<Stream = TcpStream> + Eprint + Clock,
+{
+    let mut client = meet(rt, alloc, exchange, None)?;
+    let received = receive_all(alloc, &mut client, exchange, out, watch);
+    let told = tell_error(out, &client, received.is_err());
+    drop(client);
+    told.map_err(ExchangeFault::Out)?;
+    received
 }
 
 /// The octets of the file, if there is one.
@@ -199,7 +263,7 @@ fn file_of<R: AllocGlobal + Files>(
 
 /// How far it is is told.
 fn is_told(exchange: &Exchange<'_>) -> bool {
-    !exchange.is_quiet && !exchange.is_traced && matches!(exchange.printed, Printed::Nothing)
+    !exchange.is_quiet && exchange.trace.is_none() && matches!(exchange.printed, Printed::Nothing)
 }
 
 /// How many messages there are to be; none: lines say that.
@@ -217,7 +281,7 @@ fn is_alone(printed: Printed) -> bool {
 }
 
 /// Where it failed: the error that the peer told by its close, or by the frame that came last.
-fn tell_error<R: Read, W: Write, O: Write>(
+pub(crate) fn tell_error<R: Read, W: Write, O: Write>(
     out: &mut O,
     client: &Client<R, W>,
     has_failed: bool,
@@ -275,72 +339,7 @@ fn tell_received<W: Write>(out: &mut W, received: Received) -> io::Result<()> {
     out.flush()
 }
 
-/// The peer, over a socket.
-fn meet<'a, R: Net<Stream = TcpStream> + Eprint>(
-    rt: &'a R,
-    alloc: Global,
-    exchange: &Exchange<'_>,
-) -> Result<Told<'a, R>, ExchangeFault> {
-    let writer = stream_of(rt, exchange).map_err(ExchangeFault::Socket)?;
-    let reader = reader_of(&writer, exchange.patience).map_err(ExchangeFault::Socket)?;
-    let heard = tracer(alloc, exchange, Direction::Heard, exchange.max_frame);
-    let sent = tracer(alloc, exchange, Direction::Sent, u32::MAX);
-    client_of(
-        alloc,
-        Traced::new(reader, rt, heard),
-        Traced::new(writer, rt, sent),
-        exchange,
-    )
-}
-
-fn tracer(
-    alloc: Global,
-    exchange: &Exchange<'_>,
-    direction: Direction,
-    max_frame: u32,
-) -> Option<Tracer> {
-    if exchange.is_traced {
-        Some(Tracer::new(alloc, direction, max_frame))
-    } else {
-        None
-    }
-}
-
-fn stream_of<R: Net<Stream = TcpStream>>(rt: &R, exchange: &Exchange<'_>) -> io::Result<TcpStream> {
-    let there = (exchange.host, exchange.port);
-    let met = if exchange.is_listening {
-        accepted(rt, there)
-    } else {
-        TcpStream::connect(rt, there)
-    };
-    match met {
-        Ok(stream) => without_delay(stream),
-        Err(error) => Err(error),
-    }
-}
-
-/// The first peer that connects there.
-fn accepted<R: Net<Stream = TcpStream>>(rt: &R, there: (&str, u16)) -> io::Result<TcpStream> {
-    let listener = TcpListener::bind(rt, there)?;
-    let answer = listener.accept();
-    drop(listener);
-    match answer {
-        Ok((stream, _)) => Ok(stream),
-        Err(error) => Err(error),
-    }
-}
-
-fn without_delay(stream: TcpStream) -> io::Result<TcpStream> {
-    match stream.set_nodelay(true) {
-        Ok(()) => Ok(stream),
-        Err(error) => {
-            drop(stream);
-            Err(error)
-        }
-    }
-}
-
-/// An end over the stream. Its reads wait for a [`TICK`]; the peer is told half of what it is waited for (part 2, 2.4.5).
+/// An end over the stream. Its reads wait for a [`TICK`](crate::TICK); the peer is told half of what it is waited for (part 2, 2.4.5).
 pub fn client_over(
     alloc: Global,
     stream: TcpStream,
@@ -348,38 +347,6 @@ pub fn client_over(
 ) -> Result<Tcp, ExchangeFault> {
     let reader = reader_of(&stream, exchange.patience).map_err(ExchangeFault::Socket)?;
     client_of(alloc, reader, stream, exchange)
-}
-
-fn client_of<R: Drop, W: Drop>(
-    alloc: Global,
-    reader: R,
-    writer: W,
-    exchange: &Exchange<'_>,
-) -> Result<Client<R, W>, ExchangeFault> {
-    let patience = exchange.patience;
-    let config = Config {
-        max_frame: exchange.max_frame,
-        idle_time_out: half_of(patience),
-        ..Config::new(Text::new(alloc, exchange.container_id)?)
-    };
-    Ok(Client::new(alloc, config, patience, reader, writer)?)
-}
-
-/// A second hand on the stream, whose reads and writes have their limits.
-fn reader_of(stream: &TcpStream, patience: Option<u32>) -> io::Result<TcpStream> {
-    stream.set_read_timeout(Some(Duration::from_millis(u64::from(TICK))))?;
-    if let Some(seconds) = patience {
-        stream.set_write_timeout(Some(Duration::from_secs(u64::from(seconds))))?;
-    }
-    stream.try_clone()
-}
-
-/// Half of so many seconds, in milliseconds.
-fn half_of(patience: Option<u32>) -> Option<u32> {
-    match patience {
-        Some(seconds) => Some(seconds.saturating_mul(500)),
-        None => None,
-    }
 }
 
 /// The session and its link.

@@ -13,21 +13,30 @@
 //! | `traced` | devices of which it is told what goes over them |
 //! | `progress` | how far an exchange is ([`Watch`]) |
 //! | `exchange` | the commands `send` and `receive`, over TCP |
+//! | `meeting` | a peer is met over TCP |
+//! | `journal` | the file of lines that says what became of each message |
+//! | `again` | an exchange that goes on over one connection after the other |
+//! | `send_again`, `receive_again` | both commands with a journal |
 //! | `fault` | why a client stops |
 //!
 //! Each call waits in a read until the peer has said what it needs, or the octets end. It has no clock: a device whose reads end in vain after a tick is one.
 #![tactic(auto)]
 
+mod again;
 mod bodies;
 mod client;
 mod ending;
 pub mod exchange;
 mod fault;
+pub mod journal;
 mod json;
+mod meeting;
 mod opening;
 mod printing;
 mod progress;
+mod receive_again;
 mod receiving;
+mod send_again;
 mod sending;
 mod traced;
 mod waits;

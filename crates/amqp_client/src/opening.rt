@@ -1,8 +1,12 @@
 //! The session and its one link.
 use crate::client::{Client, LINK, had};
 use crate::fault::ClientFault;
-use amqp_conn::{Boxed, Conn, LinkEnd, Op, Refusal, Role, Text, Value, ops};
+use amqp_conn::{
+    Boxed, Brought, Conn, DeliveryState, LinkEnd, Op, Refusal, Rejoin, Role, SuspendedItem, Tag,
+    Text, Value, ops,
+};
 use amqp_performatives::copying::copy_value;
+use amqp_types::Items;
 use std::alloc::{AllocError, Global};
 use std::io::{Read, Write};
 
@@ -60,6 +64,63 @@ fn termini_at(alloc: Global, source: &Text, target: &Text) -> Result<Termini, Al
     Ok((Some(source), Some(target)))
 }
 
+/// What this end has of each delivery that it brings in: it sent them, and knows no more, or it has accepted them (part 2, 2.6.13).
+fn brought(alloc: Global, role: Role, tags: &[Tag]) -> Result<Brought, AllocError> {
+    let mut items = Items::new(alloc);
+    for tag in tags {
+        let state = match role {
+            Role::Sender => None,
+            Role::Receiver => Some(DeliveryState::Accepted),
+        };
+        items.push(SuspendedItem { tag: *tag, state })?;
+    }
+    Brought::new(alloc, items)
+}
+
+/// The attach, which brings these deliveries in.
+fn rejoining(alloc: Global, attach: Op, items: Brought) -> Result<Op, AllocError> {
+    match attach {
+        Op::Attach {
+            name,
+            role,
+            snd,
+            rcv,
+            source,
+            target,
+            count,
+            max_message,
+        } => {
+            let rejoin = Rejoin {
+                name,
+                role,
+                snd,
+                rcv,
+                source,
+                target,
+                count,
+                max_message,
+                items,
+            };
+            Ok(Op::Rejoin(Boxed::new(alloc, rejoin)?))
+        }
+        op => {
+            drop(items);
+            Ok(op)
+        }
+    }
+}
+
+/// The attach, which brings in deliveries of these tags.
+fn rejoin_of(alloc: Global, attach: Op, role: Role, tags: &[Tag]) -> Result<Op, ClientFault> {
+    match brought(alloc, role, tags) {
+        Ok(items) => had(rejoining(alloc, attach, items)),
+        Err(_) => {
+            drop(attach);
+            Err(ClientFault::NoMemory)
+        }
+    }
+}
+
 impl<R: Read, W: Write> Client<R, W> {
     /// Begins the session, and attaches a link of this name, for this role of ours, with this address at the peer.
     ///
@@ -101,15 +162,66 @@ impl<R: Read, W: Write> Client<R, W> {
     ///
     /// `Refused` by `WrongRole` where the peer has the same role, those of `apply`, and `NoMemory`.
     pub fn answer(&mut self, role: Role) -> Result<(), ClientFault> {
+        self.await_link(role)?;
+        match had(answer_of(&self.conn))? {
+            Some(attach) => self.perform_attach(attach),
+            None => Err(ClientFault::Refused(Refusal::NoLink)),
+        }
+    }
+
+    /// As `open`, with a link that brings in deliveries of these tags (part 2, 2.6.13).
+    pub(crate) fn open_again(
+        &mut self,
+        name: &Text,
+        role: Role,
+        address: &Text,
+        tags: &[Tag],
+    ) -> Result<(), ClientFault> {
+        let attach = had(self.attach(name, role, address))?;
+        let rejoin = rejoin_of(self.alloc, attach, role, tags)?;
+        self.begin_and(rejoin)
+    }
+
+    /// Answers the link that the peer offers, which brings in deliveries of these tags.
+    pub(crate) fn answer_again(&mut self, role: Role, tags: &[Tag]) -> Result<(), ClientFault> {
+        match had(answer_of(&self.conn))? {
+            Some(attach) => {
+                let rejoin = rejoin_of(self.alloc, attach, role, tags)?;
+                self.perform_attach(rejoin)
+            }
+            None => Err(ClientFault::Refused(Refusal::NoLink)),
+        }
+    }
+
+    /// The name of the link that the peer offers.
+    pub(crate) fn offered_name(&self) -> Result<Text, ClientFault> {
+        match self.conn.logged().endpoint().link_of(LINK) {
+            Some(link) => had(link.name().clone()),
+            None => Err(ClientFault::Refused(Refusal::NoLink)),
+        }
+    }
+
+    /// Waits until the peer has attached our link, too.
+    pub(crate) fn await_attached(&mut self) -> Result<(), ClientFault> {
+        for _ in 0..u64::MAX {
+            match self.conn.logged().endpoint().link_of(LINK) {
+                Some(link) if link.is_attached() => return Ok(()),
+                Some(_) => {}
+                None => return Err(ClientFault::Refused(Refusal::NoLink)),
+            }
+            self.turn()?;
+        }
+        Err(ClientFault::Refused(Refusal::NotAttached))
+    }
+
+    /// Waits until the peer has begun its session, which is answered, and offers a link, which is to be for this role of ours.
+    pub(crate) fn await_link(&mut self, role: Role) -> Result<(), ClientFault> {
         self.await_begin()?;
         self.perform(Op::Begin)?;
         if self.await_offer()? != role {
             return Err(ClientFault::Refused(Refusal::WrongRole));
         }
-        match had(answer_of(&self.conn))? {
-            Some(attach) => self.perform_attach(attach),
-            None => Err(ClientFault::Refused(Refusal::NoLink)),
-        }
+        Ok(())
     }
 
     fn await_begin(&mut self) -> Result<(), ClientFault> {

@@ -1,7 +1,7 @@
 //! Messages are taken, and settled.
 use crate::client::{Client, LINK};
 use crate::fault::ClientFault;
-use amqp_conn::{Boxed, DeliveryState, Given, Left, Op, Refusal, Role, Taken, ops};
+use amqp_conn::{Boxed, DeliveryState, Given, Left, Op, Refusal, Role, Tag, Taken, ops};
 use std::io::{Read, Write};
 
 fn taken_of(given: Given) -> Option<Boxed<Taken>> {
@@ -88,8 +88,51 @@ impl<R: Read, W: Write> Client<R, W> {
         Ok(None)
     }
 
+    /// The next message that is there; none where there is none, or the link is gone. It waits for nothing.
+    pub(crate) fn take_ready(&mut self) -> Result<Option<Boxed<Taken>>, ClientFault> {
+        let op = ops::take(LINK);
+        let answer = self.conn.apply(&op);
+        drop(op);
+        match answer {
+            Ok(given) => Ok(taken_of(given)),
+            Err(Refusal::NoMemory) => Err(ClientFault::NoMemory),
+            Err(_) => Ok(None),
+        }
+    }
+
+    /// The delivery with this tag waits to be resumed by the sender.
+    pub(crate) fn waits(&self, tag: &Tag) -> bool {
+        match self.conn.logged().endpoint().link_of(LINK) {
+            Some(link) => link.waits(tag),
+            None => false,
+        }
+    }
+
+    /// The id of the delivery with this tag, where it is unsettled. O(n) for n of them.
+    pub(crate) fn held(&self, tag: &Tag) -> Option<u32> {
+        let endpoint = self.conn.logged().endpoint();
+        for place in 0..endpoint.unsettled_len(Role::Receiver) {
+            match endpoint.unsettled_at(Role::Receiver, place) {
+                Some(item) if item.tag == *tag => return Some(item.id),
+                _ => {}
+            }
+        }
+        None
+    }
+
+    /// How many deliveries wait to be resumed by the sender. O(n) for n of them.
+    pub(crate) fn waiting_len(&self) -> u32 {
+        let endpoint = self.conn.logged().endpoint();
+        for place in 0..u32::MAX {
+            if endpoint.waiting_at(LINK, place as usize).is_none() {
+                return place;
+            }
+        }
+        u32::MAX
+    }
+
     /// What the link left, which is gone.
-    fn take_last(&mut self) -> Result<Option<Boxed<Taken>>, ClientFault> {
+    pub(crate) fn take_last(&mut self) -> Result<Option<Boxed<Taken>>, ClientFault> {
         match self.conn.pop_left_by(Role::Receiver, LINK) {
             Ok(Some(left)) => Ok(left_of(left)),
             Ok(None) => Ok(None),

@@ -3,7 +3,7 @@ ghost use Rattle.std.specs.Prelude.{◌<◌};
 
 use crate::client::{Client, LINK};
 use crate::fault::ClientFault;
-use amqp_conn::{Bytes, DeliveryState, Given, Learned, Left, Op, Refusal, Role, Tag, ops};
+use amqp_conn::{Bytes, DeliveryState, Given, Learned, Left, Op, Refusal, Role, Tag, Verdict, ops};
 use std::io::{Read, Write};
 
 /// What a transfer takes of a frame beside its payload, in octets, and more.
@@ -31,6 +31,13 @@ pub struct Told {
     pub outcome: Outcome,
     id: u32,
     settled: bool,
+}
+
+impl Told {
+    /// The peer is done with the message.
+    pub(crate) fn is_last(&self) -> bool {
+        self.settled || self.outcome != Outcome::Unknown
+    }
 }
 
 /// What became of a message (part 3, 3.4).
@@ -94,10 +101,18 @@ fn told_of(learned: &Learned) -> Told {
 }
 
 /// The number that `send` put into the tag.
-fn number_of(tag: &Tag) -> u32 {
+pub(crate) fn number_of(tag: &Tag) -> u32 {
     match tag.octets() {
         [a, b, c, d, ..] => u32::from_be_bytes([*a, *b, *c, *d]),
         _ => 0,
+    }
+}
+
+/// The outcome that the peer told of a delivery that was resumed.
+fn outcome_resumed(given: &Given) -> Outcome {
+    match given {
+        Given::Resumed(resumed) => outcome_of(&resumed.get().state),
+        _ => Outcome::Unknown,
     }
 }
 
@@ -194,7 +209,7 @@ impl<R: Read, W: Write> Client<R, W> {
     pub fn learn(&mut self) -> Result<Told, ClientFault> {
         for _ in 0..u64::MAX {
             if let Some(told) = self.learn_once()? {
-                if told.settled || told.outcome != Outcome::Unknown {
+                if told.is_last() {
                     self.settle(told)?;
                     return Ok(told);
                 }
@@ -229,8 +244,74 @@ impl<R: Read, W: Write> Client<R, W> {
         }
     }
 
+    /// What the peer has told of a message, by the link, or by what it left where it is gone; none where it has told nothing more. It waits for nothing.
+    pub(crate) fn told(&mut self) -> Result<Option<Told>, ClientFault> {
+        let op = ops::learn(LINK);
+        let answer = self.conn.apply(&op);
+        drop(op);
+        match answer {
+            Ok(given) => {
+                let told = told_by(&given);
+                drop(given);
+                Ok(told)
+            }
+            Err(Refusal::NoMemory) => Err(ClientFault::NoMemory),
+            Err(_) => self.told_left(),
+        }
+    }
+
+    fn told_left(&mut self) -> Result<Option<Told>, ClientFault> {
+        match self.conn.pop_left_by(Role::Sender, LINK) {
+            Ok(Some(left)) => {
+                let told = told_last(&left);
+                drop(left);
+                Ok(told)
+            }
+            Ok(None) => Ok(None),
+            Err(_) => Err(ClientFault::NoMemory),
+        }
+    }
+
+    /// A message may begin: there is credit, and room in the window.
+    pub(crate) fn has_room(&self) -> bool {
+        let windows = self.conn.logged().endpoint().windows();
+        self.credit() > 0 && windows.remote_in > 0
+    }
+
+    /// The message goes in one transfer.
+    pub(crate) fn is_short(&self, message: &Bytes) -> bool {
+        message.len() <= self.in_a_transfer()
+    }
+
+    /// The first delivery that waits to be resumed, by its tag, and what becomes of it.
+    pub(crate) fn waiting(&self) -> Option<(Tag, Verdict)> {
+        match self.conn.logged().endpoint().waiting_at(LINK, 0) {
+            Some((tag, verdict)) => Some((*tag, verdict)),
+            None => None,
+        }
+    }
+
+    /// Resumes the delivery with this tag (part 2, 2.6.13), settled or not: the outcome that the peer told of it.
+    pub(crate) fn resume(&mut self, tag: Tag, settled: bool) -> Result<Outcome, ClientFault> {
+        let op = Op::Resume {
+            link: LINK,
+            tag,
+            settled,
+        };
+        let answer = self.apply(&op);
+        drop(op);
+        match answer {
+            Ok(given) => {
+                let outcome = outcome_resumed(&given);
+                drop(given);
+                Ok(outcome)
+            }
+            Err(fault) => Err(fault),
+        }
+    }
+
     /// Settles the delivery, unless the peer has (part 2, 2.6.12), be it in a disposition that is not learnt yet.
-    fn settle(&mut self, told: Told) -> Result<(), ClientFault> {
+    pub(crate) fn settle(&mut self, told: Told) -> Result<(), ClientFault> {
         if told.settled {
             return Ok(());
         }

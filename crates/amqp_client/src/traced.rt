@@ -1,7 +1,7 @@
 //! Devices of which it is told what goes over them.
-ghost use Rattle.std.specs.Prelude.{◌≡◌, ◌≢◌, ◌<◌, ◌≤◌, [], length};
+ghost use Rattle.std.specs.Prelude.{◌≡◌};
 
-use amqp_trace::Tracer;
+use amqp_trace::Teller;
 use std::io;
 use std::io::{Read, Write};
 
@@ -16,15 +16,15 @@ pub(crate) struct Traced<'a, T, E> {
 #[derive(Drop)]
 struct Trace<'a, E> {
     rt: &'a E,
-    /// None where nothing is told, or no more.
-    tracer: Option<Tracer>,
+    /// None where nothing is told.
+    teller: Option<Teller>,
 }
 
 impl<'a, T, E: Eprint> Traced<'a, T, E> {
-    pub(crate) fn new(device: T, rt: &'a E, tracer: Option<Tracer>) -> Traced<'a, T, E> {
+    pub(crate) fn new(device: T, rt: &'a E, teller: Option<Teller>) -> Traced<'a, T, E> {
         Traced {
             device,
-            trace: Trace { rt, tracer },
+            trace: Trace { rt, teller },
         }
     }
 }
@@ -56,33 +56,8 @@ impl<T: Write, E: Eprint> Write for Traced<'_, T, E> {
 impl<E: Eprint> Trace<'_, E> {
     /// Tells each header and frame that ends in these octets.
     fn tell(&mut self, octets: &[u8]) {
-        let mut rest = octets;
-        while !rest.is_empty() {
-            let used = self.tell_front(rest);
-            rest = &rest[used..];
-        }
-    }
-
-    /// Tells what ends first in these octets, if anything does, and answers how many of them that took. A trace that cannot go on ends; a line that cannot be
-    /// written is left out.
-    fn tell_front(&mut self, octets: &[u8]) -> usize
-        requires { octets.now ≢ [] }
-        ensures bound { (0 < result) × (result ≤ length octets.now) }
-    {
-        let Some(tracer) = &mut self.tracer else {
-            return octets.len();
-        };
-        match tracer.feed(octets) {
-            Ok((used, Some(line))) => {
-                let _ = eprintln!(self.rt; "{line}");
-                used
-            }
-            Ok((used, None)) => used,
-            Err(fault) => {
-                let _ = eprintln!(self.rt; "trace ends: {fault}");
-                self.tracer = None;
-                octets.len()
-            }
+        if let Some(teller) = &mut self.teller {
+            teller.tell(self.rt, octets);
         }
     }
 }

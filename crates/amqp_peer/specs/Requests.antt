@@ -8,7 +8,7 @@ abbrev pub IsAllowed : Request → Type 0
 IsAllowed (Script config keep) = IsWithinLimits config
 IsAllowed (Conn config) = IsWithinLimits config
 IsAllowed Frames = Unit {0}
-IsAllowed (Trace direction is_raw) = Unit {0}
+IsAllowed (Trace direction look is_raw) = Unit {0}
 IsAllowed (Explain explained) = Unit {0}
 IsAllowed (Pair options) = IsInRange options
 IsAllowed Rows = Unit {0}

@@ -5,7 +5,7 @@ ghost use Rattle.amqp_peer.specs.Requests.{IsAllowed};
 use crate::bench_options::{bench, bench_of};
 use crate::options;
 use crate::options::{
-    USUAL, config_of, direction_of, explained_of, receive_of, send_of, serve_of, with,
+    USUAL, config_of, direction_of, explained_of, look_of, receive_of, send_of, serve_of, with,
 };
 use amqp_bench::Bench;
 use amqp_client::exchange::Exchange;
@@ -13,7 +13,7 @@ use amqp_endpoint::config::Config;
 use amqp_pair::{MAX_CONSUMERS, MAX_COUNT, MAX_CREDIT, MAX_SIZE, Options};
 use amqp_script::explain::Explained;
 use amqp_serve::Serve;
-use amqp_trace::Direction;
+use amqp_trace::{Direction, Look};
 use clap::error::ErrorKind;
 use clap::{Arg, ArgMatches, Command, Error};
 use std::alloc::{AllocError, Global};
@@ -28,8 +28,8 @@ pub enum Request<'a> {
     Conn(Config),
     /// A run of `frames`.
     Frames,
-    /// A run of `trace` over octets that went this way; whether they are read as they are, and not in hexadecimal.
-    Trace(Direction, bool),
+    /// A run of `trace` over octets that went this way; how its lines look; whether the octets are read as they are, and not in hexadecimal.
+    Trace(Direction, Look, bool),
     /// What `explain` says.
     Explain(Explained),
     /// A run of `pair`.
@@ -119,7 +119,11 @@ fn request_of<'a>(matches: &ArgMatches<'a>) -> Option<Request<'a>>
         return Some(Request::Bench(bench_of(options)));
     }
     if let Some(options) = matches.subcommand_matches("trace") {
-        return Some(Request::Trace(direction_of(options), options.get_flag("raw")));
+        return Some(Request::Trace(
+            direction_of(options),
+            look_of(options),
+            options.get_flag("raw"),
+        ));
     }
     if let Some(options) = matches.subcommand_matches("explain") {
         if let Some(explained) = explained_of(options) {

@@ -47,11 +47,11 @@ where
         )?)),
         Request::Conn(config) => Ok(status_of(run_conn(alloc, &config, reader, writer)?)),
         Request::Frames => Ok(status_of_frames(run_frames(alloc, reader, writer)?)),
-        Request::Trace(direction, is_raw) => {
+        Request::Trace(direction, look, is_raw) => {
             let framed = if is_raw {
-                run_raw_trace(alloc, direction, reader, writer)?
+                run_raw_trace(alloc, direction, look, reader, writer)?
             } else {
-                run_trace(alloc, direction, reader, writer)?
+                run_trace(alloc, direction, look, reader, writer)?
             };
             Ok(status_of_frames(framed))
         }

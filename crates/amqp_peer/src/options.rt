@@ -5,8 +5,8 @@ use amqp_client::exchange::{Exchange, Renewal};
 use amqp_client::{Labels, MIN_MAX_FRAME, Printed};
 use amqp_rules::config::{Config, MAX_JOURNAL_LIMIT, MAX_WINDOW};
 use amqp_script::explain::{Explained, find_fault, find_refusal, find_violation};
-use amqp_serve::Serve;
-use amqp_trace::Direction;
+use amqp_serve::{MAX_THREADS, Serve};
+use amqp_trace::{Direction, Look};
 use clap::{Arg, ArgAction, ArgMatches, Command, value_parser};
 use std::alloc::{AllocError, Global};
 
@@ -72,7 +72,8 @@ pub fn trace<'a>(alloc: Global) -> Result<Command<'a>, AllocError> {
             "Reads octets in hexadecimal from standard input and prints a line for each frame in them",
         )
         .arg(flag(alloc, "heard", "The octets were heard, and not sent"))?
-        .arg(flag(alloc, "raw", "Standard input has the octets as they are"))
+        .arg(flag(alloc, "raw", "Standard input has the octets as they are"))?
+        .arg(flag(alloc, "color", "The lines are in colour"))
 }
 
 /// Which way the octets of a `trace` went.
@@ -82,6 +83,35 @@ pub fn direction_of(options: &ArgMatches<'_>) -> Direction {
     } else {
         Direction::Sent
     }
+}
+
+/// How the lines of a trace look.
+pub fn look_of(options: &ArgMatches<'_>) -> Look {
+    if options.get_flag("color") {
+        Look::Colored
+    } else {
+        Look::Plain
+    }
+}
+
+/// How frames are told of which it is asked that they are.
+fn traced_of(options: &ArgMatches<'_>) -> Option<Look> {
+    if options.get_flag("trace") {
+        Some(look_of(options))
+    } else {
+        None
+    }
+}
+
+/// The command, with the options that have each frame told.
+fn with_trace<'a>(alloc: Global, command: Command<'a>) -> Result<Command<'a>, AllocError> {
+    command
+        .arg(flag(alloc, "trace", "Tells each frame on standard error"))?
+        .arg(color(alloc)?)
+}
+
+fn color<'a>(alloc: Global) -> Result<Arg<'a>, AllocError> {
+    flag(alloc, "color", "Tells them in colour").requires_arg("trace")
 }
 
 /// The command `explain` with its options.
@@ -131,7 +161,19 @@ pub fn send<'a>(alloc: Global) -> Result<Command<'a>, AllocError> {
         alloc,
         "settled",
         "The messages go settled: nothing is told of them",
-    ))
+    ))?
+    .arg(journal(alloc, "settled")?)
+}
+
+/// The option of `send` and `receive` that says which file is their journal, which does not go with this other one.
+fn journal<'a>(alloc: Global, other: &'static str) -> Result<Arg<'a>, AllocError> {
+    let help =
+        "Keeps in this file what became of each message: lost connections, and runs that were killed, are taken up again";
+    Arg::new(alloc, "journal")
+        .long("journal")
+        .value_name("PATH")
+        .help(help)
+        .conflicts_with(other)
 }
 
 fn file<'a>(alloc: Global) -> Result<Arg<'a>, AllocError> {
@@ -175,7 +217,8 @@ pub fn receive<'a>(alloc: Global) -> Result<Command<'a>, AllocError> {
         .arg(drain(alloc)?)?
         .arg(flag(alloc, "lines", lines))?
         .arg(flag(alloc, "sections", sections))?
-        .arg(flag(alloc, "json", json))
+        .arg(flag(alloc, "json", json))?
+        .arg(journal(alloc, "drain")?)
 }
 
 /// The command `serve` with its options.
@@ -184,8 +227,7 @@ pub fn serve<'a>(alloc: Global) -> Result<Command<'a>, AllocError> {
         "Listens for peers, keeps what they send in memory by address, and sends it to those that take it: for tests";
     let count = "Ends once so many messages were sent and are done with";
     let limit = "How many messages are kept at most";
-    Command::new(alloc, "serve")
-        .about(about)
+    with_trace(alloc, Command::new(alloc, "serve").about(about))?
         .arg(text(
             alloc,
             "host",
@@ -201,6 +243,7 @@ pub fn serve<'a>(alloc: Global) -> Result<Command<'a>, AllocError> {
         )
         .value_parser(value_parser!(u32).range(1..=2147483647)))?
         .arg(usual(alloc, "limit", limit, "100000"))?
+        .arg(threads(alloc))?
         .arg(
             Arg::new(alloc, "count")
                 .long("count")
@@ -210,10 +253,17 @@ pub fn serve<'a>(alloc: Global) -> Result<Command<'a>, AllocError> {
         )
 }
 
+fn threads<'a>(alloc: Global) -> Arg<'a> {
+    let threads = usual(alloc, "threads", "How many threads drive connections", "1");
+    threads.value_parser(value_parser!(u32).range(1..=i64::from(MAX_THREADS)))
+}
+
 /// The command, with the options that say who the peer is, and of how many messages.
 fn with_peer<'a>(alloc: Global, command: Command<'a>) -> Result<Command<'a>, AllocError> {
     let count = usual(alloc, "count", "How many messages", "1");
-    command
+    let retries =
+        "With a journal: how often in a row a peer is tried again where that brings nothing";
+    with_trace(alloc, command)?
         .arg(text(
             alloc,
             "address",
@@ -231,8 +281,8 @@ fn with_peer<'a>(alloc: Global, command: Command<'a>) -> Result<Command<'a>, All
         .arg(patience(alloc))?
         .arg(text(alloc, "container-id", "This end's name", "amqp_peer"))?
         .arg(max_frame(alloc))?
-        .arg(flag(alloc, "trace", "Tells each frame on standard error"))?
         .arg(flag(alloc, "quiet", "Does not tell how far it is"))?
+        .arg(usual(alloc, "retries", retries, "20"))?
         .arg(count.value_parser(value_parser!(u32).range(1..)))
 }
 
@@ -324,6 +374,8 @@ pub fn serve_of<'a>(options: &ArgMatches<'a>) -> Option<Serve<'a>> {
         credit: options.get_one::<u32>("credit")?,
         limit: options.get_one::<u32>("limit")?,
         count: options.get_one::<u32>("count"),
+        threads: options.get_one::<u32>("threads")?,
+        trace: traced_of(options),
     })
 }
 
@@ -346,8 +398,10 @@ fn exchange_of<'a>(options: &ArgMatches<'a>) -> Option<Exchange<'a>> {
         credit: 1,
         renewal: Renewal::AtZero,
         printed: Printed::Nothing,
-        is_traced: options.get_flag("trace"),
+        trace: traced_of(options),
         is_quiet: options.get_flag("quiet"),
+        journal: options.get_str("journal"),
+        retries: options.get_one::<u32>("retries")?,
     })
 }
 

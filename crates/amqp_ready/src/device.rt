@@ -1,10 +1,12 @@
 //! Streams that never wait.
-ghost use Rattle.std.specs.Prelude.{◌≡◌, ◌≤◌, ◌<◌, ◌++◌, [], true, false, length, IfOk, OnOk, OnErr};
+ghost use Rattle.std.specs.Prelude.{◌≡◌, ◌≤◌, ◌<◌, ◌++◌, [], true, false, length, None, IfOk, OnOk, OnErr};
 ghost use Rattle.amqp_ready.specs.Moving.{count, Reads, Writes, MovesSome};
 ghost use Rattle.amqp_ready.specs.Tried.{IsTried, TriesSome, MovesNone};
 
+use crate::tap::{Recorded, Tap, Way};
 use amqp_conn::Failed;
 use mio::net::TcpStream;
+use std::alloc::Global;
 use std::io;
 use std::io::{ErrorKind, IoSlice, Read, Write};
 
@@ -63,21 +65,42 @@ pub trait NonBlocking {
     }
 }
 
-/// A stream of mio's, with whether a call failed.
+/// A stream of mio's, with whether a call failed. What goes over it is recorded where that is asked for.
 #[derive(Drop)]
 pub struct Socket {
     stream: TcpStream,
     has_failed: bool,
+    tap: Option<Tap>,
 }
 
 impl Socket {
     /// Over the stream, none of whose calls has failed yet.
     pub fn new(stream: TcpStream) -> Socket
-        ensures { result ≡ record { stream = stream; has_failed = false } }
+        ensures { result ≡ record { stream = stream; has_failed = false; tap = None } }
     {
         Socket {
             stream,
             has_failed: false,
+            tap: None,
+        }
+    }
+
+    /// What goes over it from here on is recorded, in memory from there, for `take_recorded`.
+    pub fn record(&mut self, alloc: Global)
+        ensures stream { self.new.stream ≡ self.old.stream }
+        ensures has_failed { self.new.has_failed ≡ self.old.has_failed }
+    {
+        self.tap = Some(Tap::new(alloc));
+    }
+
+    /// What went over it first of all that was recorded and not taken, in the order of the calls. None, too, where nothing is recorded.
+    pub fn take_recorded(&mut self) -> Option<Recorded>
+        ensures stream { self.new.stream ≡ self.old.stream }
+        ensures has_failed { self.new.has_failed ≡ self.old.has_failed }
+    {
+        match &mut self.tap {
+            Some(tap) => tap.take(),
+            None => None,
         }
     }
 
@@ -99,6 +122,23 @@ impl Socket {
     {
         self.has_failed = true;
         Failed
+    }
+
+    /// So many octets of these, one behind the other, went this way.
+    fn note(&mut self, way: Way, first: &[u8], second: &[u8], moved: Moved)
+        ensures { self.new.has_failed ≡ self.old.has_failed }
+    {
+        if let Some(tap) = &mut self.tap {
+            tap.note(way, first, second, count_of(moved));
+        }
+    }
+}
+
+/// How many octets were moved.
+fn count_of(moved: Moved) -> usize {
+    match moved {
+        Moved::Octets(count) => count,
+        Moved::Waits => 0,
     }
 }
 
@@ -169,7 +209,10 @@ impl NonBlocking for Socket {
     fn read_some(&mut self, buffer: &mut [u8]) -> Result<Moved, Failed> {
         for _ in 0..u64::MAX {
             match read_once(&mut self.stream, buffer) {
-                Tried::Moved(moved) => return Ok(moved),
+                Tried::Moved(moved) => {
+                    self.note(Way::In, buffer, &[], moved);
+                    return Ok(moved);
+                }
                 Tried::Interrupted => {}
                 Tried::Failed => return Err(self.fail()),
             }
@@ -184,7 +227,10 @@ impl NonBlocking for Socket {
     fn write_two(&mut self, first: &[u8], second: &[u8]) -> Result<Moved, Failed> {
         for _ in 0..u64::MAX {
             match write_once(&mut self.stream, first, second) {
-                Tried::Moved(moved) => return Ok(moved),
+                Tried::Moved(moved) => {
+                    self.note(Way::Out, first, second, moved);
+                    return Ok(moved);
+                }
                 Tried::Interrupted => {}
                 Tried::Failed => return Err(self.fail()),
             }

@@ -4,6 +4,7 @@ use crate::handler::Handler;
 use crate::listener::{Admitted, LISTENER, Listening, Welcome};
 use crate::seat::Ended;
 use crate::slots::{Returned, Round, Slots};
+use crate::tap::Recorded;
 use crate::times::Limits;
 use amqp_conn::{Conn, Op, Refusal};
 use mio::net::{TcpListener, TcpStream};
@@ -34,6 +35,8 @@ pub struct Driver<H> {
     listener: Option<Listening>,
     /// Memory was refused in the last turn.
     is_short: bool,
+    /// Where what goes over streams is recorded; none: it is not.
+    recorded_in: Option<Global>,
 }
 
 /// Why no slot was added; all is handed back.
@@ -50,14 +53,44 @@ impl<H: Handler + Drop> Driver<H> {
     ///
     /// Where the system has no poll, or memory is refused.
     pub fn new<R: Net>(rt: &R, alloc: Global, events: usize) -> io::Result<Driver<H>> {
-        let poll = Poll::new(rt)?;
-        Ok(Driver {
-            poll,
-            events: Events::with_capacity(alloc, events)?,
-            slots: Slots::new(alloc),
-            listener: None,
-            is_short: false,
-        })
+        Driver::over(Poll::new(rt)?, alloc, events)
+    }
+
+    /// As `new`, over a poll that was made before: a thread without the runtime's `Net` may have its driver so.
+    ///
+    /// # Errors
+    ///
+    /// Where memory is refused.
+    pub fn over(poll: Poll, alloc: Global, events: usize) -> io::Result<Driver<H>> {
+        match Events::with_capacity(alloc, events) {
+            Ok(events) => Ok(Driver {
+                poll,
+                events,
+                slots: Slots::new(alloc),
+                listener: None,
+                is_short: false,
+                recorded_in: None,
+            }),
+            Err(error) => {
+                drop(poll);
+                Err(io::Error::from(error))
+            }
+        }
+    }
+
+    /// What goes over each stream that is added from here on is recorded, in memory from there. Who asks for it takes it (`take_recorded`) behind each turn,
+    /// and what is left of an ended slot with its stream (`Socket::take_recorded`); it is kept until then. Want of memory for it ends the record of that
+    /// stream, and nothing else.
+    pub fn record(&mut self, alloc: Global) {
+        self.recorded_in = Some(alloc);
+    }
+
+    /// What went first over the stream under the key, of all that was recorded and not taken.
+    pub fn take_recorded(&mut self, key: usize) -> Option<Recorded> {
+        match self.slots.stream_mut(key) {
+            Some(stream) => stream.take_recorded(),
+            None => None,
+        }
     }
 
     /// The slots, to be read.
@@ -86,7 +119,10 @@ impl<H: Handler + Drop> Driver<H> {
         let key = self.slots.next_key();
         let both = Interest::READABLE | Interest::WRITABLE;
         match self.poll.registry().register(&mut stream, Token(key), both) {
-            Ok(()) => self.add_registered(Socket::new(stream), conn, handler),
+            Ok(()) => {
+                let socket = self.socket_over(stream);
+                self.add_registered(socket, conn, handler)
+            }
             Err(error) => Err(NotAdded {
                 error,
                 returned: Returned {
@@ -96,6 +132,14 @@ impl<H: Handler + Drop> Driver<H> {
                 },
             }),
         }
+    }
+
+    fn socket_over(&self, stream: TcpStream) -> Socket {
+        let mut socket = Socket::new(stream);
+        if let Some(alloc) = self.recorded_in {
+            socket.record(alloc);
+        }
+        socket
     }
 
     fn add_registered(
@@ -159,7 +203,12 @@ impl<H: Handler + Drop> Driver<H> {
         Ok(admitted)
     }
 
-    fn next_peer(&mut self) -> io::Result<Option<(TcpStream, SocketAddr)>> {
+    /// The next peer that has connected, if one waits, whose stream is added nowhere: for a program that deals peers to several drivers. Else `admit` asks for it.
+    ///
+    /// # Errors
+    ///
+    /// As `admit`: it waits, and is asked for in the next call.
+    pub fn next_peer(&mut self) -> io::Result<Option<(TcpStream, SocketAddr)>> {
         match &mut self.listener {
             Some(listener) => listener.next(),
             None => Ok(None),

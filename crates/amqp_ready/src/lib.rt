@@ -4,6 +4,7 @@
 //! | module | what it has |
 //! |---|---|
 //! | `device` | [`NonBlocking`]: a stream that reads and writes some octets, or tells that it would wait; [`Socket`]: one of mio's |
+//! | `tap` | what went over a stream, where that is recorded ([`Recorded`], [`Way`]) |
 //! | `inbox` | [`Unfed`]: octets that were read and not fed; [`Inbox`]: the room for what reads bring |
 //! | `handler`, `lent` | [`Handler`]: the application's part of a connection, which is [`Lent`] to it |
 //! | `feeding` | what was read is fed |
@@ -37,6 +38,7 @@ mod seat;
 mod sending;
 mod slot;
 mod slots;
+mod tap;
 mod times;
 
 pub use device::{Moved, NonBlocking, Socket};
@@ -51,4 +53,5 @@ pub use seat::{Ended, Stage, Turned};
 pub use sending::Flushed;
 pub use slot::{Brought, Served, Slot};
 pub use slots::{Returned, Round, Slots};
+pub use tap::{Recorded, Way};
 pub use times::Limits;

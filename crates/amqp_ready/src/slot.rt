@@ -122,6 +122,11 @@ impl<S: NonBlocking, H: Handler> Slot<S, H> {
         &self.stream
     }
 
+    /// The stream, for what reads and writes nothing.
+    pub(crate) fn stream_mut(&mut self) -> &mut S {
+        &mut self.stream
+    }
+
     /// How many octets were read and not fed.
     pub fn unfed(&self) -> usize
         ensures { result ≡ length self.now.unfed }

@@ -109,6 +109,14 @@ impl<S: NonBlocking, H: Handler> Slots<S, H> {
         }
     }
 
+    /// The stream of the slot under the key, for what reads and writes nothing.
+    pub(crate) fn stream_mut(&mut self, key: usize) -> Option<&mut S> {
+        match self.seats.get_mut(key) {
+            Some(seat) => Some(seat.slot.stream_mut()),
+            None => None,
+        }
+    }
+
     /// Each key is below this number.
     pub fn capacity(&self) -> usize {
         self.seats.capacity()

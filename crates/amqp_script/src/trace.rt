@@ -4,7 +4,7 @@ ghost use Rattle.std.specs.Prelude.{◌≢◌, ◌<◌, ◌≤◌, [], IfOk, len
 use crate::frames::{Framed, MAX_FRAME, Octets, tell_fault, tell_rest};
 use crate::lines::{LineTaker, Outcome, RunFault, take_lines};
 use amqp_frames::FrameFault;
-use amqp_trace::{Direction, Tracer};
+use amqp_trace::{Direction, Look, Tracer};
 use std::alloc::{AllocError, Global};
 use std::io;
 use std::io::{BufRead, Write};
@@ -18,10 +18,11 @@ const MAX_READS: u32 = u32::MAX;
 pub fn run_trace<R: BufRead, W: Write>(
     alloc: Global,
     direction: Direction,
+    look: Look,
     reader: &mut R,
     writer: &mut W,
 ) -> Result<Framed, RunFault> {
-    let mut tracing = Tracing::new(alloc, direction);
+    let mut tracing = Tracing::new(alloc, direction, look);
     let run = take_lines(alloc, &mut tracing, reader, writer);
     tracing.end(run, writer)
 }
@@ -30,10 +31,11 @@ pub fn run_trace<R: BufRead, W: Write>(
 pub fn run_raw_trace<R: BufRead, W: Write>(
     alloc: Global,
     direction: Direction,
+    look: Look,
     reader: &mut R,
     writer: &mut W,
 ) -> Result<Framed, RunFault> {
-    let mut tracing = Tracing::new(alloc, direction);
+    let mut tracing = Tracing::new(alloc, direction, look);
     let run = take_raw(&mut tracing, reader, writer);
     tracing.end(run, writer)
 }
@@ -60,10 +62,10 @@ impl LineTaker for Tracing {
 }
 
 impl Tracing {
-    fn new(alloc: Global, direction: Direction) -> Tracing {
+    fn new(alloc: Global, direction: Direction, look: Look) -> Tracing {
         Tracing {
             alloc,
-            tracer: Tracer::new(alloc, direction, MAX_FRAME),
+            tracer: Tracer::new(alloc, direction, look, MAX_FRAME),
             lines: Outcome::EachLineGood,
         }
     }

@@ -1,12 +1,17 @@
-//! A server that listens.
+//! A server that listens, on one thread or several.
+use crate::hall::{Hall, Job, Terms, Totals};
 use crate::server::Server;
+use amqp_trace::Look;
+use mio::Poll;
 use mio::net::TcpListener;
-use std::alloc::Global;
-use std::io;
-use std::io::Write;
+use std::alloc::{AllocError, Global};
+use std::io::{ErrorKind, Write};
 use std::net::{IpAddr, Net, SocketAddr};
 use std::rt::Clock;
+use std::sync::Wait;
+use std::thread::Threads;
 use std::time::{Duration, Instant};
+use std::{io, thread};
 use thiserror::Error;
 
 /// How long a turn waits at most, in milliseconds.
@@ -14,6 +19,9 @@ const TURN: u64 = 250;
 
 /// How many turns there are at most behind the last message.
 const LAST: u32 = 40;
+
+/// The most threads that a server has.
+pub const MAX_THREADS: u32 = 64;
 
 /// What a server is to do.
 #[derive(Clone, Copy, Debug)]
@@ -28,6 +36,10 @@ pub struct Serve<'a> {
     pub limit: u32,
     /// It ends once so many messages went out and are done with; none: it goes on.
     pub count: Option<u32>,
+    /// How many threads drive its connections; 0 is 1. Where the system makes no more of them, those that are there do it.
+    pub threads: u32,
+    /// How each frame that goes over its connections is told on standard error; none: it is not.
+    pub trace: Option<Look>,
 }
 
 /// Why a server does not go on.
@@ -44,74 +56,149 @@ pub enum ServeFault {
 /// # Errors
 ///
 /// Where the system does not let it listen, a write fails, or memory is refused.
-pub fn run_serve<R: Net + Clock, W: Write>(
+pub fn run_serve<R, W: Write>(
     rt: &R,
     alloc: Global,
     serve: Serve<'_>,
     writer: &mut W,
-) -> Result<(), ServeFault> {
+) -> Result<(), ServeFault>
+where
+    R: Net + Clock + Eprint + Threads + Wait + Sync,
+{
     let Ok(host) = serve.host.parse::<IpAddr>() else {
         return Err(ServeFault::Host);
     };
+    let terms = Terms {
+        alloc,
+        credit: serve.credit,
+        count: serve.count,
+        trace: serve.trace,
+    };
     let listener = TcpListener::bind(rt, SocketAddr::new(host, serve.port))?;
-    let there = listener.local_addr()?;
-    let mut server = Server::new(rt, alloc, listener, serve.limit as usize, serve.credit)?;
-    let served = serve_on(rt, &mut server, there, serve, writer);
-    drop(server);
-    served
+    if let Err(error) = tell_listens(&listener, writer) {
+        drop(listener);
+        return Err(ServeFault::Io(error));
+    }
+    match Hall::new(terms, serve.limit as usize, serve.threads.max(1), listener) {
+        Ok(hall) => {
+            let served = serve_on(rt, &hall, writer);
+            drop(hall);
+            served
+        }
+        Err(error) => Err(ServeFault::Io(io::Error::from(error))),
+    }
 }
 
-fn serve_on<R: Clock, W: Write>(
-    rt: &R,
-    server: &mut Server,
-    there: SocketAddr,
-    serve: Serve<'_>,
-    writer: &mut W,
-) -> Result<(), ServeFault> {
+fn tell_listens<W: Write>(listener: &TcpListener, writer: &mut W) -> io::Result<()> {
+    let there = listener.local_addr()?;
     writeln!(writer, "listens {there}")?;
-    writer.flush()?;
-    turn_on(rt, server, serve)?;
-    let totals = server.totals();
+    writer.flush()
+}
+
+fn serve_on<R, W: Write>(rt: &R, hall: &Hall, writer: &mut W) -> Result<(), ServeFault>
+where
+    R: Net + Clock + Eprint + Threads + Wait + Sync,
+{
+    let jobs = jobs_of(rt, hall)?;
+    run_side_by_side(rt, hall, jobs).map_err(io::Error::from)?;
+    tell_served(rt, hall, writer)
+}
+
+/// What was done, by all threads.
+fn tell_served<R: Wait, W: Write>(rt: &R, hall: &Hall, writer: &mut W) -> Result<(), ServeFault> {
+    let (failed, totals, left) = done_by(rt, hall);
+    if let Some(kind) = failed {
+        return Err(ServeFault::Io(io::Error::from(kind)));
+    }
     writeln!(
         writer,
-        "served connections {} faults {} in {} out {} left {}",
-        totals.ended,
-        totals.faults,
-        totals.came,
-        totals.went,
-        server.left()
+        "served connections {} faults {} in {} out {} left {left}",
+        totals.ended, totals.faults, totals.came, totals.went
     )?;
     writer.flush()?;
     Ok(())
 }
 
+fn done_by<R: Wait>(rt: &R, hall: &Hall) -> (Option<ErrorKind>, Totals, usize) {
+    let store = hall.store().lock(rt);
+    (store.failed(), store.totals(), store.left())
+}
+
+/// What each thread begins with.
+fn jobs_of<R: Net>(rt: &R, hall: &Hall) -> io::Result<Vec<Job>> {
+    let mut jobs = Vec::new(hall.terms().alloc);
+    match add_jobs(rt, &mut jobs, hall.len()) {
+        Ok(()) => Ok(jobs),
+        Err(error) => {
+            drop(jobs);
+            Err(error)
+        }
+    }
+}
+
+fn add_jobs<R: Net>(rt: &R, jobs: &mut Vec<Job>, count: usize) -> io::Result<()> {
+    for place in 0..count {
+        let poll = Poll::new(rt)?;
+        if jobs.push(Job { place, poll }).is_err() {
+            return Err(io::Error::from(AllocError));
+        }
+    }
+    Ok(())
+}
+
+/// All threads, each at its place. Where the system makes none, they run one after the other: the first listens, and goes on until all is done.
+fn run_side_by_side<R>(rt: &R, hall: &Hall, jobs: Vec<Job>) -> Result<(), AllocError>
+where
+    R: Clock + Eprint + Threads + Wait + Sync,
+{
+    let done = thread::map_vec(rt, jobs, &|job: Job| run_place(rt, hall, job))?;
+    drop(done);
+    Ok(())
+}
+
+/// The thread at its place, until as many messages went as are asked for.
+fn run_place<R: Clock + Eprint + Wait>(rt: &R, hall: &Hall, job: Job) {
+    let place = job.place;
+    let fault = match Server::new(rt, hall, job) {
+        Ok(mut server) => {
+            let turned = turn_on(rt, hall, &mut server);
+            drop(server);
+            turned.err()
+        }
+        Err(error) => Some(error),
+    };
+    let kind = match fault {
+        Some(error) => Some(error.kind()),
+        None => None,
+    };
+    hall.leave(rt, place, kind);
+}
+
 /// Turns until as many messages went as are asked for, and then until each connection is closed, or some seconds have passed.
-fn turn_on<R: Clock>(rt: &R, server: &mut Server, serve: Serve<'_>) -> io::Result<()> {
+fn turn_on<R: Clock + Eprint + Wait>(rt: &R, hall: &Hall, server: &mut Server) -> io::Result<()> {
     let begun = Instant::now(rt)?;
     for _ in 0..u64::MAX {
-        if is_done(server, serve) {
+        if hall.is_over(rt) {
             break;
         }
-        turn(rt, server, begun)?;
+        turn(rt, hall, server, begun)?;
     }
     server.close();
     for _ in 0..LAST {
         if server.is_empty() {
             break;
         }
-        turn(rt, server, begun)?;
+        turn(rt, hall, server, begun)?;
     }
     Ok(())
 }
 
-fn turn<R: Clock>(rt: &R, server: &mut Server, begun: Instant) -> io::Result<()> {
+fn turn<R: Clock + Eprint + Wait>(
+    rt: &R,
+    hall: &Hall,
+    server: &mut Server,
+    begun: Instant,
+) -> io::Result<()> {
     let now = begun.elapsed(rt)?.as_secs().saturating_mul(1000);
-    server.turn(Duration::from_millis(TURN), now)
-}
-
-fn is_done(server: &Server, serve: Serve<'_>) -> bool {
-    match serve.count {
-        Some(count) => server.totals().went >= u64::from(count),
-        None => false,
-    }
+    server.turn(rt, hall, Duration::from_millis(TURN), now)
 }

@@ -1,22 +1,28 @@
-//! Connections, queues, and what goes from the ones to the others.
-use crate::queues::{Message, Queues};
+//! The connections of one thread, and what goes from them to the queues and from these to them.
+use crate::hall::{Hall, Job, Peer, Terms};
+use crate::queues::Message;
+use crate::traced::Trace;
 use crate::visitor::{Arrived, Told, Unlearnt, Visitor, grant, told_in};
 use amqp_conn::{Bytes, Config, Conn, DeliveryState, Given, Op, Role, Tag, Text};
-use amqp_ready::{Driver, Ended, Limits, Welcome};
-use mio::net::TcpListener;
+use amqp_ready::{Driver, Ended, Limits, SlotFault};
+use mio::net::TcpStream;
 use std::alloc::Global;
 use std::io;
-use std::net::{Net, SocketAddr};
+use std::net::SocketAddr;
+use std::sync::Wait;
 use std::time::Duration;
 
 /// How many events a turn takes at most.
 const EVENTS: usize = 256;
 
+/// How many peers are let in at once.
+const PEERS: usize = 64;
+
 /// More than a transfer without its payload takes in a frame.
 const HEAD: usize = 128;
 
-/// The longest frame that we send.
-const MOST: usize = 65536;
+/// The longest frame that we send and take.
+const MOST: u32 = 65536;
 
 /// A peer opens within ten seconds, and closes within five; how long it is silent does not matter.
 const LIMITS: Limits = Limits {
@@ -25,76 +31,48 @@ const LIMITS: Limits = Limits {
     close: 5000,
 };
 
-/// Makes the connection of each peer.
-#[derive(Drop)]
-struct Door {
-    alloc: Global,
-    credit: u32,
-}
-
-impl Welcome<Visitor> for Door {
-    fn welcome(&mut self, _from: SocketAddr) -> Option<(Conn, Visitor)> {
-        match connection(self.alloc) {
-            Some(conn) => Some((conn, Visitor::new(self.alloc, self.credit))),
-            None => None,
-        }
-    }
-}
-
 fn connection(alloc: Global) -> Option<Conn> {
     match Text::new(alloc, "amqp_peer") {
-        Ok(name) => Conn::new(alloc, Config::new(name)).ok(),
+        Ok(name) => Conn::new(
+            alloc,
+            Config {
+                max_frame: MOST,
+                ..Config::new(name)
+            },
+        )
+        .ok(),
         Err(_) => None,
     }
 }
 
-/// What a server has done.
-#[derive(Clone, Copy, Debug, PartialEq, Eq)]
-pub struct Totals {
-    /// How many connections have ended.
-    pub ended: u64,
-    /// How many of them did not end as they may.
-    pub faults: u64,
-    /// How many messages came in.
-    pub came: u64,
-    /// How many went out and are done with.
-    pub went: u64,
-}
-
-/// A server: its connections, and its queues.
+/// The connections of one thread.
 #[derive(Drop)]
 pub struct Server {
-    credit: u32,
+    terms: Terms,
+    /// Of its thread, among those of the hall.
+    place: usize,
     driver: Driver<Visitor>,
-    door: Door,
-    queues: Queues,
+    /// How many peers have connected at its listener.
+    dealt: u64,
     tags: u64,
-    totals: Totals,
+    /// Messages were put into queues, which the other threads have not been told.
+    has_put: bool,
 }
 
 impl Server {
-    /// A server that listens there. Its queues have so many messages together at most, and each link is granted so much credit.
-    pub fn new<R: Net>(
-        rt: &R,
-        alloc: Global,
-        listener: TcpListener,
-        limit: usize,
-        credit: u32,
-    ) -> io::Result<Server> {
-        let mut driver = Driver::new(rt, alloc, EVENTS)?;
-        match driver.listen(listener) {
+    /// Without a connection yet. The first one listens, and deals the peers that connect to all threads.
+    pub fn new<R: Wait>(rt: &R, hall: &Hall, job: Job) -> io::Result<Server> {
+        let terms = hall.terms();
+        let Job { place, poll } = job;
+        let mut driver = Driver::over(poll, terms.alloc, EVENTS)?;
+        match begin(rt, hall, place, &mut driver) {
             Ok(()) => Ok(Server {
-                credit,
+                terms,
+                place,
                 driver,
-                door: Door { alloc, credit },
-                queues: Queues::new(alloc, limit),
+                dealt: 0,
                 tags: 0,
-                totals: Totals {
-                    ended: 0,
-                    faults: 0,
-                    came: 0,
-                    went: 0,
-                },
+                has_put: false,
             }),
             Err(error) => {
                 drop(driver);
@@ -103,42 +81,131 @@ impl Server {
         }
     }
 
-    pub fn totals(&self) -> Totals {
-        self.totals
-    }
-
-    /// How many messages are in its queues.
-    pub fn left(&self) -> usize {
-        self.queues.len()
-    }
-
     /// One turn: peers are let in, what came goes to its queue, and what waits goes out, as its peers take it.
-    pub fn turn(&mut self, most: Duration, now: u64) -> io::Result<()> {
+    pub fn turn<R: Wait + Eprint>(
+        &mut self,
+        rt: &R,
+        hall: &Hall,
+        most: Duration,
+        now: u64,
+    ) -> io::Result<()> {
         self.driver.turn(Some(most))?;
-        // Who cannot be let in now waits.
-        let _ = self.driver.admit(&mut self.door);
-        self.take_in();
-        self.give_out();
+        if self.terms.trace.is_some() {
+            self.tell_all(rt, hall);
+        }
+        self.deal(rt, hall);
+        self.admit(rt, hall);
+        self.take_in(rt, hall);
+        self.give_out(rt, hall);
         self.driver.tick(LIMITS, now);
+        if self.has_put {
+            self.has_put = false;
+            hall.wake_others(rt, self.place);
+        }
         Ok(())
     }
 
-    /// What came on any connection, or comes back, goes to its queue.
-    fn take_in(&mut self) {
+    /// Peers that have connected here are dealt to the threads.
+    fn deal<R: Wait + Eprint>(&mut self, rt: &R, hall: &Hall) {
+        for _ in 0..PEERS {
+            // Who cannot be let in now waits.
+            let Ok(Some((stream, from))) = self.driver.next_peer() else {
+                break;
+            };
+            self.dealt = self.dealt.saturating_add(1);
+            self.tell_connected(rt, hall, from);
+            hall.deal(
+                rt,
+                Peer {
+                    number: self.dealt,
+                    stream,
+                },
+            );
+        }
+    }
+
+    /// Peers that were dealt to this thread are let in.
+    fn admit<R: Wait>(&mut self, rt: &R, hall: &Hall) {
+        for _ in 0..u64::MAX {
+            let Some(peer) = hall.next_peer(rt, self.place) else {
+                break;
+            };
+            let Peer { number, stream } = peer;
+            self.let_in(number, stream);
+        }
+    }
+
+    /// One for which there is no memory finds its stream closed.
+    fn let_in(&mut self, number: u64, stream: TcpStream) {
+        match connection(self.terms.alloc) {
+            Some(conn) => {
+                let visitor = self.visitor(number);
+                drop(self.driver.add(stream, conn, visitor));
+            }
+            None => drop(stream),
+        }
+    }
+
+    fn visitor(&self, number: u64) -> Visitor {
+        let Terms {
+            alloc,
+            credit,
+            trace,
+            ..
+        } = self.terms;
+        let trace = match trace {
+            Some(look) => Some(Trace::new(alloc, number, look, MOST)),
+            None => None,
+        };
+        Visitor::new(alloc, credit, trace)
+    }
+
+    /// Tells what went over connections in the last turn.
+    fn tell_all<R: Wait + Eprint>(&mut self, rt: &R, hall: &Hall) {
+        let voice = hall.voice().lock(rt);
         for key in 0..self.driver.slots().capacity() {
-            self.bring_in(key);
+            self.tell(rt, key);
+        }
+        drop(voice);
+    }
+
+    /// Tells what went over the connection under the key.
+    fn tell<R: Eprint>(&mut self, rt: &R, key: usize) {
+        for _ in 0..u64::MAX {
+            let Some(recorded) = self.driver.take_recorded(key) else {
+                break;
+            };
+            if let Some(visitor) = self.driver.handler_mut(key) {
+                visitor.tell(rt, &recorded);
+            }
+            drop(recorded);
+        }
+    }
+
+    fn tell_connected<R: Wait + Eprint>(&self, rt: &R, hall: &Hall, from: SocketAddr) {
+        if self.terms.trace.is_some() {
+            let voice = hall.voice().lock(rt);
+            let _ = eprintln!(rt; "{} connected {from}", self.dealt);
+            drop(voice);
+        }
+    }
+
+    /// What came on any connection, or comes back, goes to its queue.
+    fn take_in<R: Wait + Eprint>(&mut self, rt: &R, hall: &Hall) {
+        for key in 0..self.driver.slots().capacity() {
+            self.bring_in(rt, hall, key);
         }
         for _ in 0..u64::MAX {
-            if !self.end_one() {
+            if !self.end_one(rt, hall) {
                 break;
             }
         }
     }
 
     /// What waits goes out. It comes behind all that came in, so that nothing waits for another turn.
-    fn give_out(&mut self) {
+    fn give_out<R: Wait>(&mut self, rt: &R, hall: &Hall) {
         for key in 0..self.driver.slots().capacity() {
-            self.bring_out(key);
+            self.bring_out(rt, hall, key);
         }
     }
 
@@ -153,25 +220,25 @@ impl Server {
     }
 
     /// What came on the connection under the key, or comes back from it, goes to its queue.
-    fn bring_in(&mut self, key: usize) {
-        self.look_up(key);
+    fn bring_in<R: Wait>(&mut self, rt: &R, hall: &Hall, key: usize) {
+        self.look_up(rt, hall, key);
         for _ in 0..u64::MAX {
-            if !self.store_one(key) {
+            if !self.store_one(rt, hall, key) {
                 break;
             }
         }
         for at in 0..self.links_of(key) {
             self.learn_all(key, at);
         }
-        self.take_back(key);
+        self.take_back(rt, hall, key);
     }
 
     /// What waits for the connection under the key goes out, as its peer takes it.
-    fn bring_out(&mut self, key: usize) {
+    fn bring_out<R: Wait>(&mut self, rt: &R, hall: &Hall, key: usize) {
         for at in 0..self.links_of(key) {
             self.renew(key, at);
-            self.send_all(key, at);
-            self.give_up_credit(key, at);
+            self.send_all(rt, hall, key, at);
+            self.give_up_credit(rt, hall, key, at);
         }
         if let Some(visitor) = self.driver.handler_mut(key) {
             visitor.tidy();
@@ -186,11 +253,11 @@ impl Server {
     }
 
     /// Finds the queue of each link that has none yet.
-    fn look_up(&mut self, key: usize) {
+    fn look_up<R: Wait>(&mut self, rt: &R, hall: &Hall, key: usize) {
         if let Some(visitor) = self.driver.handler_mut(key) {
             for linked in visitor.links.as_mut_slice() {
                 if linked.place.is_none() {
-                    linked.place = self.queues.place(&linked.address).ok();
+                    linked.place = hall.store().lock(rt).place(&linked.address).ok();
                 }
             }
         }
@@ -205,7 +272,7 @@ impl Server {
     }
 
     /// Puts a message that came into its queue, and tells its sender; one that has no room there is released.
-    fn store_one(&mut self, key: usize) -> bool {
+    fn store_one<R: Wait>(&mut self, rt: &R, hall: &Hall, key: usize) -> bool {
         let Some((arrived, place)) = self.next_arrived(key) else {
             return false;
         };
@@ -215,10 +282,7 @@ impl Server {
             message,
             ..
         } = arrived;
-        let is_in = self.store(place, message);
-        if is_in {
-            self.totals.came = self.totals.came.saturating_add(1);
-        }
+        let is_in = self.store(rt, hall, place, message);
         if !is_settled {
             let _ = self.driver.perform(key, answer_for(id, is_in));
         }
@@ -226,7 +290,7 @@ impl Server {
     }
 
     /// What came settled with the end of its connection goes to its queue.
-    fn store_late(&mut self, visitor: &mut Visitor) {
+    fn store_late<R: Wait>(&mut self, rt: &R, hall: &Hall, visitor: &mut Visitor) {
         for _ in 0..u64::MAX {
             let Some(arrived) = visitor.arrived.pop_front() else {
                 break;
@@ -237,17 +301,27 @@ impl Server {
                 message,
                 ..
             } = arrived;
-            if !is_settled {
+            if is_settled {
+                let _: bool = self.store(rt, hall, place, message);
+            } else {
                 drop(message);
-            } else if self.store(place, message) {
-                self.totals.came = self.totals.came.saturating_add(1);
             }
         }
     }
 
-    fn store(&mut self, place: Option<usize>, message: Message) -> bool {
+    /// Puts a message into the queue at this place, if there is one: whether there was room.
+    fn store<R: Wait>(
+        &mut self,
+        rt: &R,
+        hall: &Hall,
+        place: Option<usize>,
+        message: Message,
+    ) -> bool {
         match place {
-            Some(place) => self.queues.put(place, message),
+            Some(place) => {
+                self.has_put = true;
+                hall.store().lock(rt).put(place, message)
+            }
             None => {
                 drop(message);
                 false
@@ -301,23 +375,22 @@ impl Server {
     }
 
     /// What comes back goes to its queue.
-    fn take_back(&mut self, key: usize) {
+    fn take_back<R: Wait>(&mut self, rt: &R, hall: &Hall, key: usize) {
         if let Some(visitor) = self.driver.handler_mut(key) {
-            put_back(&mut self.queues, visitor);
-            self.totals.went = self.totals.went.saturating_add(visitor.done);
-            visitor.done = 0;
+            self.has_put |= !visitor.back.is_empty();
+            hall.store().lock(rt).take_back(visitor);
         }
     }
 
     /// Grants the credit of a link on which we receive again, where half of it is used.
     fn renew(&mut self, key: usize, at: usize) {
         if let Some(link) = self.used_up(key, at) {
-            let _ = self.driver.perform(key, grant(link, self.credit));
+            let _ = self.driver.perform(key, grant(link, self.terms.credit));
         }
     }
 
     fn used_up(&mut self, key: usize, at: usize) -> Option<u32> {
-        let half = self.credit / 2;
+        let half = self.terms.credit / 2;
         let visitor = self.driver.handler_mut(key)?;
         let linked = visitor.links.get_mut(at)?;
         if linked.is_gone || linked.role == Role::Sender || linked.used <= half {
@@ -337,12 +410,12 @@ impl Server {
     }
 
     /// Sends what waits for a link, as its credit allows.
-    fn send_all(&mut self, key: usize, at: usize) {
+    fn send_all<R: Wait>(&mut self, rt: &R, hall: &Hall, key: usize, at: usize) {
         let Some((link, place)) = self.outlet(key, at) else {
             return;
         };
         for _ in 0..u64::MAX {
-            if !self.has_credit(key, link) || !self.send_next(key, link, place) {
+            if !self.has_credit(key, link) || !self.send_next(rt, hall, key, link, place) {
                 break;
             }
         }
@@ -359,9 +432,9 @@ impl Server {
     }
 
     /// Gives the credit up that is left, where the peer would have it used up and nothing waits (part 2, 2.6.7).
-    fn give_up_credit(&mut self, key: usize, at: usize) {
+    fn give_up_credit<R: Wait>(&mut self, rt: &R, hall: &Hall, key: usize, at: usize) {
         if let Some((link, place)) = self.outlet(key, at) {
-            if self.is_drained(key, link) && !self.queues.waits(place) {
+            if self.is_drained(key, link) && !hall.store().lock(rt).waits(place) {
                 let _ = self.driver.perform(key, Op::Drained { link });
             }
         }
@@ -378,8 +451,15 @@ impl Server {
     }
 
     /// Sends the first message of a queue: whether it went.
-    fn send_next(&mut self, key: usize, link: u32, place: usize) -> bool {
-        let Some(message) = self.queues.next(place) else {
+    fn send_next<R: Wait>(
+        &mut self,
+        rt: &R,
+        hall: &Hall,
+        key: usize,
+        link: u32,
+        place: usize,
+    ) -> bool {
+        let Some(message) = hall.store().lock(rt).next(place) else {
             return false;
         };
         match self.send(key, link, &message) {
@@ -393,7 +473,7 @@ impl Server {
                 },
             ),
             None => {
-                let _ = self.queues.put_back(place, message);
+                hall.store().lock(rt).put_back(place, message);
                 false
             }
         }
@@ -438,7 +518,7 @@ impl Server {
             .conn()
             .logged()
             .peer_max_frame() as usize;
-        Some(frame.min(MOST).saturating_sub(HEAD).max(1))
+        Some(frame.min(MOST as usize).saturating_sub(HEAD).max(1))
     }
 
     fn start(&mut self, key: usize, link: u32, message: &Message, part: usize) -> Option<u32> {
@@ -490,7 +570,7 @@ impl Server {
     }
 
     /// What is left of a connection that has ended: what it was sent and did not tell of goes back.
-    fn end_one(&mut self) -> bool {
+    fn end_one<R: Wait + Eprint>(&mut self, rt: &R, hall: &Hall) -> bool {
         match self.driver.take_ended() {
             Some(ended) => {
                 let Ended {
@@ -501,19 +581,53 @@ impl Server {
                 } = ended;
                 note_all_left(&mut conn, &mut handler);
                 drop(conn);
-                self.totals.ended = self.totals.ended.saturating_add(1);
-                if fault.is_some() {
-                    self.totals.faults = self.totals.faults.saturating_add(1);
-                }
-                self.totals.went = self.totals.went.saturating_add(handler.done);
+                tell_ended(rt, hall, &handler, fault);
                 handler.give_up();
-                put_back(&mut self.queues, &mut handler);
-                self.store_late(&mut handler);
+                self.has_put = true;
+                end_with(rt, hall, &mut handler, fault.is_some());
+                self.store_late(rt, hall, &mut handler);
                 drop(handler);
                 true
             }
             None => false,
         }
+    }
+}
+
+/// The thread at this place has this driver.
+fn begin<R: Wait>(
+    rt: &R,
+    hall: &Hall,
+    place: usize,
+    driver: &mut Driver<Visitor>,
+) -> io::Result<()> {
+    let terms = hall.terms();
+    if terms.trace.is_some() {
+        driver.record(terms.alloc);
+    }
+    hall.enter(rt, place, driver.waker()?);
+    match hall.take_listener(rt) {
+        Some(listener) => driver.listen(listener),
+        None => Ok(()),
+    }
+}
+
+/// The connection has ended: it is counted, and what it was sent and did not tell of is in its queue.
+fn end_with<R: Wait>(rt: &R, hall: &Hall, visitor: &mut Visitor, is_fault: bool) {
+    let mut store = hall.store().lock(rt);
+    store.end(is_fault);
+    store.take_back(visitor);
+}
+
+fn tell_ended<R: Wait + Eprint>(rt: &R, hall: &Hall, visitor: &Visitor, fault: Option<SlotFault>) {
+    if let Some(trace) = &visitor.trace {
+        let number = trace.number();
+        let voice = hall.voice().lock(rt);
+        let _ = match fault {
+            Some(fault) => eprintln!(rt; "{number} ended: {fault}"),
+            None => eprintln!(rt; "{number} ended"),
+        };
+        drop(voice);
     }
 }
 
@@ -524,17 +638,6 @@ fn note_all_left(conn: &mut Conn, visitor: &mut Visitor) {
             Ok(Some(left)) => visitor.note_left(left),
             _ => break,
         }
-    }
-}
-
-/// What comes back goes to its queue; for want of memory it is lost.
-fn put_back(queues: &mut Queues, visitor: &mut Visitor) {
-    for _ in 0..u64::MAX {
-        let Some(one) = visitor.back.pop_back() else {
-            break;
-        };
-        let Unlearnt { place, message, .. } = one;
-        let _ = queues.put_back(place, message);
     }
 }
 

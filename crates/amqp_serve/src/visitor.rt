@@ -4,8 +4,9 @@ ghost use Rattle.amqp_ready.specs.Lending.{kept};
 
 use crate::links::{Linked, answer_to, has_begun};
 use crate::queues::Message;
+use crate::traced::Trace;
 use amqp_conn::{DeliveryState, Given, Learned, Left, Op, Refusal, Role, Taken};
-use amqp_ready::{Handler, Lent, Next};
+use amqp_ready::{Handler, Lent, Next, Recorded};
 use std::alloc::Global;
 use std::collections::VecDeque;
 
@@ -62,6 +63,8 @@ pub struct Visitor {
     pub back: VecDeque<Unlearnt>,
     /// How many messages were sent and are done with.
     pub done: u64,
+    /// What is told of it; none: nothing.
+    pub trace: Option<Trace>,
 }
 
 /// What an entry gave, as far as it is looked at.
@@ -85,7 +88,7 @@ fn heard_of(given: &Given) -> Heard {
 }
 
 impl Visitor {
-    pub fn new(alloc: Global, credit: u32) -> Visitor {
+    pub fn new(alloc: Global, credit: u32, trace: Option<Trace>) -> Visitor {
         Visitor {
             alloc,
             credit,
@@ -95,6 +98,14 @@ impl Visitor {
             sent: VecDeque::new(alloc),
             back: VecDeque::new(alloc),
             done: 0,
+            trace,
+        }
+    }
+
+    /// Tells each frame in what was recorded of its stream.
+    pub fn tell<E: Eprint>(&mut self, rt: &E, recorded: &Recorded) {
+        if let Some(trace) = &mut self.trace {
+            trace.tell(rt, recorded);
         }
     }
 

@@ -4,6 +4,7 @@ use crate::octets::{DELIVERED, TOLD};
 use amqp_client::exchange::{
     Exchange, Received, Renewal, Sent, client_over, receive_all, send_all,
 };
+use amqp_client::journal::{read_line, whole_lines};
 use amqp_client::{Client, Labels, Outcomes, Printed, Unwatched};
 use amqp_conn::{Config, Text};
 use amqp_pair::connected;
@@ -31,8 +32,10 @@ const ONE: Exchange<'static> = Exchange {
     credit: 1,
     renewal: Renewal::AtZero,
     printed: Printed::Nothing,
-    is_traced: false,
+    trace: None,
     is_quiet: true,
+    journal: None,
+    retries: 0,
 };
 
 /// Three messages, two at a time.
@@ -211,5 +214,46 @@ fn a_message_of_a_link_that_is_gone_is_told(rt: HostRuntime) -> Result<(), Fail>
     assert!(rt; received_from(rt.alloc(), 23) == Some(received));
     received.unsettled = 1;
     assert!(rt; received_from(rt.alloc(), 99) == Some(received));
+    Ok(())
+}
+
+/// A line of each kind.
+const LINES: [&str; 7] = [
+    "sender 616d71705f70656572",
+    "receiver -",
+    "begun 4294967294",
+    "unknown 0",
+    "taken - 0",
+    "taken 00ff 18446744073709551615",
+    "settled 000102030405060708090a0b0c0d0e0f101112131415161718191a1b1c1d1e1f",
+];
+
+/// None of these is a line of a journal.
+const NO_LINES: [&str; 8] = [
+    "",
+    "begun",
+    "begun 4294967296",
+    "begun 1 2",
+    "lost 1",
+    "taken 0 1",
+    "taken 00",
+    "settled 000102030405060708090a0b0c0d0e0f101112131415161718191a1b1c1d1e1f20",
+];
+
+/// A journal's line is read as what was written, and one that was torn off is passed over.
+#[test]
+fn lines_of_a_journal_are_read_back(rt: HostRuntime) -> Result<(), Fail> {
+    for text in LINES {
+        let told = match read_line(text.as_bytes()) {
+            Some(line) => format!(in rt.alloc(); "{line}")?,
+            None => format!(in rt.alloc(); "none")?,
+        };
+        assert!(rt; told.as_str() == text);
+    }
+    for text in NO_LINES {
+        assert!(rt; read_line(text.as_bytes()).is_none());
+    }
+    assert!(rt; whole_lines(b"begun 0\nacc") == b"begun 0\n".as_slice());
+    assert!(rt; whole_lines(b"beg").is_empty());
     Ok(())
 }

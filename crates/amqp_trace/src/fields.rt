@@ -166,7 +166,10 @@ fn put_error(line: &mut Line, failed: &AmqpError, depth: u8) -> Result<(), Alloc
     if depth == 0 {
         return line.put("..");
     }
-    put_composite(line, Composite::Error, &error_fields(failed), depth - 1)
+    let from = line.len();
+    put_composite(line, Composite::Error, &error_fields(failed), depth - 1)?;
+    line.mark_error(from);
+    Ok(())
 }
 
 #[cycle(listing)]

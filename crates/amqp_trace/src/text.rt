@@ -3,6 +3,8 @@ ghost use Rattle.std.specs.Prelude.{◌≡◌, ◌++◌, ◌<◌, [], ◌∷◌,
 ghost use Rattle.std.specs.Fmt.{signed_decimal};
 ghost use Rattle.amqp_trace.specs.Printed.{are_printable, hex_digit, shown, escaped, Continues};
 
+use crate::frame::Direction;
+use crate::look::{NO_COLOR, RED, color_of};
 use itoa::Buffer;
 use std::alloc::{AllocError, Global};
 use std::fmt;
@@ -12,6 +14,17 @@ use std::marker::Model;
 #[derive(Debug, Drop)]
 pub struct Line {
     text: String,
+    /// Where an error stands in it.
+    error: Option<Span>,
+    /// It is written in the colour of what went this way; none: in no colour.
+    color: Option<Direction>,
+}
+
+/// From a character of a line to another one, which is not of it.
+#[derive(Clone, Copy, Debug)]
+struct Span {
+    from: usize,
+    to: usize,
 }
 
 impl Model for Line {
@@ -32,6 +45,8 @@ impl Line {
     {
         Line {
             text: String::new(alloc),
+            error: None,
+            color: None,
         }
     }
 
@@ -41,6 +56,51 @@ impl Line {
         ensures printable { are_printable result.now ≡ true }
     {
         self.text.as_str()
+    }
+
+    /// It is written in the colour of what went this way, and an error in it in another.
+    pub(crate) fn color(&mut self, direction: Direction)
+        ensures { self.new ≡ self.old }
+    {
+        self.color = Some(direction);
+    }
+
+    /// How many characters it has.
+    pub(crate) fn len(&self) -> usize {
+        self.text.len()
+    }
+
+    /// From this character on it is an error that stands there.
+    pub(crate) fn mark_error(&mut self, from: usize)
+        ensures { self.new ≡ self.old }
+    {
+        self.error = Some(Span {
+            from,
+            to: self.text.len(),
+        });
+    }
+
+    /// What stands in front of the error in it, the error, and what stands behind it.
+    fn parts(&self) -> Option<(&str, &str, &str)> {
+        let span = self.error?;
+        let (before, rest) = self.as_str().split_at_checked(span.to)?;
+        let (front, error) = before.split_at_checked(span.from)?;
+        Some((front, error, rest))
+    }
+
+    fn write_colored<W: fmt::Write>(&self, f: &mut fmt::Formatter<W>, color: &str) -> fmt::Result {
+        f.write_str(color)?;
+        match self.parts() {
+            Some((front, error, rest)) => {
+                f.write_str(front)?;
+                f.write_str(RED)?;
+                f.write_str(error)?;
+                f.write_str(color)?;
+                f.write_str(rest)?;
+            }
+            None => f.write_str(self.as_str())?,
+        }
+        f.write_str(NO_COLOR)
     }
 
     /// Puts printable text behind the others.
@@ -128,9 +188,12 @@ impl Line {
     }
 }
 
-/// The text of the line.
+/// The text of the line; in colour where its `Tracer` has that look.
 impl fmt::Display for Line {
     fn fmt<W: fmt::Write>(&self, f: &mut fmt::Formatter<W>) -> fmt::Result {
-        f.write_str(self.as_str())
+        match self.color {
+            Some(direction) => self.write_colored(f, color_of(direction)),
+            None => f.write_str(self.as_str()),
+        }
     }
 }

@@ -2,6 +2,7 @@
 ghost use Rattle.std.specs.Prelude.{◌≢◌, ◌<◌, ◌≤◌, [], IfOk, length};
 
 use crate::frame::{Direction, Protocol, frame_line, header_line};
+use crate::look::Look;
 use crate::text::Line;
 use amqp_frames::{FrameFault, Framer};
 use std::alloc::Global;
@@ -17,6 +18,7 @@ const HEADER_LEN: usize = 8;
 pub struct Tracer {
     alloc: Global,
     direction: Direction,
+    look: Look,
     framer: Framer,
     /// The first octets, as long as they may be of a header.
     front: Vec<u8>,
@@ -24,11 +26,12 @@ pub struct Tracer {
 }
 
 impl Tracer {
-    /// Octets that go this way, in frames of at most so many. It takes no memory.
-    pub fn new(alloc: Global, direction: Direction, max_frame: u32) -> Tracer {
+    /// Octets that go this way, in frames of at most so many, and how their lines look. It takes no memory.
+    pub fn new(alloc: Global, direction: Direction, look: Look, max_frame: u32) -> Tracer {
         Tracer {
             alloc,
             direction,
+            look,
             framer: Framer::new(alloc, max_frame),
             front: Vec::new(alloc),
             has_begun: false,
@@ -70,7 +73,7 @@ impl Tracer {
             Ok((used, Some(frame))) => {
                 let line = frame_line(self.alloc, self.direction, &frame);
                 drop(frame);
-                Ok((used, Some(line?)))
+                Ok((used, Some(self.dress(line?))))
             }
             Ok((used, None)) => Ok((used, None)),
             Err(fault) => Err(fault),
@@ -116,7 +119,16 @@ impl Tracer {
             minor: *minor,
             revision: *revision,
         };
-        Ok(Some(header_line(self.alloc, self.direction, protocol)?))
+        let line = header_line(self.alloc, self.direction, protocol)?;
+        Ok(Some(self.dress(line)))
+    }
+
+    /// The line, as it is to look.
+    fn dress(&self, mut line: Line) -> Line {
+        if self.look == Look::Colored {
+            line.color(self.direction);
+        }
+        line
     }
 }
 

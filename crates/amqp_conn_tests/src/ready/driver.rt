@@ -1,7 +1,10 @@
 //! Connections over sockets of the loopback, both ends on one thread.
 use crate::ready::peer::connection;
 use amqp_conn::{Conn, Given, Op, Phase, Refusal};
-use amqp_ready::{Admitted, Driver, Handler, Lent, Next, NotAdded, Round, SlotFault, Welcome};
+use amqp_ready::{
+    Admitted, Driver, Handler, Lent, Next, NotAdded, Recorded, Round, SlotFault, Stage, Way,
+    Welcome,
+};
 use mio::Waker;
 use mio::net::{TcpListener, TcpStream};
 use std::alloc::Global;
@@ -205,9 +208,92 @@ fn is_refused<R: Net>(rt: &R, alloc: Global, driver: &mut Driver<Closes>) -> io:
     Ok(is_near && driver.perform(key, Op::Beat) == Some(Err(Refusal::NotRunning)))
 }
 
+/// Octets, by how many there are and a number that their order makes.
+#[derive(Clone, Copy, PartialEq, Eq)]
+struct Sum {
+    count: usize,
+    number: u64,
+}
+
+impl Sum {
+    fn add(&mut self, octets: &[u8]) {
+        for octet in octets {
+            self.count = self.count.wrapping_add(1);
+            self.number = self.number.wrapping_mul(31).wrapping_add(u64::from(*octet));
+        }
+    }
+}
+
+/// What was recorded of a stream.
+#[derive(Clone, Copy)]
+struct Heard {
+    read: Sum,
+    written: Sum,
+}
+
+const NOTHING: Sum = Sum {
+    count: 0,
+    number: 0,
+};
+
+/// All that was recorded of the stream under the key; none where that was cut.
+fn heard_of(driver: &mut Driver<Closes>, key: usize) -> Option<Heard> {
+    let mut heard = Heard {
+        read: NOTHING,
+        written: NOTHING,
+    };
+    for _ in 0..1000 {
+        match driver.take_recorded(key) {
+            Some(Recorded::Octets(Way::In, octets)) => heard.read.add(octets.as_slice()),
+            Some(Recorded::Octets(Way::Out, octets)) => heard.written.add(octets.as_slice()),
+            Some(Recorded::Cut) => return None,
+            None => break,
+        }
+    }
+    Some(heard)
+}
+
+/// Turns until both slots have ended, which are not taken out.
+fn turn_to_both_ends(driver: &mut Driver<Closes>, near: usize, far: usize) -> io::Result<()> {
+    for _ in 0..1000 {
+        let over = Some(Stage::Over(None));
+        if driver.slots().stage(near) == over && driver.slots().stage(far) == over {
+            break;
+        }
+        let _: Round = driver.turn(Some(Duration::from_secs(9)))?;
+    }
+    Ok(())
+}
+
+/// Something went each way, and each end has read what the other one wrote.
+fn are_alike(one: Heard, other: Heard) -> bool {
+    let is_something = one.read != NOTHING && other.read != NOTHING;
+    is_something && one.read == other.written && other.read == one.written
+}
+
+/// Of both ends of a socket each has heard what the other one sent.
+fn is_recorded<R: Net>(rt: &R, alloc: Global, driver: &mut Driver<Closes>) -> io::Result<bool> {
+    let (near, far) = ends(rt)?;
+    driver.record(alloc);
+    let near_key = driver.slots().next_key();
+    let is_near = add(alloc, driver, near);
+    let far_key = driver.slots().next_key();
+    let is_far = add(alloc, driver, far);
+    turn_to_both_ends(driver, near_key, far_key)?;
+    let are_alike = match (heard_of(driver, near_key), heard_of(driver, far_key)) {
+        (Some(one), Some(other)) => are_alike(one, other),
+        _ => false,
+    };
+    let is_rest_empty = heard_of(driver, near_key).is_some_and(|it: Heard| -> bool {
+        it.written == NOTHING
+    });
+    Ok(is_near && is_far && are_alike && is_rest_empty)
+}
+
 #[derive(Clone, Copy)]
 enum Case {
     BothClose,
+    Recorded,
     OneGoes,
     OneIsLetIn,
     Woken,
@@ -220,6 +306,7 @@ fn holds<R: AllocGlobal + Net>(rt: &R, case: Case) -> io::Result<bool> {
     let mut driver = Driver::new(rt, alloc, 8)?;
     let answer = match case {
         Case::BothClose => both_close(rt, alloc, &mut driver),
+        Case::Recorded => is_recorded(rt, alloc, &mut driver),
         Case::OneGoes => one_goes(rt, alloc, &mut driver),
         Case::OneIsLetIn => one_is_let_in(rt, alloc, &mut driver),
         Case::Woken => is_woken(&mut driver),
@@ -232,6 +319,12 @@ fn holds<R: AllocGlobal + Net>(rt: &R, case: Case) -> io::Result<bool> {
 #[test]
 fn connections_end_over_sockets(rt: HostRuntime) -> Result<(), Fail> {
     assert!(rt; holds(&rt, Case::BothClose)?);
+    Ok(())
+}
+
+#[test]
+fn what_goes_over_streams_is_recorded(rt: HostRuntime) -> Result<(), Fail> {
+    assert!(rt; holds(&rt, Case::Recorded)?);
     Ok(())
 }
 

@@ -1,5 +1,5 @@
 use Rattle.std.proofs.Common.{length}
-use Rattle.amqp_client.proofs.traced.Trace.tell.Given as goal
+use Rattle.amqp_trace.proofs.teller.Teller.tell.Given as goal
 
 abbrev pub decreases-loop-rest : goal.decreases-loop-rest
 decreases-loop-rest g l = length l.rest

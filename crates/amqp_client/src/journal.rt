@@ -1,0 +1,351 @@
+//! The journal of an exchange that goes on over one connection after the other: a file of lines, each of which stands before what depends on it goes out.
+use crate::exchange::ExchangeFault;
+use crate::sending::Outcome;
+use amqp_conn::{Role, Tag};
+use std::alloc::Global;
+use std::fmt::{Display, Formatter};
+use std::fs::{OpenFile, OpenOptions};
+use std::io::{ErrorKind, Write};
+use std::rt::Files;
+use std::{fmt, fs, io};
+
+/// What a line of a journal says.
+#[derive(Clone, Copy, Debug, PartialEq, Eq)]
+pub enum Line<'a> {
+    /// `sender NAME` or `receiver NAME`: this end of the link with that name, which is in hexadecimal.
+    Link(Role, &'a [u8]),
+    /// `begun N`: the message with this number begins.
+    Begun(u32),
+    /// `accepted N`, `rejected N`, `released N`, `modified N` or `unknown N`: what became of it, as the receiver told.
+    Told(Outcome, u32),
+    /// `taken TAG N`: the message with this tag, of so many octets, was written out, and is accepted.
+    Taken(Tag, u64),
+    /// `settled TAG`: its sender knows that, and asks no more.
+    Settled(Tag),
+}
+
+impl<'a> Line<'a> {
+    /// Our role on the link, and the link's name in hexadecimal, where it tells these.
+    pub(crate) fn link(&self) -> Option<(Role, &'a [u8])> {
+        match self {
+            Line::Link(role, name) => Some((*role, *name)),
+            _ => None,
+        }
+    }
+
+    /// The number of a message that begins.
+    pub(crate) fn begun(&self) -> Option<u32> {
+        match self {
+            Line::Begun(number) => Some(*number),
+            _ => None,
+        }
+    }
+
+    /// What became of the message with which number.
+    pub(crate) fn told(&self) -> Option<(Outcome, u32)> {
+        match self {
+            Line::Told(outcome, number) => Some((*outcome, *number)),
+            _ => None,
+        }
+    }
+
+    /// The tag of a message that was taken, and how many octets it has.
+    pub(crate) fn taken(&self) -> Option<(Tag, u64)> {
+        match self {
+            Line::Taken(tag, octets) => Some((*tag, *octets)),
+            _ => None,
+        }
+    }
+
+    /// The tag of a message that its sender knows to be accepted.
+    pub(crate) fn settled(&self) -> Option<Tag> {
+        match self {
+            Line::Settled(tag) => Some(*tag),
+            _ => None,
+        }
+    }
+}
+
+impl Display for Line<'_> {
+    fn fmt<W: fmt::Write>(&self, f: &mut Formatter<W>) -> fmt::Result {
+        match self {
+            Line::Link(role, name) => {
+                f.write_str(name_of(*role))?;
+                f.write_str(" ")?;
+                write_octets(f, name)
+            }
+            Line::Begun(number) => write!(f, "begun {number}"),
+            Line::Told(outcome, number) => write!(f, "{} {number}", word_of(*outcome)),
+            Line::Taken(tag, octets) => {
+                f.write_str("taken ")?;
+                write_tag(f, tag)?;
+                write!(f, " {octets}")
+            }
+            Line::Settled(tag) => {
+                f.write_str("settled ")?;
+                write_tag(f, tag)
+            }
+        }
+    }
+}
+
+fn name_of(role: Role) -> &'static str {
+    match role {
+        Role::Sender => "sender",
+        Role::Receiver => "receiver",
+    }
+}
+
+fn word_of(outcome: Outcome) -> &'static str {
+    match outcome {
+        Outcome::Accepted => "accepted",
+        Outcome::Rejected => "rejected",
+        Outcome::Released => "released",
+        Outcome::Modified => "modified",
+        Outcome::Unknown => "unknown",
+    }
+}
+
+/// Digits as they stand: a name is kept in hexadecimal.
+fn write_octets<W: fmt::Write>(f: &mut Formatter<W>, digits: &[u8]) -> fmt::Result {
+    for digit in digits {
+        f.write_char(char::from(*digit))?;
+    }
+    Ok(())
+}
+
+/// The tag in hexadecimal, or `-` for the one without octets.
+fn write_tag<W: fmt::Write>(f: &mut Formatter<W>, tag: &Tag) -> fmt::Result {
+    if tag.octets().is_empty() {
+        f.write_str("-")
+    } else {
+        write!(f, "{tag:?}")
+    }
+}
+
+/// What the line says, without its end; none where it is no line of a journal.
+pub fn read_line(line: &[u8]) -> Option<Line<'_>> {
+    let mut words = line.split(|octet| *octet == b' ');
+    let kind = words.next()?;
+    let first = words.next()?;
+    let second = words.next();
+    if words.next().is_some() {
+        return None;
+    }
+    match second {
+        Some(octets) => read_taken(kind, first, octets),
+        None => read_pair(kind, first),
+    }
+}
+
+fn read_taken<'a>(kind: &[u8], tag: &[u8], octets: &[u8]) -> Option<Line<'a>> {
+    match kind {
+        b"taken" => Some(Line::Taken(tag_of(tag)?, count_of(octets)?)),
+        _ => None,
+    }
+}
+
+fn read_pair<'a>(kind: &[u8], word: &'a [u8]) -> Option<Line<'a>> {
+    match kind {
+        b"sender" => Some(Line::Link(Role::Sender, word)),
+        b"receiver" => Some(Line::Link(Role::Receiver, word)),
+        b"begun" => Some(Line::Begun(number_of(word)?)),
+        b"settled" => Some(Line::Settled(tag_of(word)?)),
+        _ => Some(Line::Told(outcome_of(kind)?, number_of(word)?)),
+    }
+}
+
+fn outcome_of(word: &[u8]) -> Option<Outcome> {
+    match word {
+        b"accepted" => Some(Outcome::Accepted),
+        b"rejected" => Some(Outcome::Rejected),
+        b"released" => Some(Outcome::Released),
+        b"modified" => Some(Outcome::Modified),
+        b"unknown" => Some(Outcome::Unknown),
+        _ => None,
+    }
+}
+
+fn count_of(word: &[u8]) -> Option<u64> {
+    if word.is_empty() {
+        return None;
+    }
+    let mut value: u64 = 0;
+    for octet in word {
+        let digit = char::from(*octet).to_digit(10)?;
+        value = value.checked_mul(10)?.checked_add(u64::from(digit))?;
+    }
+    Some(value)
+}
+
+fn number_of(word: &[u8]) -> Option<u32> {
+    match count_of(word) {
+        Some(value) => u32::try_from(value).ok(),
+        None => None,
+    }
+}
+
+fn tag_of(word: &[u8]) -> Option<Tag> {
+    if word == b"-".as_slice() {
+        return Tag::new(&[]);
+    }
+    let mut octets = [0u8; Tag::MAX_LEN];
+    let held = octets.get_mut(..word.len() / 2)?;
+    hex::decode_to_slice(word, held).ok()?;
+    Tag::new(held)
+}
+
+/// The front of a journal's text that has whole lines: what stands behind the last line's end was torn off where a program was killed as it wrote.
+pub fn whole_lines(text: &[u8]) -> &[u8] {
+    let torn = match text.rsplit(|octet| *octet == b'\n').next() {
+        Some(torn) => torn.len(),
+        None => 0,
+    };
+    match text.get(..text.len().saturating_sub(torn)) {
+        Some(whole) => whole,
+        None => &[],
+    }
+}
+
+/// A journal, to be gone on with.
+#[derive(Drop)]
+pub(crate) struct Journal<F> {
+    file: F,
+    /// The line that is written next.
+    line: Vec<u8>,
+    /// The name of its link in hexadecimal, once that is known.
+    link: Option<Vec<u8>>,
+    /// How many lines were noted since it was opened.
+    noted: u64,
+    /// So many of them are on the disk.
+    synced: u64,
+}
+
+/// The octets of the journal there; none where there is no such file yet.
+pub(crate) fn text_of<R: AllocGlobal + Files>(
+    rt: &R,
+    path: &str,
+) -> Result<Vec<u8>, ExchangeFault> {
+    match fs::read(rt, path) {
+        Ok(text) => Ok(text),
+        Err(error) if error.kind() == ErrorKind::NotFound => Ok(Vec::new(rt.alloc())),
+        Err(error) => Err(ExchangeFault::Journal(error)),
+    }
+}
+
+/// The journal at this path, of whose text so many octets stay.
+pub(crate) fn open_journal<R: AllocGlobal + Files>(
+    rt: &R,
+    path: &str,
+    whole: usize,
+) -> Result<Journal<R::File>, ExchangeFault> {
+    match open_file(rt, path, whole) {
+        Ok(file) => Ok(Journal {
+            file,
+            line: Vec::new(rt.alloc()),
+            link: None,
+            noted: 0,
+            synced: 0,
+        }),
+        Err(error) => Err(ExchangeFault::Journal(error)),
+    }
+}
+
+fn open_file<R: Files>(rt: &R, path: &str, whole: usize) -> io::Result<R::File> {
+    let file = OpenOptions::new().append(true).create(true).open(rt, path)?;
+    match file.set_len(whole as u64) {
+        Ok(()) => Ok(file),
+        Err(error) => {
+            drop(file);
+            Err(error)
+        }
+    }
+}
+
+/// The name in hexadecimal.
+fn digits_of(alloc: Global, name: &str) -> Result<Vec<u8>, ExchangeFault> {
+    match hex::encode(alloc, name) {
+        Ok(digits) => Ok(digits.into_bytes()),
+        Err(_) => Err(ExchangeFault::NoMemory),
+    }
+}
+
+fn put<W: Write>(out: &mut W, line: &Line<'_>) -> io::Result<()> {
+    writeln!(out, "{line}")
+}
+
+impl<F: Write + OpenFile + Drop> Journal<F> {
+    /// How many lines were noted since it was opened.
+    pub(crate) fn noted(&self) -> u64 {
+        self.noted
+    }
+
+    /// The journal tells the name of its link already.
+    pub(crate) fn set_link(&mut self, digits: Vec<u8>) {
+        self.link = Some(digits);
+    }
+
+    /// It goes on with the link of this name, for this role of ours.
+    ///
+    /// # Errors
+    ///
+    /// `OtherLink` where it was kept of a link of another name, and those of `note`.
+    pub(crate) fn join(
+        &mut self,
+        alloc: Global,
+        role: Role,
+        name: &str,
+    ) -> Result<(), ExchangeFault> {
+        let digits = digits_of(alloc, name)?;
+        match &self.link {
+            Some(link) if link.as_slice() == digits.as_slice() => Ok(()),
+            Some(_) => Err(ExchangeFault::OtherLink),
+            None => {
+                self.note(&Line::Link(role, digits.as_slice()))?;
+                self.link = Some(digits);
+                self.sync()
+            }
+        }
+    }
+
+    /// Writes the line, behind those that stand there.
+    ///
+    /// # Errors
+    ///
+    /// `Journal` where the write fails.
+    pub(crate) fn note(&mut self, line: &Line<'_>) -> Result<(), ExchangeFault> {
+        match self.write(line) {
+            Ok(()) => {
+                self.noted = self.noted.saturating_add(1);
+                Ok(())
+            }
+            Err(error) => Err(ExchangeFault::Journal(error)),
+        }
+    }
+
+    /// In one write, so that a line is torn by nothing but a kill in its middle.
+    fn write(&mut self, line: &Line<'_>) -> io::Result<()> {
+        self.line.clear();
+        put(&mut self.line, line)?;
+        self.file.write_all(self.line.as_slice())?;
+        self.file.flush()
+    }
+
+    /// What was noted is on the disk, and may be told.
+    ///
+    /// # Errors
+    ///
+    /// `Journal` where that fails.
+    pub(crate) fn sync(&mut self) -> Result<(), ExchangeFault> {
+        if self.synced == self.noted {
+            return Ok(());
+        }
+        match self.file.sync_data() {
+            Ok(()) => {
+                self.synced = self.noted;
+                Ok(())
+            }
+            Err(error) => Err(ExchangeFault::Journal(error)),
+        }
+    }
+}
