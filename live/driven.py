@@ -10,8 +10,8 @@ MESSAGE = "005375a00178"
 class Driven:
     """A connection, and what it put out and was not handed on yet."""
 
-    def __init__(self, program):
-        self.process = subprocess.Popen([program, "conn"], stdin=subprocess.PIPE, stdout=subprocess.PIPE, text=True)
+    def __init__(self, program, *more):
+        self.process = subprocess.Popen([program, "conn", *more], stdin=subprocess.PIPE, stdout=subprocess.PIPE, text=True)
         self.out = b""
         self.say("feed -")
 
@@ -38,8 +38,8 @@ class Driven:
 class Over(Driven):
     """Such a connection over a socket."""
 
-    def __init__(self, program, port):
-        super().__init__(program)
+    def __init__(self, program, port, *more):
+        super().__init__(program, *more)
         self.peer = socket.create_connection(("127.0.0.1", port))
         self.peer.settimeout(10)
         # What went over it, as a recorder has it.
@@ -201,3 +201,77 @@ def resumed(one, other, pieces):
     one.want("learn 1", "given=learned:1:accepted:1")
     one.want("close", "ok")
     carry(one, other, pieces)
+
+
+def many_parts(end):
+    """A message goes in 3001 transfers, of an octet each but the first, as the peer tells its window anew."""
+    end.do("begin")
+    attach(end, "sender", 0)
+    end.do("start 0 61 0 0 1 005375b000000bb8")
+    for _ in range(2999):
+        end.do("carry 0 1 78")
+    end.do("carry 0 0 78")
+    answer = end.do("learn 0")
+    if ":accepted:" not in answer:
+        raise ValueError(f"learn: {answer}")
+    leave(end)
+
+
+def is_used_up(end):
+    """Our window is."""
+    return " in=0 " in end.say("windows")
+
+
+def hear_part(end):
+    """A part of the next message is heard: as much as our window lets come."""
+    if is_used_up(end):
+        end.do("refresh 0")
+    while not is_used_up(end):
+        end.hear()
+
+
+def begin_part(end, link):
+    """A link on which we take has a part of a message."""
+    attach(end, "receiver", link)
+    end.do(f"grant {link} 10 0 0")
+    hear_part(end)
+
+
+def take_whole(end, link):
+    """The next message, for which our window is told anew as often as it is used up: its octets. It is accepted."""
+    answer = end.say(f"take {link}")
+    while answer.startswith("refused"):
+        if is_used_up(end):
+            end.do("refresh 0")
+        end.hear()
+        answer = end.say(f"take {link}")
+    number, octets = re.search(r"taken:(\d+):[^:]*:(\w+)", answer).groups()
+    end.do(f"dispose receiver {number} {number} 1 accepted")
+    return bytes.fromhex(octets)
+
+
+def in_parts(one, other, last):
+    """Three ends have windows of less than a message. One releases the first message in the middle of it, and has it whole; it detaches in the middle of the
+    second, attaches again, and ends its session in the middle. The other one has that whole, and goes in the middle of the third, which the last has. The
+    peer closes then. What was had, in order."""
+    for end in (one, other, last):
+        end.do("begin")
+    begin_part(one, 0)
+    one.do("dispose receiver 0 0 1 released")
+    had = [take_whole(one, 0)]
+    hear_part(one)
+    one.do("detach 0")
+    one.await_told("gone:0")
+    begin_part(one, 1)
+    one.do("end")
+    attach(other, "receiver", 0)
+    other.do("grant 0 10 0 0")
+    had.append(take_whole(other, 0))
+    hear_part(other)
+    other.close()
+    attach(last, "receiver", 0)
+    last.do("grant 0 10 0 0")
+    had.append(take_whole(last, 0))
+    for end in (one, last):
+        end.await_told("phase=closed")
+    return had

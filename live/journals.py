@@ -7,11 +7,25 @@ import tempfile
 import threading
 import time
 
+# What a frame of ours begins with, behind its channel: a flow, a disposition, a close.
+FLOW, DISPOSITION, CLOSE = (b"\x00\x00\x00S" + bytes([it]) for it in (0x13, 0x15, 0x18))
 COUNT = 2000
 # When an end is killed: how many lines `receive` had printed.
 KILLS = ((1, 300), (150, 151), (700, 1200), (1700, 1850))
 # After how many octets, of both ways, a connection is cut, one behind the other; the next one stays.
 CUTS = (0, 8, 100, 300, 700, 2000, 20000, 30000)
+
+
+def transfer(number, tag, is_settled):
+    """A message of one octet, in a frame."""
+    return bytes.fromhex(f"0000001702000000005314c0090543 52{number:02x} a001{tag:02x} 43 {'41' if is_settled else '42'} 78")
+
+
+def await_from(peer, wanted):
+    """Reads until this came, or to the end."""
+    heard = b""
+    while wanted not in heard and (octets := peer.recv(65536)):
+        heard += octets
 
 
 class Cutter:
@@ -208,3 +222,27 @@ def run_proton_again(program, port, proton, wait_for, limit):
             for it in (us, them):
                 if it:
                     it.kill()
+
+
+def run_tags(program, port, opening, limit):
+    """A sender uses a tag for two messages, and its connection is cut; over the next one two messages come settled, with one tag, and a close in the same piece."""
+    with tempfile.TemporaryDirectory() as folder, socket.create_server(("127.0.0.1", port)) as server:
+        words = [program, "receive", "--port", str(port), "--journal", os.path.join(folder, "journal"), "--count", "4", "--lines"]
+        us = subprocess.Popen(words, stdout=subprocess.PIPE, stderr=subprocess.PIPE, text=True)
+        last = transfer(0, 1, True) + transfer(1, 1, True) + bytes.fromhex("0000000c02000000005318 45")
+        talks = (((transfer(0, 0, False), DISPOSITION), (transfer(1, 0, False), DISPOSITION)), ((last, CLOSE),))
+        try:
+            server.settimeout(limit)
+            for talk in talks:
+                peer, _ = server.accept()
+                with peer:
+                    peer.settimeout(limit)
+                    for octets, wanted in ((opening, FLOW), *talk):
+                        peer.sendall(octets)
+                        await_from(peer, wanted)
+            said = us.communicate(timeout=limit)
+            return None if (us.returncode, said[0]) == (0, "x\n" * 4) else f"status {us.returncode}: {said}"
+        except (OSError, subprocess.TimeoutExpired) as fault:
+            return f"{type(fault).__name__}: {fault}"
+        finally:
+            us.kill()

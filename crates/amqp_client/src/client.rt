@@ -2,8 +2,7 @@
 use crate::fault::ClientFault;
 use crate::waits::Waits;
 use amqp_conn::{
-    Config, Conn, FromStd, Given, Hears, Left, Op, Phase, Pump, PumpEnd, PumpFault, Refusal, Role,
-    Sink, Source,
+    Config, Conn, FromStd, Given, Hears, Op, Phase, Pump, PumpEnd, PumpFault, Refusal, Sink, Source,
 };
 use std::alloc::{AllocError, Global};
 use std::io::{ErrorKind, Read, Write};
@@ -48,8 +47,11 @@ impl Hears for Partings {
     ghost heard = { λ p. None };
 
     fn hear(&mut self, given: Given) {
-        if let Given::Gone(_) = &given {
-            self.is_for_good = true;
+        if let Given::Gone(link) = &given {
+            // A peer may have attached links of its own beside ours.
+            if *link == LINK {
+                self.is_for_good = true;
+            }
         }
         drop(given);
     }
@@ -108,7 +110,7 @@ impl<R: Read, W: Write> Client<R, W> {
     }
 
     /// What was put out is written, and octets are read once, at most 4096, and fed. Where the read ended in vain the turn is over, too. A beat is put out where
-    /// one is due, and credit is given up where it is wanted back.
+    /// one is due, the window is renewed, and credit is given up where it is wanted back.
     ///
     /// # Errors
     ///
@@ -121,10 +123,23 @@ impl<R: Read, W: Write> Client<R, W> {
             Err(fault) => self.wait_on(fault)?,
         }
         self.beat_if_due();
+        self.renew_if_used();
         if self.has_sent {
             self.give_up();
         }
         Ok(())
+    }
+
+    /// Renews the window of transfers where half of it is used (part 2, 2.5.6), also while a message is on its way. What is refused is tried again at the next turn.
+    fn renew_if_used(&mut self) {
+        if self.conn.logged().endpoint().windows().incoming > self.window / 2 {
+            return;
+        }
+        match self.conn.apply(&Op::Refresh { echo: false }) {
+            Ok(given) => drop(given),
+            // There is no session.
+            Err(_) => {}
+        }
     }
 
     /// Nothing more is sent: where the peer drains, or will, the credit that is left is given up (part 2, 2.6.7).
@@ -229,25 +244,34 @@ impl<R: Read, W: Write> Client<R, W> {
         Err(ClientFault::Refused(Refusal::Nothing))
     }
 
-    /// The link is not there: either end has left it, the session or the connection.
+    /// The link is not there, or nothing goes over it any more: either end has left it, the session or the connection.
     pub fn is_gone(&self) -> bool {
+        self.conn.phase() == Phase::Closed || !self.has_link()
+    }
+
+    /// The link was not left. It stays where the connection alone has ended.
+    pub(crate) fn has_link(&self) -> bool {
         match self.conn.logged().endpoint().status(LINK) {
-            Some(_) => false,
-            None => true,
+            Some(_) => true,
+            None => false,
         }
     }
 
-    /// The link was detached for good: what is in doubt on it is over.
+    /// The link was detached for good once both ends had it: what is in doubt on it is over.
     pub(crate) fn is_gone_for_good(&self) -> bool {
-        self.partings.is_for_good && self.is_gone()
+        self.is_opened && self.partings.is_for_good
     }
 
-    /// What the link left, first for this role of ours, where it is gone (part 2, 2.6.6); else the fault.
-    pub(crate) fn left(&mut self, role: Role, fault: ClientFault) -> Result<Left, ClientFault> {
-        match self.conn.pop_left_by(role, LINK) {
-            Ok(Some(left)) => Ok(left),
-            Ok(None) => Err(fault),
-            Err(_) => Err(ClientFault::NoMemory),
+    /// The link was not left, or for good: nobody asks any more for what was in doubt on it.
+    ///
+    /// # Errors
+    ///
+    /// `Refused` where the peer has put it aside, or has ended the session.
+    pub(crate) fn unless_aside(&self) -> Result<(), ClientFault> {
+        if self.has_link() || self.partings.is_for_good {
+            Ok(())
+        } else {
+            Err(ClientFault::Refused(Refusal::NoLink))
         }
     }
 

@@ -11,10 +11,11 @@ use crate::sending::Outcomes;
 use amqp_conn::{AmqpError, Boxed, Conn, DeliveryState, Role, Taken, Text, error_of};
 use amqp_trace::Look;
 use std::alloc::{AllocError, Global};
+use std::fmt::{Display, Formatter};
 use std::io::{BufRead, Read, Write};
 use std::net::{Net, TcpStream};
 use std::rt::{Clock, Files};
-use std::{fs, io};
+use std::{fmt, fs, io};
 use thiserror::Error;
 
 /// So many messages are sent before it is learnt what became of them.
@@ -87,7 +88,8 @@ pub struct Received {
     pub count: u64,
     /// Of whole messages, with the heads of their sections.
     pub octets: u64,
-    /// Of these messages, those that the peer was not told to be accepted, since the link was gone: it may send them again.
+    /// Of these messages, those that the peer was not told to be accepted, since the link was gone: it may send them again. With a journal those of which it is
+    /// not known that the peer has heard so: it may ask for that again.
     pub unsettled: u64,
 }
 
@@ -303,15 +305,28 @@ fn last_error(conn: &Conn) -> Option<&AmqpError> {
 }
 
 fn tell_condition<W: Write>(out: &mut W, error: &AmqpError) -> io::Result<()> {
-    write_condition(out, error)?;
+    let condition = Shown(error.condition.as_str());
+    match &error.description {
+        Some(description) => writeln!(out, "told {condition} {}", Shown(description.as_str()))?,
+        None => writeln!(out, "told {condition}")?,
+    }
     out.flush()
 }
 
-fn write_condition<W: Write>(out: &mut W, error: &AmqpError) -> io::Result<()> {
-    let condition = error.condition.as_str();
-    match &error.description {
-        Some(description) => writeln!(out, "told {condition} {}", description.as_str()),
-        None => writeln!(out, "told {condition}"),
+/// A text of the peer's in a line of ours: what could end that, or steer a terminal, is escaped.
+#[derive(Clone, Copy)]
+struct Shown<'a>(&'a str);
+
+impl Display for Shown<'_> {
+    fn fmt<W: fmt::Write>(&self, f: &mut Formatter<W>) -> fmt::Result {
+        for it in self.0.chars() {
+            if it.is_control() || it == '\\' {
+                write!(f, "\\x{:02x}", u32::from(it))?;
+            } else {
+                f.write_char(it)?;
+            }
+        }
+        Ok(())
     }
 }
 
@@ -566,13 +581,12 @@ fn renew_drain<R: Read, W: Write>(
         return Ok(());
     }
     if taken != *given {
-        return client.renew_window();
+        return Ok(());
     }
     let wanted = u64::from(exchange.count).saturating_sub(taken);
     let credit = wanted.min(u64::from(exchange.credit)) as u32;
     *given = given.saturating_add(u64::from(credit));
-    client.drain(credit)?;
-    client.renew_window()
+    client.drain(credit)
 }
 
 /// Credit is given again as is asked for, and never for more messages than are still wanted.
@@ -585,17 +599,16 @@ fn renew<R: Read, W: Write>(
         return Ok(());
     }
     let credit = client.credit();
-    if credit >= wanted || credit > least_of(exchange) {
-        return client.renew_window();
+    if credit >= wanted || credit > least_of(exchange.renewal, exchange.credit) {
+        return Ok(());
     }
-    client.grant(exchange.credit.min(wanted))?;
-    client.renew_window()
+    client.grant(exchange.credit.min(wanted))
 }
 
-/// With how much credit left it is given again.
-fn least_of(exchange: &Exchange<'_>) -> u32 {
-    match exchange.renewal {
-        Renewal::AtHalf => exchange.credit / 2,
+/// With how much left of so much credit it is given again.
+pub(crate) fn least_of(renewal: Renewal, credit: u32) -> u32 {
+    match renewal {
+        Renewal::AtHalf => credit / 2,
         _ => 0,
     }
 }

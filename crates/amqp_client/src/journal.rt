@@ -18,9 +18,9 @@ pub enum Line<'a> {
     Begun(u32),
     /// `accepted N`, `rejected N`, `released N`, `modified N` or `unknown N`: what became of it, as the receiver told.
     Told(Outcome, u32),
-    /// `taken TAG N`: the message with this tag, of so many octets, was written out, and is accepted.
+    /// `taken TAG N`: the message with this tag, of so many octets, was written out, and is accepted. Of an earlier one with that tag its sender asks no more.
     Taken(Tag, u64),
-    /// `settled TAG`: its sender knows that, and asks no more.
+    /// `settled TAG`: its sender knows that, or has settled it, and asks no more.
     Settled(Tag),
 }
 
@@ -207,6 +207,22 @@ pub fn whole_lines(text: &[u8]) -> &[u8] {
     }
 }
 
+/// What was torn off may be a front of a journal's first line, so that nothing of another file is cut away.
+pub(crate) fn is_front(torn: &[u8]) -> bool {
+    for word in ["sender ", "receiver "] {
+        let begins = match torn.strip_prefix(word.as_bytes()) {
+            Some(name) => name
+                .iter()
+                .all(|octet| char::from(*octet).to_digit(16).is_some()),
+            None => word.as_bytes().starts_with(torn),
+        };
+        if begins {
+            return true;
+        }
+    }
+    false
+}
+
 /// A journal, to be gone on with.
 #[derive(Drop)]
 pub(crate) struct Journal<F> {
@@ -233,21 +249,25 @@ pub(crate) fn text_of<R: AllocGlobal + Files>(
     }
 }
 
-/// The journal at this path, of whose text so many octets stay.
+/// The journal at this path, of whose text so many octets stay, and which tells this name of its link, in hexadecimal.
 pub(crate) fn open_journal<R: AllocGlobal + Files>(
     rt: &R,
     path: &str,
     whole: usize,
+    link: Option<Vec<u8>>,
 ) -> Result<Journal<R::File>, ExchangeFault> {
     match open_file(rt, path, whole) {
         Ok(file) => Ok(Journal {
             file,
             line: Vec::new(rt.alloc()),
-            link: None,
+            link,
             noted: 0,
             synced: 0,
         }),
-        Err(error) => Err(ExchangeFault::Journal(error)),
+        Err(error) => {
+            drop(link);
+            Err(ExchangeFault::Journal(error))
+        }
     }
 }
 
@@ -278,11 +298,6 @@ impl<F: Write + OpenFile + Drop> Journal<F> {
     /// How many lines were noted since it was opened.
     pub(crate) fn noted(&self) -> u64 {
         self.noted
-    }
-
-    /// The journal tells the name of its link already.
-    pub(crate) fn set_link(&mut self, digits: Vec<u8>) {
-        self.link = Some(digits);
     }
 
     /// It goes on with the link of this name, for this role of ours.

@@ -23,13 +23,16 @@ fn offered_role(conn: &Conn) -> Option<Role> {
     }
 }
 
-/// An attach that answers the peer's: with its name, its source and its target (part 2, 2.6.3). None where it offers no link.
-fn answer_of(conn: &Conn) -> Result<Option<Op>, AllocError> {
+/// An attach that answers the peer's: with its name, its source and its target (part 2, 2.6.3), and deliveries of these tags. None where it offers no link.
+fn answer_of(alloc: Global, conn: &Conn, tags: &[Tag]) -> Result<Option<Op>, AllocError> {
     let Some(link) = conn.logged().endpoint().link_of(LINK) else {
         return Ok(None);
     };
     match link.theirs() {
-        Some(theirs) => Ok(Some(attach_of(link.name(), link.role(), termini_of(theirs)?)?)),
+        Some(theirs) => {
+            let termini = termini_of(theirs)?;
+            Ok(Some(attach_of(alloc, link.name(), link.role(), termini, tags)?))
+        }
         None => Ok(None),
     }
 }
@@ -37,17 +40,29 @@ fn answer_of(conn: &Conn) -> Result<Option<Op>, AllocError> {
 /// A source and a target.
 type Termini = (Option<Boxed<Value>>, Option<Boxed<Value>>);
 
-/// An attach of a link of this name, with these ends.
-fn attach_of(name: &Text, role: Role, termini: Termini) -> Result<Op, AllocError> {
+/// An attach of a link of this name, with these ends, which brings in deliveries of these tags; without any it has no `unsettled`.
+fn attach_of(
+    alloc: Global,
+    name: &Text,
+    role: Role,
+    termini: Termini,
+    tags: &[Tag],
+) -> Result<Op, AllocError> {
+    let name = name.clone()?;
+    let items = brought(alloc, role, tags)?;
     let (source, target) = termini;
-    match name.clone() {
-        Ok(name) => Ok(ops::attach(name, role, source, target)),
-        Err(error) => {
-            drop(source);
-            drop(target);
-            Err(error)
-        }
-    }
+    let rejoin = Rejoin {
+        name,
+        role,
+        snd: ops::SENDER_MIXED,
+        rcv: ops::RECEIVER_FIRST,
+        source,
+        target,
+        count: 0,
+        max_message: 0,
+        items,
+    };
+    Ok(Op::Rejoin(Boxed::new(alloc, rejoin)?))
 }
 
 /// Copies of source and target.
@@ -77,50 +92,6 @@ fn brought(alloc: Global, role: Role, tags: &[Tag]) -> Result<Brought, AllocErro
     Brought::new(alloc, items)
 }
 
-/// The attach, which brings these deliveries in.
-fn rejoining(alloc: Global, attach: Op, items: Brought) -> Result<Op, AllocError> {
-    match attach {
-        Op::Attach {
-            name,
-            role,
-            snd,
-            rcv,
-            source,
-            target,
-            count,
-            max_message,
-        } => {
-            let rejoin = Rejoin {
-                name,
-                role,
-                snd,
-                rcv,
-                source,
-                target,
-                count,
-                max_message,
-                items,
-            };
-            Ok(Op::Rejoin(Boxed::new(alloc, rejoin)?))
-        }
-        op => {
-            drop(items);
-            Ok(op)
-        }
-    }
-}
-
-/// The attach, which brings in deliveries of these tags.
-fn rejoin_of(alloc: Global, attach: Op, role: Role, tags: &[Tag]) -> Result<Op, ClientFault> {
-    match brought(alloc, role, tags) {
-        Ok(items) => had(rejoining(alloc, attach, items)),
-        Err(_) => {
-            drop(attach);
-            Err(ClientFault::NoMemory)
-        }
-    }
-}
-
 impl<R: Read, W: Write> Client<R, W> {
     /// Begins the session, and attaches a link of this name, for this role of ours, with this address at the peer.
     ///
@@ -128,26 +99,22 @@ impl<R: Read, W: Write> Client<R, W> {
     ///
     /// Those of `apply`, and `NoMemory`.
     pub fn open(&mut self, name: &Text, role: Role, address: &Text) -> Result<(), ClientFault> {
-        let attach = had(self.attach(name, role, address))?;
-        self.begin_and(attach)
+        self.open_again(name, role, address, &[])
     }
 
-    fn attach(&self, name: &Text, role: Role, address: &Text) -> Result<Op, AllocError> {
+    fn attach(
+        &self,
+        name: &Text,
+        role: Role,
+        address: &Text,
+        tags: &[Tag],
+    ) -> Result<Op, AllocError> {
         let (source, target) = match role {
             Role::Sender => (name, address),
             Role::Receiver => (address, name),
         };
-        attach_of(name, role, termini_at(self.alloc, source, target)?)
-    }
-
-    fn begin_and(&mut self, attach: Op) -> Result<(), ClientFault> {
-        match self.perform(Op::Begin) {
-            Ok(()) => self.perform_attach(attach),
-            Err(fault) => {
-                drop(attach);
-                Err(fault)
-            }
-        }
+        let termini = termini_at(self.alloc, source, target)?;
+        attach_of(self.alloc, name, role, termini, tags)
     }
 
     fn perform_attach(&mut self, attach: Op) -> Result<(), ClientFault> {
@@ -163,10 +130,7 @@ impl<R: Read, W: Write> Client<R, W> {
     /// `Refused` by `WrongRole` where the peer has the same role, those of `apply`, and `NoMemory`.
     pub fn answer(&mut self, role: Role) -> Result<(), ClientFault> {
         self.await_link(role)?;
-        match had(answer_of(&self.conn))? {
-            Some(attach) => self.perform_attach(attach),
-            None => Err(ClientFault::Refused(Refusal::NoLink)),
-        }
+        self.answer_again(&[])
     }
 
     /// As `open`, with a link that brings in deliveries of these tags (part 2, 2.6.13).
@@ -177,18 +141,15 @@ impl<R: Read, W: Write> Client<R, W> {
         address: &Text,
         tags: &[Tag],
     ) -> Result<(), ClientFault> {
-        let attach = had(self.attach(name, role, address))?;
-        let rejoin = rejoin_of(self.alloc, attach, role, tags)?;
-        self.begin_and(rejoin)
+        self.perform(Op::Begin)?;
+        let attach = had(self.attach(name, role, address, tags))?;
+        self.perform_attach(attach)
     }
 
     /// Answers the link that the peer offers, which brings in deliveries of these tags.
-    pub(crate) fn answer_again(&mut self, role: Role, tags: &[Tag]) -> Result<(), ClientFault> {
-        match had(answer_of(&self.conn))? {
-            Some(attach) => {
-                let rejoin = rejoin_of(self.alloc, attach, role, tags)?;
-                self.perform_attach(rejoin)
-            }
+    pub(crate) fn answer_again(&mut self, tags: &[Tag]) -> Result<(), ClientFault> {
+        match had(answer_of(self.alloc, &self.conn, tags))? {
+            Some(attach) => self.perform_attach(attach),
             None => Err(ClientFault::Refused(Refusal::NoLink)),
         }
     }

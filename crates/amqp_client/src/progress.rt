@@ -1,14 +1,15 @@
 //! How far an exchange is.
+use crate::again::PAUSE;
 use std::rt::Clock;
 use std::time::Instant;
 
-/// How long it is until more is told, in milliseconds.
-const PAUSE: u64 = 500;
-
 /// Is told how far an exchange is.
 pub trait Watch {
-    /// So many messages were sent, or taken, until now.
+    /// So many messages were sent, or taken, until now, those of earlier runs among them.
     fn note(&mut self, count: u64);
+
+    /// Something else is told next, or nothing more.
+    fn end(&mut self);
 }
 
 /// Nobody looks.
@@ -17,6 +18,8 @@ pub struct Unwatched;
 
 impl Watch for Unwatched {
     fn note(&mut self, _count: u64) {}
+
+    fn end(&mut self) {}
 }
 
 /// How far it is as a line on standard error, which is written over again. One that cannot be written is left out.
@@ -27,8 +30,12 @@ pub(crate) struct Progress<'a, E> {
     begun: Option<Instant>,
     /// How many messages there are to be; none: that is not known.
     wanted: Option<u32>,
+    /// How many there were when this run was told of the first one; none: it was not yet. It is no part of what a second brings.
+    first: Option<u64>,
     /// When a line was written last, in milliseconds from then on; 0: none was.
     told: u64,
+    /// A line was written, and has no end yet.
+    is_open: bool,
 }
 
 impl<'a, E: Eprint + Clock> Progress<'a, E> {
@@ -38,7 +45,9 @@ impl<'a, E: Eprint + Clock> Progress<'a, E> {
             rt,
             begun,
             wanted,
+            first: None,
             told: 0,
+            is_open: false,
         }
     }
 
@@ -53,8 +62,8 @@ impl<'a, E: Eprint + Clock> Progress<'a, E> {
         )
     }
 
-    fn tell(&self, count: u64, passed: u64) {
-        let rate = count.saturating_mul(1000) / passed.max(1);
+    fn tell(&self, count: u64, first: u64, passed: u64) {
+        let rate = count.saturating_sub(first).saturating_mul(1000) / passed.max(1);
         match self.wanted {
             Some(wanted) => {
                 let left = u64::from(wanted).saturating_sub(count);
@@ -65,22 +74,25 @@ impl<'a, E: Eprint + Clock> Progress<'a, E> {
             }
         }
     }
-
-    /// Nothing more is told: where a line was written it ends.
-    pub(crate) fn end(&self) {
-        if self.told != 0 {
-            let _ = eprintln!(self.rt;);
-        }
-    }
 }
 
 impl<E: Eprint + Clock> Watch for Progress<'_, E> {
     fn note(&mut self, count: u64) {
+        let first = self.first.unwrap_or(count);
+        self.first = Some(first);
         if let Some(passed) = self.passed() {
             if passed >= self.told.saturating_add(PAUSE) {
-                self.tell(count, passed);
+                self.tell(count, first, passed);
                 self.told = passed;
+                self.is_open = true;
             }
+        }
+    }
+
+    fn end(&mut self) {
+        if self.is_open {
+            self.is_open = false;
+            let _ = eprintln!(self.rt;);
         }
     }
 }

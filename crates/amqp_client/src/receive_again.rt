@@ -1,13 +1,13 @@
 //! The command `receive` with a journal: each message is written out once, over as many connections as it takes, in as many runs.
-use crate::again::{Recalls, Tries, has_failed, join, most_in_doubt, recall_all, unless_forced};
+use crate::again::{Recalls, Tries, join, most_in_doubt, recall_journal, turn};
 use crate::client::Client;
-use crate::exchange::{Exchange, ExchangeFault, Received, Renewal, tell_error};
+use crate::exchange::{Exchange, ExchangeFault, Received, least_of};
 use crate::fault::ClientFault;
-use crate::journal::{Journal, Line, open_journal, text_of, whole_lines};
+use crate::journal::{Journal, Line};
 use crate::meeting::meet;
 use crate::printing::{Printed, write_taken};
 use crate::progress::Watch;
-use amqp_conn::{Boxed, DeliveryState, Refusal, Role, Tag, Taken};
+use amqp_conn::{Boxed, DeliveryState, Role, Tag, Taken};
 use std::alloc::Global;
 use std::collections::VecDeque;
 use std::fs::OpenFile;
@@ -18,16 +18,20 @@ use std::rt::{Clock, Files};
 /// What is known of the messages of this exchange.
 #[derive(Drop)]
 struct Known {
-    link: Option<Vec<u8>>,
     /// Messages that were written out.
     count: u64,
     /// Their octets.
     octets: u64,
     /// The tags of those that were accepted over an earlier connection: whether their sender knows that is not known.
     brought: VecDeque<Tag>,
-    /// The tags of those that were accepted over this connection: it is not known yet whether their sender has heard that.
+    /// The tags of those that were accepted over this connection: it is not known yet whether their sender has heard that. No tag stands in both, nor twice.
     told: VecDeque<Tag>,
+    mark: Option<Mark>,
     alloc: Global,
+}
+
+fn place_of(tags: &VecDeque<Tag>, tag: &Tag) -> Option<usize> {
+    tags.iter().position(|it| *it == *tag)
 }
 
 fn push(tags: &mut VecDeque<Tag>, tag: Tag) -> Result<(), ExchangeFault> {
@@ -40,24 +44,18 @@ fn push(tags: &mut VecDeque<Tag>, tag: Tag) -> Result<(), ExchangeFault> {
 impl Known {
     fn none(alloc: Global) -> Known {
         Known {
-            link: None,
             count: 0,
             octets: 0,
             brought: VecDeque::new(alloc),
             told: VecDeque::new(alloc),
+            mark: None,
             alloc,
         }
     }
 
-    fn take_link(&mut self, role: Role, digits: &[u8]) -> Result<bool, ExchangeFault> {
-        if role != Role::Receiver || self.link.is_some() {
-            return Ok(false);
-        }
-        self.link = Some(Vec::from_slice(self.alloc, digits)?);
-        Ok(true)
-    }
-
+    /// A sender that uses a tag again has settled what had it before (part 2, 2.6.12).
     fn take(&mut self, tag: Tag, octets: u64) -> Result<(), ExchangeFault> {
+        self.settle(&tag);
         push(&mut self.told, tag)?;
         self.count = self.count.saturating_add(1);
         self.octets = self.octets.saturating_add(octets);
@@ -66,20 +64,24 @@ impl Known {
 
     /// False where no message with this tag is in doubt.
     fn settle(&mut self, tag: &Tag) -> bool {
-        match self.told.iter().position(|told| *told == *tag) {
-            Some(place) => self.told.remove(place).is_some(),
-            None => false,
+        if let Some(place) = place_of(&self.brought, tag) {
+            return self.brought.remove(place).is_some();
         }
+        let Some(place) = place_of(&self.told, tag) else {
+            return false;
+        };
+        if let Some(mark) = &mut self.mark {
+            if place < mark.count {
+                mark.count = mark.count.saturating_sub(1);
+            }
+        }
+        self.told.remove(place).is_some()
     }
 
     /// Another connection begins: the tags of what it brings in.
     fn bring(&mut self) -> Result<Vec<Tag>, ExchangeFault> {
-        for _ in 0..u64::MAX {
-            match self.told.pop_front() {
-                Some(tag) => push(&mut self.brought, tag)?,
-                None => break,
-            }
-        }
+        self.mark = None;
+        self.brought.append(&mut self.told)?;
         let mut tags = Vec::new(self.alloc);
         for tag in self.brought.iter() {
             if tags.push(*tag).is_err() {
@@ -105,9 +107,6 @@ impl Known {
 
 impl Recalls for Known {
     fn recall(&mut self, line: &Line<'_>) -> Result<bool, ExchangeFault> {
-        if let Some((role, digits)) = line.link() {
-            return self.take_link(role, digits);
-        }
         if let Some((tag, octets)) = line.taken() {
             self.take(tag, octets)?;
             return Ok(true);
@@ -133,7 +132,6 @@ struct Mark {
 struct Receives<F> {
     journal: Journal<F>,
     known: Known,
-    mark: Option<Mark>,
 }
 
 /// As `run_receive`, with the journal at this path: what came of it, in all runs.
@@ -175,18 +173,14 @@ fn receives_of<R: AllocGlobal + Files>(
     rt: &R,
     path: &str,
 ) -> Result<Receives<R::File>, ExchangeFault> {
-    let text = text_of(rt, path)?;
     let mut known = Known::none(rt.alloc());
-    recall_all(text.as_slice(), &mut known)?;
-    let mut journal = open_journal(rt, path, whole_lines(text.as_slice()).len())?;
-    if let Some(digits) = known.link.take() {
-        journal.set_link(digits);
+    match recall_journal(rt, path, Role::Receiver, &mut known) {
+        Ok(journal) => Ok(Receives { journal, known }),
+        Err(fault) => {
+            drop(known);
+            Err(fault)
+        }
     }
-    Ok(Receives {
-        journal,
-        known,
-        mark: None,
-    })
 }
 
 fn receive_on<R, F: Write + OpenFile + Drop, W: Write, P: Watch>(
@@ -204,15 +198,9 @@ where
         if receives.is_done(exchange) {
             break;
         }
-        // Nobody may come who asks for what is done.
-        let pauses = if receives.has_all(exchange) {
-            Some(exchange.retries)
-        } else {
-            tries.pauses()
-        };
-        match receive_over(rt, exchange, receives, out, watch, pauses) {
+        match receive_over(rt, exchange, receives, out, watch, &mut tries) {
             Ok(()) => break,
-            Err(fault) => tries.again(rt, exchange, fault, receives.journal.noted())?,
+            Err(fault) => tries.again(rt, exchange, fault, watch)?,
         }
     }
     Ok(())
@@ -225,17 +213,21 @@ fn receive_over<R, F: Write + OpenFile + Drop, W: Write, P: Watch>(
     receives: &mut Receives<F>,
     out: &mut W,
     watch: &mut P,
-    pauses: Option<u32>,
+    tries: &mut Tries,
 ) -> Result<(), ExchangeFault>
 where
     R: AllocGlobal + Net<Stream = TcpStream> + Eprint + Clock + Files,
 {
+    // Nobody may come who asks for what is done.
+    let pauses = if receives.has_all(exchange) {
+        Some(exchange.retries)
+    } else {
+        tries.pauses()
+    };
     let mut client = meet(rt, rt.alloc(), exchange, pauses)?;
     let ended = receives.go_on(rt.alloc(), &mut client, exchange, out, watch);
-    let ended = unless_forced(ended, &client);
-    let told = tell_error(out, &client, has_failed(&ended));
+    let ended = tries.end(&client, ended, receives.journal.noted(), out);
     drop(client);
-    told.map_err(ExchangeFault::Out)?;
     ended
 }
 
@@ -260,6 +252,14 @@ impl<F: Write + OpenFile + Drop> Receives<F> {
         watch: &mut P,
     ) -> Result<(), ExchangeFault> {
         let ended = self.exchange(alloc, client, exchange, out, watch);
+        // Nothing is noted behind a line that may be torn.
+        if matches!(&ended, Err(ExchangeFault::Journal(_))) {
+            return ended;
+        }
+        // What came settled is had, also where a fault ended the connection in the same piece.
+        if matches!(&ended, Err(ExchangeFault::Client(_))) && client.is_gone() {
+            self.take_all(alloc, client, exchange, out, watch)?;
+        }
         // Neither end keeps anything of a link that was detached for good, also where what came behind that is lost.
         if client.is_gone_for_good() {
             self.settle_all()?;
@@ -283,7 +283,6 @@ impl<F: Write + OpenFile + Drop> Receives<F> {
         watch: &mut P,
     ) -> Result<(), ExchangeFault> {
         let tags = self.known.bring()?;
-        self.mark = None;
         let role = Role::Receiver;
         join(alloc, client, exchange, role, &mut self.journal, &tags)?;
         for _ in 0..u64::MAX {
@@ -293,31 +292,25 @@ impl<F: Write + OpenFile + Drop> Receives<F> {
                 break;
             }
             self.renew(client, exchange)?;
-            self.turn(client)?;
+            turn(client, &mut self.journal)?;
         }
         self.finish(client)
     }
 
-    /// The sender answers our detach behind all that it was told. Where it closes before, as agreed, it wants to know no more.
+    /// The sender answers our detach behind all that it was told. Where it closes before, as agreed, it wants to know no more; where it leaves the link otherwise
+    /// it may ask again.
     fn finish<R: Read, W: Write>(
         &mut self,
         client: &mut Client<R, W>,
     ) -> Result<(), ExchangeFault> {
         self.journal.sync()?;
+        client.unless_aside()?;
         client.finish()?;
         if client.conn().ended_by().is_some() {
             return Err(ExchangeFault::Client(ClientFault::Ended));
         }
+        client.unless_aside()?;
         self.settle_all()
-    }
-
-    /// What was noted is kept before anything goes out.
-    fn turn<R: Read, W: Write>(&mut self, client: &mut Client<R, W>) -> Result<(), ExchangeFault> {
-        self.journal.sync()?;
-        if client.is_gone() {
-            return Err(ExchangeFault::Client(ClientFault::Refused(Refusal::NoLink)));
-        }
-        Ok(client.turn()?)
     }
 
     /// Takes what is there, as far as it is asked for.
@@ -403,22 +396,24 @@ impl<F: Write + OpenFile + Drop> Receives<F> {
         self.confirm()?;
         self.journal.note(&Line::Taken(tag, octets))?;
         self.known.take(tag, octets)?;
-        if !is_settled {
-            // Where the link is gone the message stays in doubt.
-            client.settle_as(id, DeliveryState::Accepted)?;
+        if is_settled {
+            self.known.settle(&tag);
+            return self.journal.note(&Line::Settled(tag));
         }
+        // Where the link is gone the message stays in doubt.
+        client.settle_as(id, DeliveryState::Accepted)?;
         Ok(())
     }
 
     /// A message came: where it came by newer credit, what was told before that is known to the sender.
     fn confirm(&mut self) -> Result<(), ExchangeFault> {
-        match self.mark {
+        match self.known.mark {
             Some(mark) if mark.left == 0 => {
-                self.mark = None;
+                self.known.mark = None;
                 self.settle_told(mark.count)
             }
             Some(mark) => {
-                self.mark = Some(Mark {
+                self.known.mark = Some(Mark {
                     left: mark.left.saturating_sub(1),
                     ..mark
                 });
@@ -451,18 +446,18 @@ impl<F: Write + OpenFile + Drop> Receives<F> {
         self.settle_told(count)
     }
 
-    /// Looks, in their order, for what was brought in and waits no longer: the sender has not told of it, or has resumed it, settled or not.
+    /// Looks, once round, for what was brought in and waits no longer: the sender has not told of it, or has resumed it, settled or not.
     fn look_brought<R: Read, W: Write>(
         &mut self,
         client: &mut Client<R, W>,
     ) -> Result<(), ExchangeFault> {
-        for _ in 0..u64::MAX {
-            match self.known.brought.front() {
-                Some(tag) if !client.is_gone() && !client.waits(tag) => {}
-                _ => break,
-            }
-            if let Some(tag) = self.known.brought.pop_front() {
-                self.settle_brought(client, tag)?;
+        for _ in 0..self.known.brought.len() {
+            match self.known.brought.pop_front() {
+                Some(tag) if client.is_gone() || client.waits(&tag) => {
+                    push(&mut self.known.brought, tag)?
+                }
+                Some(tag) => self.settle_brought(client, tag)?,
+                None => break,
             }
         }
         Ok(())
@@ -501,28 +496,20 @@ impl<F: Write + OpenFile + Drop> Receives<F> {
             .saturating_add(u64::from(waiting));
         let credit = room.min(u64::from(exchange.credit)) as u32;
         let left = client.credit();
-        if left < credit && left <= least_of(exchange) {
+        if left < credit && left <= least_of(exchange.renewal, credit) {
             client.grant(credit)?;
             self.set_mark(left);
         }
-        Ok(client.renew_window()?)
+        Ok(())
     }
 
     /// Credit was given while so much was left. A message that has begun may come beside what that stands for.
     fn set_mark(&mut self, left: u32) {
-        if self.mark.is_none() {
-            self.mark = Some(Mark {
+        if self.known.mark.is_none() {
+            self.known.mark = Some(Mark {
                 count: self.known.told.len(),
                 left: left.saturating_add(1),
             });
         }
-    }
-}
-
-/// With how much credit left it is given again.
-fn least_of(exchange: &Exchange<'_>) -> u32 {
-    match exchange.renewal {
-        Renewal::AtHalf => exchange.credit / 2,
-        _ => 0,
     }
 }

@@ -131,7 +131,7 @@ impl<R: Read, W: Write> Client<R, W> {
         u32::MAX
     }
 
-    /// What the link left, which is gone.
+    /// What the link left, which is gone (part 2, 2.6.6); none where it left nothing more.
     pub(crate) fn take_last(&mut self) -> Result<Option<Boxed<Taken>>, ClientFault> {
         match self.conn.pop_left_by(Role::Receiver, LINK) {
             Ok(Some(left)) => Ok(left_of(left)),
@@ -155,14 +155,10 @@ impl<R: Read, W: Write> Client<R, W> {
         drop(op);
         match answer {
             Ok(given) => Ok(taken_of(given)),
-            Err(fault) => self.take_left(fault),
-        }
-    }
-
-    fn take_left(&mut self, fault: ClientFault) -> Result<Option<Boxed<Taken>>, ClientFault> {
-        match self.left(Role::Receiver, fault) {
-            Ok(left) => Ok(left_of(left)),
-            Err(fault) => Err(fault),
+            Err(fault) => match self.take_last()? {
+                Some(taken) => Ok(Some(taken)),
+                None => Err(fault),
+            },
         }
     }
 
@@ -189,17 +185,5 @@ impl<R: Read, W: Write> Client<R, W> {
             Err(fault) => Err(fault),
             Ok(()) => Ok(true),
         }
-    }
-
-    /// Renews the window of transfers where half of it is used (part 2, 2.5.6).
-    ///
-    /// # Errors
-    ///
-    /// Those of `apply`.
-    pub fn renew_window(&mut self) -> Result<(), ClientFault> {
-        if self.conn.logged().endpoint().windows().incoming > self.window / 2 {
-            return Ok(());
-        }
-        self.perform(Op::Refresh { echo: false })
     }
 }

@@ -1,14 +1,13 @@
 //! The command `send` with a journal: each message goes once, over as many connections as it takes, in as many runs.
-use crate::again::{Recalls, Tries, has_failed, join, most_in_doubt, recall_all, unless_forced};
+use crate::again::{Recalls, Tries, join, most_in_doubt, recall_journal, turn};
 use crate::bodies::Bodies;
 use crate::client::Client;
-use crate::exchange::{Exchange, ExchangeFault, Sent, tell_error};
-use crate::fault::ClientFault;
-use crate::journal::{Journal, Line, open_journal, text_of, whole_lines};
+use crate::exchange::{Exchange, ExchangeFault, Sent};
+use crate::journal::{Journal, Line};
 use crate::meeting::meet;
 use crate::progress::Watch;
 use crate::sending::{Outcome, Outcomes, number_of};
-use amqp_conn::{Bytes, Refusal, Role, Tag, Verdict};
+use amqp_conn::{Bytes, Role, Tag, Verdict};
 use std::alloc::Global;
 use std::collections::VecDeque;
 use std::fs::OpenFile;
@@ -27,7 +26,6 @@ struct Doubt {
 /// What is known of the messages of this exchange.
 #[derive(Drop)]
 struct Known {
-    link: Option<Vec<u8>>,
     /// Messages with lower numbers have begun.
     next: u32,
     doubts: VecDeque<Doubt>,
@@ -38,7 +36,6 @@ struct Known {
 impl Known {
     fn none(alloc: Global) -> Known {
         Known {
-            link: None,
             next: 0,
             doubts: VecDeque::new(alloc),
             outcomes: Outcomes::NONE,
@@ -77,14 +74,6 @@ impl Known {
         }
     }
 
-    fn take_link(&mut self, role: Role, digits: &[u8]) -> Result<bool, ExchangeFault> {
-        if role != Role::Sender || self.link.is_some() {
-            return Ok(false);
-        }
-        self.link = Some(Vec::from_slice(self.alloc, digits)?);
-        Ok(true)
-    }
-
     /// The tags of what is in doubt.
     fn tags(&self) -> Result<Vec<Tag>, ExchangeFault> {
         let mut tags = Vec::new(self.alloc);
@@ -119,9 +108,6 @@ fn shared(message: &Option<Bytes>) -> Result<Option<Bytes>, ExchangeFault> {
 
 impl Recalls for Known {
     fn recall(&mut self, line: &Line<'_>) -> Result<bool, ExchangeFault> {
-        if let Some((role, digits)) = line.link() {
-            return self.take_link(role, digits);
-        }
         if let Some((outcome, number)) = line.told() {
             return Ok(self.end(number, outcome));
         }
@@ -177,8 +163,9 @@ fn sends_of<'a, R: AllocGlobal + Files>(
     path: &str,
     bodies: Bodies<'a>,
 ) -> Result<Sends<'a, R::File>, ExchangeFault> {
-    match recalled(rt, path) {
-        Ok((journal, known)) => Ok(Sends {
+    let mut known = Known::none(rt.alloc());
+    match recall_journal(rt, path, Role::Sender, &mut known) {
+        Ok(journal) => Ok(Sends {
             journal,
             bodies,
             known,
@@ -187,23 +174,10 @@ fn sends_of<'a, R: AllocGlobal + Files>(
         }),
         Err(fault) => {
             drop(bodies);
+            drop(known);
             Err(fault)
         }
     }
-}
-
-fn recalled<R: AllocGlobal + Files>(
-    rt: &R,
-    path: &str,
-) -> Result<(Journal<R::File>, Known), ExchangeFault> {
-    let text = text_of(rt, path)?;
-    let mut known = Known::none(rt.alloc());
-    recall_all(text.as_slice(), &mut known)?;
-    let mut journal = open_journal(rt, path, whole_lines(text.as_slice()).len())?;
-    if let Some(digits) = known.link.take() {
-        journal.set_link(digits);
-    }
-    Ok((journal, known))
 }
 
 fn send_on<R, F: Write + OpenFile + Drop, I: BufRead, W: Write, P: Watch>(
@@ -223,9 +197,9 @@ where
         if sends.is_done() {
             break;
         }
-        match send_over(rt, exchange, sends, input, out, watch, tries.pauses()) {
+        match send_over(rt, exchange, sends, input, out, watch, &mut tries) {
             Ok(()) => break,
-            Err(fault) => tries.again(rt, exchange, fault, sends.journal.noted())?,
+            Err(fault) => tries.again(rt, exchange, fault, watch)?,
         }
     }
     Ok(Sent {
@@ -242,17 +216,15 @@ fn send_over<R, F: Write + OpenFile + Drop, I: BufRead, W: Write, P: Watch>(
     input: &mut I,
     out: &mut W,
     watch: &mut P,
-    pauses: Option<u32>,
+    tries: &mut Tries,
 ) -> Result<(), ExchangeFault>
 where
     R: AllocGlobal + Net<Stream = TcpStream> + Eprint + Clock + Files,
 {
-    let mut client = meet(rt, rt.alloc(), exchange, pauses)?;
+    let mut client = meet(rt, rt.alloc(), exchange, tries.pauses())?;
     let ended = sends.go_on(rt.alloc(), &mut client, exchange, input, watch);
-    let ended = unless_forced(ended, &client);
-    let told = tell_error(out, &client, has_failed(&ended));
+    let ended = tries.end(&client, ended, sends.journal.noted(), out);
     drop(client);
-    told.map_err(ExchangeFault::Out)?;
     ended
 }
 
@@ -305,6 +277,10 @@ impl<F: Write + OpenFile + Drop> Sends<'_, F> {
         watch: &mut P,
     ) -> Result<(), ExchangeFault> {
         let ended = self.exchange(alloc, client, exchange, input, watch);
+        // What is known and could not be noted is not done, and nothing is noted behind a line that may be torn.
+        if matches!(&ended, Err(ExchangeFault::Journal(_))) {
+            return ended;
+        }
         // What was told before the end is known, too, and only then the peer's detach is answered.
         self.learn(client)?;
         self.journal.sync()?;
@@ -344,15 +320,6 @@ impl<F: Write + OpenFile + Drop> Sends<'_, F> {
         Ok(client.finish()?)
     }
 
-    /// What was noted is kept before anything goes out.
-    fn turn<R: Read, W: Write>(&mut self, client: &mut Client<R, W>) -> Result<(), ExchangeFault> {
-        self.journal.sync()?;
-        if client.is_gone() {
-            return Err(ExchangeFault::Client(ClientFault::Refused(Refusal::NoLink)));
-        }
-        Ok(client.turn()?)
-    }
-
     /// Notes what the peer has told until now, and settles it.
     fn learn<R: Read, W: Write>(&mut self, client: &mut Client<R, W>) -> Result<(), ExchangeFault> {
         for _ in 0..u64::MAX {
@@ -384,7 +351,7 @@ impl<F: Write + OpenFile + Drop> Sends<'_, F> {
             if client.has_room() {
                 break;
             }
-            self.turn(client)?;
+            turn(client, &mut self.journal)?;
         }
         Ok(())
     }
@@ -398,7 +365,7 @@ impl<F: Write + OpenFile + Drop> Sends<'_, F> {
             if self.known.doubts.is_empty() {
                 break;
             }
-            self.turn(client)?;
+            turn(client, &mut self.journal)?;
         }
         self.journal.sync()
     }
@@ -482,7 +449,7 @@ impl<F: Write + OpenFile + Drop> Sends<'_, F> {
                 self.send_next(client)?;
                 watch.note(u64::from(self.known.next));
             } else {
-                self.turn(client)?;
+                turn(client, &mut self.journal)?;
             }
         }
         Ok(())

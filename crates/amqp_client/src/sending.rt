@@ -229,18 +229,10 @@ impl<R: Read, W: Write> Client<R, W> {
                 drop(given);
                 Ok(told)
             }
-            Err(fault) => self.learn_left(fault),
-        }
-    }
-
-    fn learn_left(&mut self, fault: ClientFault) -> Result<Option<Told>, ClientFault> {
-        match self.left(Role::Sender, fault) {
-            Ok(left) => {
-                let told = told_last(&left);
-                drop(left);
-                Ok(told)
-            }
-            Err(fault) => Err(fault),
+            Err(fault) => match self.told_left()? {
+                Some(told) => Ok(Some(told)),
+                None => Err(fault),
+            },
         }
     }
 
@@ -260,6 +252,7 @@ impl<R: Read, W: Write> Client<R, W> {
         }
     }
 
+    /// What the link left, where it is gone (part 2, 2.6.6).
     fn told_left(&mut self) -> Result<Option<Told>, ClientFault> {
         match self.conn.pop_left_by(Role::Sender, LINK) {
             Ok(Some(left)) => {

@@ -2,9 +2,8 @@
 //! its peer reads, so a thread beside it writes what it has put out.
 use crate::end::End;
 use crate::fault::PairFault;
-use amqp_journal::unit::Unit;
-use amqp_shared::{Name, Shared, WriterEnd};
-use std::alloc::Global;
+use amqp_shared::{Bytes, Name, Shared, WriterEnd};
+use std::alloc::{AllocError, Global};
 use std::io;
 use std::io::{ErrorKind, IoSlice, Write};
 use std::net::{Shutdown, TcpStream};
@@ -16,52 +15,123 @@ pub const RING: usize = 256;
 /// Room for the octets of units that are written together.
 const BATCH: usize = 65536;
 
-/// Units of at least so many octets are written from where they stand.
+/// Units of at least so many octets are not copied.
 const LONG: usize = 8192;
 
-/// Octets that are written together.
+/// So many long units are written together at most: with what stands before each they are four parts, as many as one call of the system takes here.
+const LONGS: usize = 2;
+
+/// A unit that is written from where it stands, behind so many of the octets that were copied.
+#[derive(Drop)]
+struct Long {
+    octets: Bytes,
+    behind: usize,
+}
+
+/// What is written together: the octets of short units, copied one behind the other, and long ones between them.
 #[derive(Drop)]
 struct Batch {
-    octets: Vec<u8>,
+    copied: Vec<u8>,
+    longs: Vec<Long>,
 }
 
 impl Batch {
-    fn write<S: Write>(&mut self, stream: &mut S) -> io::Result<()> {
-        if !self.octets.is_empty() {
-            stream.write_all(self.octets.as_slice())?;
-            self.octets.clear();
-        }
-        Ok(())
+    fn new(alloc: Global) -> Result<Batch, AllocError> {
+        Ok(Batch {
+            copied: Vec::with_capacity(alloc, BATCH)?,
+            longs: Vec::with_capacity(alloc, LONGS)?,
+        })
     }
 
-    /// Puts a unit behind the others. One that is long is written with them, from where it stands.
-    fn put(&mut self, stream: &mut TcpStream, unit: &Unit) -> io::Result<()> {
-        let octets = unit.bytes.as_slice();
+    fn is_full(&self) -> bool {
+        self.copied.len() > BATCH - LONG || self.longs.len() >= LONGS
+    }
+
+    /// Puts a unit behind the others. What does not fit beside it is written before.
+    fn put(&mut self, stream: &mut TcpStream, octets: Bytes) -> io::Result<()> {
+        if self.is_full() {
+            if let Err(fault) = self.write(stream) {
+                drop(octets);
+                return Err(fault);
+            }
+        }
         if octets.len() >= LONG {
-            return self.write_with(stream, octets);
+            return self.put_long(octets);
         }
-        if self.octets.len() > BATCH - LONG {
-            self.write(stream)?;
-        }
-        self.octets.extend_from_slice(octets)?;
-        Ok(())
+        let copied = self.copied.extend_from_slice(octets.as_slice());
+        drop(octets);
+        Ok(copied?)
     }
 
-    /// Writes what is there and these octets by one call, and by others what it leaves.
-    fn write_with(&mut self, stream: &mut TcpStream, octets: &[u8]) -> io::Result<()> {
-        let own = self.octets.as_slice();
-        let written = gathered(stream, own, octets)?;
-        stream.write_all(&own[written.min(own.len())..])?;
-        let past = written.saturating_sub(own.len());
-        stream.write_all(&octets[past.min(octets.len())..])?;
-        self.octets.clear();
+    fn put_long(&mut self, octets: Bytes) -> io::Result<()> {
+        let behind = self.copied.len();
+        match self.longs.push(Long { octets, behind }) {
+            Ok(()) => Ok(()),
+            Err(failed) => {
+                drop(failed);
+                Err(io::Error::from(ErrorKind::OutOfMemory))
+            }
+        }
+    }
+
+    /// How many of the copied octets stand before the long unit of this place, or all where there is none.
+    fn behind(&self, place: usize) -> usize {
+        match self.longs.get(place) {
+            Some(long) => long.behind,
+            None => self.copied.len(),
+        }
+    }
+
+    /// The copied octets from there to there.
+    fn between(&self, from: usize, to: usize) -> &[u8] {
+        self.copied.as_slice().get(from..to).unwrap_or(&[])
+    }
+
+    /// The long unit of this place, or nothing.
+    fn long(&self, place: usize) -> &[u8] {
+        match self.longs.get(place) {
+            Some(long) => long.octets.as_slice(),
+            None => &[],
+        }
+    }
+
+    /// Writes all by one call, and by others what that leaves.
+    fn write(&mut self, stream: &mut TcpStream) -> io::Result<()> {
+        let parts = [
+            self.between(0, self.behind(0)),
+            self.long(0),
+            self.between(self.behind(0), self.behind(1)),
+            self.long(1),
+            self.between(self.behind(1), self.copied.len()),
+        ];
+        write_parts(stream, parts)?;
+        self.copied.clear();
+        self.longs.clear();
         Ok(())
     }
 }
 
-/// How many octets of both one call writes; none where it was interrupted.
-fn gathered(stream: &TcpStream, first: &[u8], second: &[u8]) -> io::Result<usize> {
-    match stream.write_vectored(&[IoSlice::new(first), IoSlice::new(second)]) {
+fn write_parts(stream: &mut TcpStream, parts: [&[u8]; 5]) -> io::Result<()> {
+    let mut written = gathered(stream, parts)?;
+    for part in parts {
+        let done = written.min(part.len());
+        stream.write_all(&part[done..])?;
+        written = written.saturating_sub(done);
+    }
+    Ok(())
+}
+
+/// How many octets one call writes; none where it was interrupted.
+fn gathered(stream: &TcpStream, parts: [&[u8]; 5]) -> io::Result<usize> {
+    let [first, second, third, fourth, fifth] = parts;
+    let slices = [
+        IoSlice::new(first),
+        IoSlice::new(second),
+        IoSlice::new(third),
+        IoSlice::new(fourth),
+        IoSlice::new(fifth),
+    ];
+    match stream.write_vectored(&slices) {
         Err(error) if error.kind() == ErrorKind::Interrupted => Ok(0),
         written => written,
     }
@@ -107,7 +177,7 @@ impl<N: Name> Outgoing<N> {
         let before = self.end.taken();
         for _ in rt.forever() {
             match self.end.take() {
-                Some(unit) => self.batch.put(&mut self.stream, &unit)?,
+                Some(unit) => self.batch.put(&mut self.stream, unit.bytes)?,
                 None => return Ok(self.end.taken().saturating_sub(before)),
             }
         }
@@ -140,13 +210,13 @@ impl<N: Name> Outlet<N> {
         end: WriterEnd<N>,
         stream: TcpStream,
     ) -> Result<Outlet<N>, PairFault> {
-        let Ok(octets) = Vec::with_capacity(alloc, BATCH) else {
+        let Ok(batch) = Batch::new(alloc) else {
             return Err(PairFault::NoMemory);
         };
         let outgoing = Outgoing {
             end,
             stream,
-            batch: Batch { octets },
+            batch,
             fault: None,
         };
         Ok(Outlet {

@@ -7,7 +7,7 @@ use mio::net::{TcpListener, TcpStream};
 use mio::{Poll, Waker};
 use std::alloc::{AllocError, Global};
 use std::collections::VecDeque;
-use std::io::ErrorKind;
+use std::io;
 use std::sync::{Mutex, Wait};
 
 /// What each thread is to do.
@@ -50,7 +50,7 @@ pub struct Store {
     queues: Queues,
     totals: Totals,
     /// Why a thread has ended before its time.
-    failed: Option<ErrorKind>,
+    failed: Option<io::Error>,
 }
 
 impl Store {
@@ -76,7 +76,7 @@ impl Store {
         self.queues.len()
     }
 
-    pub fn failed(&self) -> Option<ErrorKind> {
+    pub fn failed(&self) -> Option<io::Error> {
         self.failed
     }
 
@@ -94,14 +94,14 @@ impl Store {
         is_in
     }
 
-    /// The first message of the queue at this place.
-    pub fn next(&mut self, place: usize) -> Option<Message> {
-        self.queues.next(place)
+    /// The first message of the queue at this place, if it has no more than so many octets.
+    pub fn next(&mut self, place: usize, longest: usize) -> Option<Message> {
+        self.queues.next(place, longest)
     }
 
-    /// A message is in the queue at this place.
-    pub fn waits(&self, place: usize) -> bool {
-        self.queues.waits(place)
+    /// Such a message is first in the queue at this place.
+    pub fn waits(&self, place: usize, longest: usize) -> bool {
+        self.queues.waits(place, longest)
     }
 
     /// Puts a message before the others of the queue at this place; for want of memory it is lost.
@@ -153,6 +153,22 @@ impl Desk {
             // A turn waits a quarter of a second at most, and then looks.
             let _ = waker.wake();
         }
+    }
+
+    /// A peer more. Where its thread has gone meanwhile, or for want of memory, its stream is closed.
+    fn take(&mut self, peer: Peer) {
+        if self.waker.is_none() {
+            drop(peer);
+            return;
+        }
+        let _ = self.peers.push_back(peer);
+        self.wake();
+    }
+
+    /// Its thread goes: the streams of peers that are left are closed.
+    fn leave(&mut self) {
+        self.waker = None;
+        self.peers.clear();
     }
 }
 
@@ -224,12 +240,12 @@ impl Hall {
     }
 
     /// The thread at this place goes; by a fault, or since it is over. The others are to look.
-    pub fn leave<R: Wait>(&self, rt: &R, place: usize, fault: Option<ErrorKind>) {
+    pub fn leave<R: Wait>(&self, rt: &R, place: usize, fault: Option<io::Error>) {
         if fault.is_some() {
             self.store.lock(rt).failed = fault;
         }
         if let Some(desk) = self.desks.get(place) {
-            desk.lock(rt).waker = None;
+            desk.lock(rt).leave();
         }
         self.wake_others(rt, place);
     }
@@ -289,13 +305,10 @@ impl Hall {
     }
 
     fn hand<R: Wait>(&self, rt: &R, place: usize, peer: Peer) {
-        let Some(desk) = self.desks.get(place) else {
-            drop(peer);
-            return;
-        };
-        let mut desk = desk.lock(rt);
-        let _ = desk.peers.push_back(peer);
-        desk.wake();
+        match self.desks.get(place) {
+            Some(desk) => desk.lock(rt).take(peer),
+            None => drop(peer),
+        }
     }
 
     /// The next peer that was given to the thread at this place.

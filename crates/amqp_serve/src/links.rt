@@ -1,5 +1,5 @@
 //! Links as their peers attach them.
-use amqp_conn::{Boxed, Conn, Link, LinkEnd, Op, Role, Text, Value, ops};
+use amqp_conn::{Boxed, Conn, Link, LinkEnd, Op, Performative, Role, Text, Value, ops};
 use amqp_messages::{Source, Target};
 use amqp_performatives::copying::copy_value;
 use std::alloc::AllocError;
@@ -7,6 +7,26 @@ use std::alloc::AllocError;
 /// The peer has begun its session.
 pub fn has_begun(conn: &Conn) -> bool {
     conn.logged().endpoint().windows().next_in.is_some()
+}
+
+/// The frame that was heard last is the peer's end of its session.
+pub fn has_ended(conn: &Conn) -> bool {
+    match conn.heard() {
+        Some(frame) => is_end(&frame.body),
+        None => false,
+    }
+}
+
+fn is_end(body: &Option<Performative>) -> bool {
+    matches!(body, Some(Performative::End(_)))
+}
+
+/// The longest message that the peer takes on a link, in octets.
+pub fn longest_on(conn: &Conn, link: u32) -> usize {
+    match conn.logged().endpoint().link_of(link) {
+        Some(found) if found.longest_theirs() > 0 => found.longest_theirs() as usize,
+        _ => usize::MAX,
+    }
 }
 
 /// A link of a connection, with the address that its peer asked for.

@@ -104,16 +104,19 @@ impl Queues {
         }
     }
 
-    /// A message is there.
-    pub fn waits(&self, place: usize) -> bool {
+    /// A message is first that has no more than so many octets.
+    pub fn waits(&self, place: usize, longest: usize) -> bool {
         match self.queues.get(place) {
-            Some(queue) => !queue.messages.is_empty(),
+            Some(queue) => is_within(queue.messages.front(), longest),
             None => false,
         }
     }
 
-    /// The first message.
-    pub fn next(&mut self, place: usize) -> Option<Message> {
+    /// The first message, if it has no more than so many octets.
+    pub fn next(&mut self, place: usize, longest: usize) -> Option<Message> {
+        if !self.waits(place, longest) {
+            return None;
+        }
         let next = match self.queues.get_mut(place) {
             Some(queue) => queue.messages.pop_front(),
             None => None,
@@ -122,6 +125,13 @@ impl Queues {
             self.len = self.len.saturating_sub(1);
         }
         next
+    }
+}
+
+fn is_within(message: Option<&Message>, longest: usize) -> bool {
+    match message {
+        Some(message) => message.payload.len() <= longest,
+        None => false,
     }
 }
 

@@ -5,7 +5,7 @@ use amqp_trace::Look;
 use mio::Poll;
 use mio::net::TcpListener;
 use std::alloc::{AllocError, Global};
-use std::io::{ErrorKind, Write};
+use std::io::Write;
 use std::net::{IpAddr, Net, SocketAddr};
 use std::rt::Clock;
 use std::sync::Wait;
@@ -17,8 +17,8 @@ use thiserror::Error;
 /// How long a turn waits at most, in milliseconds.
 const TURN: u64 = 250;
 
-/// How many turns there are at most behind the last message.
-const LAST: u32 = 40;
+/// How long it goes on at most behind the last message, in seconds.
+const LAST: u64 = 10;
 
 /// The most threads that a server has.
 pub const MAX_THREADS: u32 = 64;
@@ -36,7 +36,7 @@ pub struct Serve<'a> {
     pub limit: u32,
     /// It ends once so many messages went out and are done with; none: it goes on.
     pub count: Option<u32>,
-    /// How many threads drive its connections; 0 is 1. Where the system makes no more of them, those that are there do it.
+    /// How many threads drive its connections, at most `MAX_THREADS`; 0 is 1. Where the system makes no more of them, those that are there do it.
     pub threads: u32,
     /// How each frame that goes over its connections is told on standard error; none: it is not.
     pub trace: Option<Look>,
@@ -79,7 +79,8 @@ where
         drop(listener);
         return Err(ServeFault::Io(error));
     }
-    match Hall::new(terms, serve.limit as usize, serve.threads.max(1), listener) {
+    let threads = serve.threads.max(1).min(MAX_THREADS);
+    match Hall::new(terms, serve.limit as usize, threads, listener) {
         Ok(hall) => {
             let served = serve_on(rt, &hall, writer);
             drop(hall);
@@ -100,15 +101,19 @@ where
     R: Net + Clock + Eprint + Threads + Wait + Sync,
 {
     let jobs = jobs_of(rt, hall)?;
-    run_side_by_side(rt, hall, jobs).map_err(io::Error::from)?;
-    tell_served(rt, hall, writer)
+    let done = run_side_by_side(rt, hall, jobs);
+    tell_served(rt, hall, writer)?;
+    match done {
+        Ok(()) => Ok(()),
+        Err(error) => Err(ServeFault::Io(io::Error::from(error))),
+    }
 }
 
 /// What was done, by all threads.
 fn tell_served<R: Wait, W: Write>(rt: &R, hall: &Hall, writer: &mut W) -> Result<(), ServeFault> {
     let (failed, totals, left) = done_by(rt, hall);
-    if let Some(kind) = failed {
-        return Err(ServeFault::Io(io::Error::from(kind)));
+    if let Some(error) = failed {
+        return Err(ServeFault::Io(error));
     }
     writeln!(
         writer,
@@ -119,7 +124,7 @@ fn tell_served<R: Wait, W: Write>(rt: &R, hall: &Hall, writer: &mut W) -> Result
     Ok(())
 }
 
-fn done_by<R: Wait>(rt: &R, hall: &Hall) -> (Option<ErrorKind>, Totals, usize) {
+fn done_by<R: Wait>(rt: &R, hall: &Hall) -> (Option<io::Error>, Totals, usize) {
     let store = hall.store().lock(rt);
     (store.failed(), store.totals(), store.left())
 }
@@ -146,7 +151,8 @@ fn add_jobs<R: Net>(rt: &R, jobs: &mut Vec<Job>, count: usize) -> io::Result<()>
     Ok(())
 }
 
-/// All threads, each at its place. Where the system makes none, they run one after the other: the first listens, and goes on until all is done.
+/// All threads, each at its place. Where the system makes none, they run one after the other: the first listens, and goes on until all is done. Where memory is
+/// refused, those that have begun have ended.
 fn run_side_by_side<R>(rt: &R, hall: &Hall, jobs: Vec<Job>) -> Result<(), AllocError>
 where
     R: Clock + Eprint + Threads + Wait + Sync,
@@ -167,14 +173,10 @@ fn run_place<R: Clock + Eprint + Wait>(rt: &R, hall: &Hall, job: Job) {
         }
         Err(error) => Some(error),
     };
-    let kind = match fault {
-        Some(error) => Some(error.kind()),
-        None => None,
-    };
-    hall.leave(rt, place, kind);
+    hall.leave(rt, place, fault);
 }
 
-/// Turns until as many messages went as are asked for, and then until each connection is closed, or some seconds have passed.
+/// Turns until as many messages went as are asked for, closes each connection, and turns to the end.
 fn turn_on<R: Clock + Eprint + Wait>(rt: &R, hall: &Hall, server: &mut Server) -> io::Result<()> {
     let begun = Instant::now(rt)?;
     for _ in 0..u64::MAX {
@@ -184,8 +186,19 @@ fn turn_on<R: Clock + Eprint + Wait>(rt: &R, hall: &Hall, server: &mut Server) -
         turn(rt, hall, server, begun)?;
     }
     server.close();
-    for _ in 0..LAST {
-        if server.is_empty() {
+    turn_to_end(rt, hall, server, begun)
+}
+
+/// Turns until each connection has ended, or so much time has passed.
+fn turn_to_end<R: Clock + Eprint + Wait>(
+    rt: &R,
+    hall: &Hall,
+    server: &mut Server,
+    begun: Instant,
+) -> io::Result<()> {
+    let until = begun.elapsed(rt)?.as_secs().saturating_add(LAST);
+    for _ in 0..u64::MAX {
+        if server.is_empty() || begun.elapsed(rt)?.as_secs() >= until {
             break;
         }
         turn(rt, hall, server, begun)?;

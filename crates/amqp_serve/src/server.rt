@@ -1,9 +1,10 @@
 //! The connections of one thread, and what goes from them to the queues and from these to them.
 use crate::hall::{Hall, Job, Peer, Terms};
+use crate::links::longest_on;
 use crate::queues::Message;
 use crate::traced::Trace;
 use crate::visitor::{Arrived, Told, Unlearnt, Visitor, grant, told_in};
-use amqp_conn::{Bytes, Config, Conn, DeliveryState, Given, Op, Role, Tag, Text};
+use amqp_conn::{Bytes, Config, Conn, DeliveryState, Given, Op, Phase, Role, Tag, Text};
 use amqp_ready::{Driver, Ended, Limits, SlotFault};
 use mio::net::TcpStream;
 use std::alloc::Global;
@@ -24,6 +25,9 @@ const HEAD: usize = 128;
 /// The longest frame that we send and take.
 const MOST: u32 = 65536;
 
+/// How many transfers a peer may send until we tell our window anew.
+const WINDOW: u32 = 2048;
+
 /// A peer opens within ten seconds, and closes within five; how long it is silent does not matter.
 const LIMITS: Limits = Limits {
     open: 10000,
@@ -37,12 +41,33 @@ fn connection(alloc: Global) -> Option<Conn> {
             alloc,
             Config {
                 max_frame: MOST,
+                window: WINDOW,
                 ..Config::new(name)
             },
         )
         .ok(),
         Err(_) => None,
     }
+}
+
+/// A link on which we send.
+#[derive(Clone, Copy)]
+struct Outlet {
+    link: u32,
+    /// The place of its queue.
+    place: usize,
+    /// The longest message that its peer takes, in octets.
+    longest: usize,
+}
+
+/// What may go out on a link now.
+#[derive(Clone, Copy)]
+enum Due {
+    Nothing,
+    /// More of the message that is under way.
+    Rest,
+    /// The next message.
+    Message,
 }
 
 /// The connections of one thread.
@@ -57,6 +82,8 @@ pub struct Server {
     tags: u64,
     /// Messages were put into queues, which the other threads have not been told.
     has_put: bool,
+    /// All connections were closed: no peer is let in.
+    is_closing: bool,
 }
 
 impl Server {
@@ -73,6 +100,7 @@ impl Server {
                 dealt: 0,
                 tags: 0,
                 has_put: false,
+                is_closing: false,
             }),
             Err(error) => {
                 drop(driver);
@@ -105,23 +133,32 @@ impl Server {
         Ok(())
     }
 
-    /// Peers that have connected here are dealt to the threads.
+    /// Peers that have connected here are met.
     fn deal<R: Wait + Eprint>(&mut self, rt: &R, hall: &Hall) {
         for _ in 0..PEERS {
             // Who cannot be let in now waits.
             let Ok(Some((stream, from))) = self.driver.next_peer() else {
                 break;
             };
-            self.dealt = self.dealt.saturating_add(1);
-            self.tell_connected(rt, hall, from);
-            hall.deal(
-                rt,
-                Peer {
-                    number: self.dealt,
-                    stream,
-                },
-            );
+            self.meet(rt, hall, stream, from);
         }
+    }
+
+    /// A peer is dealt to a thread. One that comes once all is closed finds its stream closed: at the listener it would end each wait.
+    fn meet<R: Wait + Eprint>(&mut self, rt: &R, hall: &Hall, stream: TcpStream, from: SocketAddr) {
+        if self.is_closing {
+            drop(stream);
+            return;
+        }
+        self.dealt = self.dealt.saturating_add(1);
+        self.tell_connected(rt, hall, from);
+        hall.deal(
+            rt,
+            Peer {
+                number: self.dealt,
+                stream,
+            },
+        );
     }
 
     /// Peers that were dealt to this thread are let in.
@@ -135,8 +172,12 @@ impl Server {
         }
     }
 
-    /// One for which there is no memory finds its stream closed.
+    /// One for which there is no memory, or that comes once all is closed, finds its stream closed.
     fn let_in(&mut self, number: u64, stream: TcpStream) {
+        if self.is_closing {
+            drop(stream);
+            return;
+        }
         match connection(self.terms.alloc) {
             Some(conn) => {
                 let visitor = self.visitor(number);
@@ -211,6 +252,7 @@ impl Server {
 
     /// Each connection is closed; a later turn ends it once its peer has closed, too.
     pub fn close(&mut self) {
+        self.is_closing = true;
         self.driver.close_all();
     }
 
@@ -240,6 +282,7 @@ impl Server {
             self.send_all(rt, hall, key, at);
             self.give_up_credit(rt, hall, key, at);
         }
+        self.renew_window(key);
         if let Some(visitor) = self.driver.handler_mut(key) {
             visitor.tidy();
         }
@@ -331,11 +374,11 @@ impl Server {
 
     /// Learns what became of what was sent on the link at this place.
     fn learn_all(&mut self, key: usize, at: usize) {
-        let Some((link, _)) = self.outlet(key, at) else {
+        let Some(outlet) = self.outlet(key, at) else {
             return;
         };
         for _ in 0..u64::MAX {
-            if !self.learn_one(key, link) {
+            if !self.learn_one(key, outlet.link) {
                 break;
             }
         }
@@ -377,6 +420,10 @@ impl Server {
     /// What comes back goes to its queue.
     fn take_back<R: Wait>(&mut self, rt: &R, hall: &Hall, key: usize) {
         if let Some(visitor) = self.driver.handler_mut(key) {
+            // The lock is all threads'.
+            if visitor.back.is_empty() && visitor.done == 0 {
+                return;
+            }
             self.has_put |= !visitor.back.is_empty();
             hall.store().lock(rt).take_back(visitor);
         }
@@ -400,43 +447,76 @@ impl Server {
         Some(linked.link)
     }
 
-    /// The link at this place and its queue, if we send on it.
-    fn outlet(&self, key: usize, at: usize) -> Option<(u32, usize)> {
-        let linked = self.driver.slots().get(key)?.handler().links.get(at)?;
+    /// Tells our window anew where half of it is used (part 2, 2.5.6), also while a message is on its way.
+    fn renew_window(&mut self, key: usize) {
+        let left = match self.driver.slots().get(key) {
+            Some(slot) => slot.conn().logged().endpoint().windows().incoming,
+            None => WINDOW,
+        };
+        if left <= WINDOW / 2 {
+            let _ = self.driver.perform(key, Op::Refresh { echo: false });
+        }
+    }
+
+    /// The link at this place, if we send on it and its queue is known.
+    fn outlet(&self, key: usize, at: usize) -> Option<Outlet> {
+        let slot = self.driver.slots().get(key)?;
+        let linked = slot.handler().links.get(at)?;
         match (linked.role, linked.place) {
-            (Role::Sender, Some(place)) if !linked.is_gone => Some((linked.link, place)),
+            (Role::Sender, Some(place)) if !linked.is_gone => Some(Outlet {
+                link: linked.link,
+                place,
+                longest: longest_on(slot.conn(), linked.link),
+            }),
             _ => None,
         }
     }
 
-    /// Sends what waits for a link, as its credit allows.
+    /// Sends what waits for a link, as its credit and the peer's window allow. What these leave goes in a later turn.
     fn send_all<R: Wait>(&mut self, rt: &R, hall: &Hall, key: usize, at: usize) {
-        let Some((link, place)) = self.outlet(key, at) else {
+        let Some(outlet) = self.outlet(key, at) else {
             return;
         };
         for _ in 0..u64::MAX {
-            if !self.has_credit(key, link) || !self.send_next(rt, hall, key, link, place) {
+            if !self.send_one(rt, hall, key, outlet) {
                 break;
             }
         }
     }
 
-    fn has_credit(&self, key: usize, link: u32) -> bool {
-        match self.driver.slots().get(key) {
-            Some(slot) => match slot.conn().logged().endpoint().status(link) {
-                Some(status) => status.credit > 0 && !status.mid,
-                None => false,
-            },
-            None => false,
+    /// A transfer more on a link: whether it went.
+    fn send_one<R: Wait>(&mut self, rt: &R, hall: &Hall, key: usize, outlet: Outlet) -> bool {
+        match self.due(key, outlet.link) {
+            Due::Rest => self.send_rest(key, outlet.link),
+            Due::Message => self.send_next(rt, hall, key, outlet),
+            Due::Nothing => false,
+        }
+    }
+
+    /// What may go out on a link now. What is out of its queue the other threads do not see, so a message is due only where it can begin.
+    fn due(&self, key: usize, link: u32) -> Due {
+        let Some(slot) = self.driver.slots().get(key) else {
+            return Due::Nothing;
+        };
+        let endpoint = slot.conn().logged().endpoint();
+        if slot.conn().phase() != Phase::Running || endpoint.windows().remote_in == 0 {
+            return Due::Nothing;
+        }
+        match endpoint.link_of(link) {
+            Some(found) if found.sending().is_some() => Due::Rest,
+            Some(found) if found.is_attached() && found.credit() > 0 => Due::Message,
+            _ => Due::Nothing,
         }
     }
 
     /// Gives the credit up that is left, where the peer would have it used up and nothing waits (part 2, 2.6.7).
     fn give_up_credit<R: Wait>(&mut self, rt: &R, hall: &Hall, key: usize, at: usize) {
-        if let Some((link, place)) = self.outlet(key, at) {
-            if self.is_drained(key, link) && !hall.store().lock(rt).waits(place) {
-                let _ = self.driver.perform(key, Op::Drained { link });
-            }
+        let Some(outlet) = self.outlet(key, at) else {
+            return;
+        };
+        let Outlet { link, place, .. } = outlet;
+        if self.is_drained(key, link) && !hall.store().lock(rt).waits(place, outlet.longest) {
+            let _ = self.driver.perform(key, Op::Drained { link });
         }
     }
 
@@ -450,19 +530,13 @@ impl Server {
         }
     }
 
-    /// Sends the first message of a queue: whether it went.
-    fn send_next<R: Wait>(
-        &mut self,
-        rt: &R,
-        hall: &Hall,
-        key: usize,
-        link: u32,
-        place: usize,
-    ) -> bool {
-        let Some(message) = hall.store().lock(rt).next(place) else {
+    /// Begins the first message of a link's queue: whether it did.
+    fn send_next<R: Wait>(&mut self, rt: &R, hall: &Hall, key: usize, outlet: Outlet) -> bool {
+        let Outlet { link, place, .. } = outlet;
+        let Some(message) = hall.store().lock(rt).next(place, outlet.longest) else {
             return false;
         };
-        match self.send(key, link, &message) {
+        match self.start(key, link, &message) {
             Some(id) => self.note(
                 key,
                 Unlearnt {
@@ -489,24 +563,25 @@ impl Server {
         }
     }
 
-    /// Sends a message in as many transfers as the peer's frames ask for: its id. One that does not go whole is given up.
-    fn send(&mut self, key: usize, link: u32, message: &Message) -> Option<u32> {
-        let part = self.part(key)?;
-        let length = message.payload.len();
-        let id = self.start(key, link, message, part)?;
-        let mut from = part;
-        for _ in 0..u64::MAX {
-            if from >= length {
-                break;
-            }
-            let to = from.saturating_add(part).min(length);
-            if !self.carry(key, link, &message.payload, from, to) {
-                let _ = self.driver.perform(key, Op::Abort { link });
-                return None;
-            }
-            from = to;
+    /// A transfer more of what is under way on a link: whether it went.
+    fn send_rest(&mut self, key: usize, link: u32) -> bool {
+        match self.rest(key, link) {
+            Some(op) => self.driver.perform(key, op) == Some(Ok(())),
+            None => false,
         }
-        Some(id)
+    }
+
+    /// The next transfer of what is under way on a link. One of which it is known already what becomes of it is not sent to its end (part 2, 2.7.5).
+    fn rest(&self, key: usize, link: u32) -> Option<Op> {
+        let slot = self.driver.slots().get(key)?;
+        let sending = slot.conn().logged().endpoint().link_of(link)?.sending()?;
+        match slot.handler().sent_as(sending.id) {
+            Some(one) => {
+                let from = usize::try_from(sending.size).ok()?;
+                further(link, &one.message.payload, from, self.part(key)?)
+            }
+            None => Some(Op::Abort { link }),
+        }
     }
 
     /// How many octets of a message one transfer takes.
@@ -521,7 +596,9 @@ impl Server {
         Some(frame.min(MOST as usize).saturating_sub(HEAD).max(1))
     }
 
-    fn start(&mut self, key: usize, link: u32, message: &Message, part: usize) -> Option<u32> {
+    /// Sends the first transfer of a message: its id.
+    fn start(&mut self, key: usize, link: u32, message: &Message) -> Option<u32> {
+        let part = self.part(key)?;
         let tag = Tag::new(&self.tags.to_be_bytes())?;
         let length = message.payload.len();
         let payload = slice(&message.payload, 0, length.min(part))?;
@@ -551,24 +628,6 @@ impl Server {
         }
     }
 
-    fn carry(&mut self, key: usize, link: u32, payload: &Bytes, from: usize, to: usize) -> bool {
-        let more = to < payload.len();
-        match slice(payload, from, to) {
-            Some(payload) => {
-                let done = self.driver.perform(
-                    key,
-                    Op::Carry {
-                        link,
-                        payload,
-                        more,
-                    },
-                );
-                done == Some(Ok(()))
-            }
-            None => false,
-        }
-    }
-
     /// What is left of a connection that has ended: what it was sent and did not tell of goes back.
     fn end_one<R: Wait + Eprint>(&mut self, rt: &R, hall: &Hall) -> bool {
         match self.driver.take_ended() {
@@ -583,7 +642,7 @@ impl Server {
                 drop(conn);
                 tell_ended(rt, hall, &handler, fault);
                 handler.give_up();
-                self.has_put = true;
+                self.has_put |= !handler.back.is_empty();
                 end_with(rt, hall, &mut handler, fault.is_some());
                 self.store_late(rt, hall, &mut handler);
                 drop(handler);
@@ -663,6 +722,18 @@ fn answer_for(id: u32, is_in: bool) -> Op {
             DeliveryState::Released
         }),
     }
+}
+
+/// A further transfer of a message, of which so many octets went.
+fn further(link: u32, payload: &Bytes, from: usize, part: usize) -> Option<Op> {
+    let to = from.saturating_add(part);
+    let more = to < payload.len();
+    let payload = slice(payload, from, to)?;
+    Some(Op::Carry {
+        link,
+        payload,
+        more,
+    })
 }
 
 fn slice(octets: &Bytes, from: usize, to: usize) -> Option<Bytes> {

@@ -2,10 +2,10 @@
 ghost use Rattle.std.specs.Prelude.{◌≡◌};
 ghost use Rattle.amqp_ready.specs.Lending.{kept};
 
-use crate::links::{Linked, answer_to, has_begun};
+use crate::links::{Linked, answer_to, has_begun, has_ended};
 use crate::queues::Message;
 use crate::traced::Trace;
-use amqp_conn::{DeliveryState, Given, Learned, Left, Op, Refusal, Role, Taken};
+use amqp_conn::{Conn, DeliveryState, Given, Learned, Left, Op, Refusal, Role, Taken};
 use amqp_ready::{Handler, Lent, Next, Recorded};
 use std::alloc::Global;
 use std::collections::VecDeque;
@@ -23,7 +23,7 @@ pub struct Arrived {
     pub message: Message,
 }
 
-/// A message that was sent, and of which it is not known what becomes of it.
+/// A message that was sent, or is under way, and of which it is not known what becomes of it.
 #[derive(Drop)]
 pub struct Unlearnt {
     pub link: u32,
@@ -58,6 +58,7 @@ pub struct Visitor {
     is_begun: bool,
     pub links: Vec<Linked>,
     pub arrived: VecDeque<Arrived>,
+    /// In the order in which they began.
     pub sent: VecDeque<Unlearnt>,
     /// What goes back to its queue.
     pub back: VecDeque<Unlearnt>,
@@ -73,16 +74,19 @@ enum Heard {
     Offered(u32),
     Ready(u32),
     Gone(u32),
+    /// The session has ended.
+    Ended,
     Other,
 }
 
-fn heard_of(given: &Given) -> Heard {
+fn heard_of(conn: &Conn, given: &Given) -> Heard {
     match given {
         Given::Offered(link) => Heard::Offered(*link),
         Given::Ready(link, _) => Heard::Ready(*link),
         Given::Gone(link) => Heard::Gone(*link),
         // A link that its peer puts aside comes back as one of its own.
         Given::Parted(link, _) => Heard::Gone(*link),
+        Given::Nothing if has_ended(conn) => Heard::Ended,
         _ => Heard::Other,
     }
 }
@@ -116,6 +120,7 @@ impl Visitor {
             Heard::Offered(link) => self.answer(conn, link),
             Heard::Ready(link) => self.take_one(conn, link),
             Heard::Gone(link) => self.leave(conn, link),
+            Heard::Ended => self.leave_all(conn),
             Heard::Other => self.begin(conn),
         }
     }
@@ -192,8 +197,18 @@ impl Visitor {
         ensures { kept conn.new.conn ≡ kept conn.old.conn }
     {
         self.learn_left(conn)?;
-        self.mark_gone(link);
+        self.mark_gone(Some(link));
         self.return_sent(link)
+    }
+
+    /// All links are gone, as `leave`.
+    fn leave_all(&mut self, conn: &mut Lent) -> Result<(), Refusal>
+        ensures { kept conn.new.conn ≡ kept conn.old.conn }
+    {
+        self.learn_left(conn)?;
+        self.mark_gone(None);
+        self.give_up();
+        Ok(())
     }
 
     /// What links left that are gone.
@@ -232,9 +247,10 @@ impl Visitor {
         }
     }
 
-    fn mark_gone(&mut self, link: u32) {
+    /// This link is gone, or each where it is none.
+    fn mark_gone(&mut self, link: Option<u32>) {
         for linked in self.links.as_mut_slice() {
-            if linked.link == link {
+            if link.is_none() || link == Some(linked.link) {
                 linked.is_gone = true;
             }
         }
@@ -263,7 +279,7 @@ impl Visitor {
             .retain(|linked: &Linked| -> bool { !linked.is_gone });
     }
 
-    /// The connection has ended: all that it was sent and did not tell of goes back.
+    /// The connection or its session has ended: all that it was sent and did not tell of goes back.
     pub fn give_up(&mut self) {
         for _ in 0..self.sent.len() {
             if let Some(one) = self.sent.pop_front() {
@@ -288,6 +304,11 @@ impl Visitor {
         drop(one);
         self.done = self.done.saturating_add(1);
         true
+    }
+
+    /// What was sent, or is under way, under the id.
+    pub fn sent_as(&self, id: u32) -> Option<&Unlearnt> {
+        self.sent.get(self.place_of(id)?)
     }
 
     /// O(n) for n that were sent before it and are not learnt.
@@ -347,7 +368,7 @@ impl Handler for Visitor {
     ghost told = { λ v. None };
 
     fn take(&mut self, conn: &mut Lent, given: Given) -> Result<Next, Refusal> {
-        let heard = heard_of(&given);
+        let heard = heard_of(conn.conn(), &given);
         drop(given);
         if conn.conn().logged().journal().len() >= KEEP {
             conn.forget();

@@ -5,6 +5,7 @@ pub mod Passes
 pub mod Growing
 pub mod Waking
 pub mod Sleeping
+pub mod Leaving
 pub mod Renewing
 pub mod Consuming
 pub mod Batching

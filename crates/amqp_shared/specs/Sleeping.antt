@@ -1,4 +1,4 @@
--- Who sleeps until a delivery of a link comes is left asleep only where there is none, and one may still come.
+-- What is looked at before nobody is woken for a link: that a take would be told that there is nothing.
 use Rattle.std.specs.Prelude.{ℕ, ◌≡◌, Err}
 use Rattle.amqp_rules.specs.declared.refusal.Refusal.TheVariants.{Nothing}
 use Rattle.amqp_rules.specs.Take.{take_answer}

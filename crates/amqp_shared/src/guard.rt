@@ -5,8 +5,16 @@ use crate::locked::Locked;
 use crate::name::Name;
 use crate::waiting::{Conditions, Due, Want};
 use amqp_conn::Conn;
+use std::hint::spin_loop;
 use std::marker::Model;
-use std::sync::{Condvar, MutexGuard, Wait};
+use std::sync::{Condvar, Mutex, MutexGuard, Wait};
+use std::time::Duration;
+
+/// So often it is looked whether a condition was told before a thread sleeps: some microseconds.
+const LOOKS: u32 = 50;
+
+/// No thread sleeps longer, in seconds: it looks once more then, and finds what it had found.
+const LONGEST: u64 = 86400;
 
 /// The session of a connection that threads share, lent until this is dropped. Contracts see it as what lies under the lock. Whoever a step has told is woken behind
 /// that, so that nobody wakes up to find the lock taken.
@@ -36,12 +44,33 @@ impl<'a, N: Name> Drop for Guard<'a, N> {
             conditions,
             due,
         } = self;
-        let mut locked = locked;
-        let seat = locked.rouse();
-        let others = locked.sleepers.has_others();
-        drop(locked);
-        conditions.wake(due, seat, others);
+        give_back(locked, conditions, due);
     }
+}
+
+/// Gives the lock back, and then wakes those whom steps have told, and of those who sleep until a delivery comes the one whose turn it is.
+fn give_back<'a, N: Name>(
+    locked: MutexGuard<'a, Locked<N>>,
+    conditions: &Conditions,
+    due: Due,
+) -> &'a Mutex<Locked<N>> {
+    let mut locked = locked;
+    let seat = locked.rouse();
+    let others = locked.sleepers.has_others();
+    let mutex = MutexGuard::unlock(locked);
+    conditions.wake(due, seat, others);
+    mutex
+}
+
+/// The condition was told since it was told so often, or is while it is looked at.
+fn is_told(condition: &Condvar, seen: u64) -> bool {
+    for _ in 0..LOOKS {
+        if condition.notifications() != seen {
+            return true;
+        }
+        spin_loop();
+    }
+    false
 }
 
 impl<'a, N: Name> Guard<'a, N> {
@@ -69,19 +98,22 @@ impl<'a, N: Name> Guard<'a, N> {
         };
     }
 
-    /// Gives the lock back until the condition is told, and takes it again. Who was to be woken is woken before.
+    /// Gives the lock back until the condition is told, and takes it again. Who was to be woken is woken before. It looks for a while, some microseconds, before it
+    /// sleeps: what comes soon costs no call of the system.
     pub(crate) fn wait<R: Wait>(self, rt: &R, condition: &Condvar) -> Guard<'a, N> {
         let Guard {
             locked,
             conditions,
             due,
         } = self;
-        let mut locked = locked;
-        let seat = locked.rouse();
-        let others = locked.sleepers.has_others();
-        conditions.wake(due, seat, others);
+        // Read under the lock: nothing that is told from here on is missed.
+        let seen = condition.notifications();
+        let mutex = give_back(locked, conditions, due);
+        if !is_told(condition, seen) {
+            condition.sleep(rt, seen, Duration::from_secs(LONGEST));
+        }
         Guard {
-            locked: condition.wait(rt, locked),
+            locked: mutex.lock(rt),
             conditions,
             due: Due::NONE,
         }

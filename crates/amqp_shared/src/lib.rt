@@ -35,7 +35,8 @@
 //!    Or the threads that put units out write them, each once it has given the guard back: the writer's end then lies under a lock of its own
 //!    (`amqp_pair` does so, and `Work::told` says to a consumer when).
 //! 5. Whoever waits for what a step has brought is woken when the guard is dropped, once for all steps that were made with it. Of those that wait for a delivery of
-//!    one link one is woken at a time: it looks, takes what it wants, and where it leaves something the next one is woken as it gives the lock back.
+//!    one link and have one of sixteen seats one is woken at a time: it looks, takes what it wants, and where it leaves something the next one is woken as it gives the lock
+//!    back. Whoever waits looks for some microseconds before he sleeps.
 //! 6. `close`, with all passes and the writer's end, gives the connection back, and the units that nobody took.
 //!
 //! # What is proved
@@ -59,6 +60,7 @@ mod consumers;
 mod growing;
 mod guard;
 mod history;
+mod left;
 mod locked;
 mod many;
 mod name;
@@ -91,6 +93,7 @@ pub use consumers::{
     Consumed, Terms, Work, run_consumers, run_consumers_in_batches, run_consumers_with,
 };
 pub use guard::Guard;
+pub use left::Waited;
 pub use locked::Locked;
 pub use many::Called;
 pub use name::{Name, Numbered};

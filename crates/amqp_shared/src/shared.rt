@@ -303,7 +303,7 @@ impl<N: Name> Shared<N> {
         guard.locked.move_units();
     }
 
-    /// As `call`, but where credit, a window, a delivery or an outcome is wanting it waits for a change and tries again. The guard that it gives
+    /// As `call`, but where credit, a window, a delivery or an outcome is wanting it waits for a change and tries again: it looks for some microseconds, and then sleeps. The guard that it gives
     /// back is of the session after the operation, or of the one that refused it.
     ///
     /// # Errors
@@ -458,7 +458,7 @@ impl<N: Name> Shared<N> {
         }
     }
 
-    /// The one place in which it is noted that callers are to be woken: where some wait for this, and none do any more.
+    /// Where it is noted that callers are to be woken, but for those at seats (`Locked::rouse`): some wait for this, and none do any more.
     fn wake(&self, guard: &mut Guard<'_, N>, want: Want)
         ensures { guard.new ≡ record guard.old { waiters = with_want want false guard.old.waiters } }
     {
