@@ -1,16 +1,26 @@
-//! Worked examples, and a thousand deliveries whose ids wrap.
-use amqp_deliveries::{Disposition, Held, HeldItem, Partial, Parts};
+//! Worked examples, and a thousand deliveries whose ids wrap. A table, a payload and what is said are owned by one helper each, over no way out.
+use amqp_deliveries::{Disposition, Held, HeldItem, Partial};
 use amqp_performatives::DeliveryState;
 use amqp_types::Tag;
 use bytes::Bytes;
 use std::alloc::{AllocError, Global};
-use std::test::Fail;
 
-/// Whether a delivery begins, as its id and tag may stand.
-fn begins(held: &mut Held, id: u32, link: u32, octets: &[u8]) -> bool {
+/// Whether what is handed back begins once more, in a table that is as before.
+fn begins_again(held: &mut Held, back: HeldItem, before: usize) -> bool {
+    if held.len() == before && held.follows(back.id) && !held.holds_tag(back.link, &back.tag) {
+        held.add(back).is_ok()
+    } else {
+        drop(back);
+        false
+    }
+}
+
+/// Whether a delivery begins, as its id and tag may stand. Where it is handed back, it begins once more, if it is to.
+pub(crate) fn begins(held: &mut Held, id: u32, link: u32, octets: &[u8], again: bool) -> bool {
     let Some(tag) = Tag::new(octets) else {
         return false;
     };
+    let before = held.len();
     if !held.follows(id) || held.holds_tag(link, &tag) {
         return false;
     }
@@ -22,7 +32,17 @@ fn begins(held: &mut Held, id: u32, link: u32, octets: &[u8]) -> bool {
         local: None,
         remote: None,
     };
-    held.add(item).is_ok()
+    match held.add(item) {
+        Ok(()) => true,
+        Err(back) => {
+            if again {
+                begins_again(held, back, before)
+            } else {
+                drop(back);
+                false
+            }
+        }
+    }
 }
 
 /// What settles these ids, or accepts them.
@@ -35,33 +55,31 @@ fn said(first: u32, last: u32, settled: bool) -> Disposition {
     }
 }
 
-/// Ids 4294967295, 0 and 1, on links 0, 0 and 1, with tags 01, 02 and 01.
-fn three(alloc: Global) -> Result<Held, Fail> {
-    let mut held = Held::new(alloc);
-    if begins(&mut held, 4294967295, 0, b"\x01")
-        && begins(&mut held, 0, 0, b"\x02")
-        && begins(&mut held, 1, 1, b"\x01")
-    {
-        Ok(held)
-    } else {
-        Err(Fail::new("three begin"))
-    }
+/// Whether we say that these ids are settled.
+fn is_settled(held: &mut Held, first: u32, last: u32) -> bool {
+    let settled = said(first, last, true);
+    let answer = held.say(&settled).is_ok();
+    drop(settled);
+    answer
 }
 
-/// A thousand from id 4294966796 on, on links 0 and 1 in turn, each with its id as its tag; every second ended, one by one.
-fn five_hundred(alloc: Global) -> Result<Held, Fail> {
-    let mut held = Held::new(alloc);
-    for i in 0..1000u32 {
-        let id = 4294966796u32.wrapping_add(i);
-        if !begins(&mut held, id, i / 2 % 2, &id.to_be_bytes()) {
-            return Err(Fail::new("a thousand begin"));
-        }
-    }
-    for i in 0..500u32 {
-        let id = 4294966797u32.wrapping_add(2 * i);
-        held.go_on(id, None, true);
-    }
-    Ok(held)
+/// Whether the peer says that these ids are accepted.
+fn is_heard(held: &mut Held, first: u32, last: u32) -> bool {
+    let accepted = said(first, last, false);
+    let answer = held.hear(&accepted).is_ok();
+    drop(accepted);
+    answer
+}
+
+/// How many are told that these ids are settled, or accepted.
+fn told(held: &Held, first: u32, last: u32, settled: bool) -> Option<usize> {
+    let said = said(first, last, settled);
+    let count = match held.tellings(&said) {
+        Ok(tellings) => Some(tellings.len()),
+        Err(_) => None,
+    };
+    drop(said);
+    count
 }
 
 /// The id at a place.
@@ -74,8 +92,7 @@ fn id_at(held: &Held, place: usize) -> Option<u32> {
 
 /// A range that ends twice ends once, and then the link of what is left.
 fn ends_once(held: &mut Held) -> bool {
-    let settled = said(4294967295, 0, true);
-    if held.say(&settled).is_err() || held.say(&settled).is_err() {
+    if !is_settled(held, 4294967295, 0) || !is_settled(held, 4294967295, 0) {
         return false;
     }
     if held.len() != 1 || id_at(held, 0) != Some(1) {
@@ -85,118 +102,25 @@ fn ends_once(held: &mut Held) -> bool {
     held.is_empty()
 }
 
-#[test]
-fn a_range_ends_once(rt: HostRuntime) -> Result<(), Fail> {
-    let mut held = three(rt.alloc())?;
-    assert!(rt; ends_once(&mut held));
-    Ok(())
-}
-
-/// How many are told what is said.
-fn told(held: &Held, said: &Disposition) -> Option<usize> {
-    match held.tellings(said) {
-        Ok(tellings) => Some(tellings.len()),
-        Err(_) => None,
-    }
-}
-
 /// What was heard is not told again; and with an end of all, a delivery begins anew.
 fn is_told_once(held: &mut Held) -> bool {
-    let accepted = said(0, 1, false);
-    if told(held, &accepted) != Some(2) || held.hear(&accepted).is_err() {
+    if told(held, 0, 1, false) != Some(2) || !is_heard(held, 0, 1) {
         return false;
     }
-    if told(held, &said(4294967295, 1, true)) != Some(1) {
+    if told(held, 4294967295, 1, true) != Some(1) {
         return false;
     }
     held.end_all();
-    begins(held, 7, 0, b"\x01")
+    begins(held, 7, 0, b"\x01", false)
 }
 
-#[test]
-fn a_state_is_told_once(rt: HostRuntime) -> Result<(), Fail> {
-    let mut held = three(rt.alloc())?;
-    assert!(rt; is_told_once(&mut held));
-    Ok(())
-}
-
-#[test]
-fn a_tag_is_in_use_on_its_link(rt: HostRuntime) -> Result<(), Fail> {
-    let mut held = three(rt.alloc())?;
-    assert!(rt; !begins(&mut held, 2, 1, b"\x01"));
+/// A tag is in use on its link until its delivery ends.
+fn is_tag_in_use(held: &mut Held) -> bool {
+    if begins(held, 2, 1, b"\x01", false) {
+        return false;
+    }
     held.go_on(1, None, true);
-    assert!(rt; begins(&mut held, 3, 1, b"\x01"));
-    Ok(())
-}
-
-/// Of five hundred, five in a range over the wrap; half of them end, and the second that is left is 2.
-fn ends_half(held: &mut Held) -> bool {
-    if held.len() != 500 || held.span(4294967291, 5).len() != 5 {
-        return false;
-    }
-    if held.say(&said(4294960000, 4294967295, true)).is_err() {
-        return false;
-    }
-    held.len() == 250 && id_at(held, 1) == Some(2)
-}
-
-#[test]
-fn a_range_of_a_thousand_ends(rt: HostRuntime) -> Result<(), Fail> {
-    let mut held = five_hundred(rt.alloc())?;
-    assert!(rt; ends_half(&mut held));
-    Ok(())
-}
-
-/// Whether each of these payloads comes.
-fn comes(partial: &mut Partial, payloads: &[&'static [u8]]) -> bool {
-    for octets in payloads {
-        if partial.append(Bytes::from_static(octets)).is_err() {
-            return false;
-        }
-    }
-    true
-}
-
-/// Whether so many payloads join to these octets.
-fn joins(parts: &Parts, payloads: u64, octets: &[u8]) -> bool {
-    match parts.join() {
-        Ok(joined) => parts.len() == payloads && joined.as_slice() == octets,
-        Err(_) => false,
-    }
-}
-
-#[test]
-fn payloads_join(rt: HostRuntime) -> Result<(), Fail> {
-    let mut partial = Partial::start(rt.alloc());
-    assert!(rt; comes(&mut partial, &[b"\x78", b"", b"\x79"]));
-    partial.append(Bytes::from_static(b"\x7a"))?;
-    partial.retract();
-    assert!(rt; joins(&partial.finish(), 2, b"\x78\x79"));
-    Ok(())
-}
-
-#[test]
-fn no_payload_joins(rt: HostRuntime) {
-    assert!(rt; joins(&Partial::start(rt.alloc()).finish(), 0, b""));
-}
-
-/// Whether the tag at this place has these octets.
-fn is_tag(tags: &[Tag], place: usize, octets: &[u8]) -> bool {
-    match tags.get(place) {
-        Some(tag) => tag.octets() == octets,
-        None => false,
-    }
-}
-
-/// Whether we said of the delivery at this place that it is accepted.
-fn is_accepted(held: &Held, place: usize) -> bool {
-    match held.at(place) {
-        Some(item) => match &item.local {
-            Some(DeliveryState::Accepted) => true,
-            _ => false,
-        },
-        None => false,
-    }
+    begins(held, 3, 1, b"\x01", false)
 }
 
 /// Whether these ids are answered.
@@ -207,13 +131,19 @@ fn are_ids(ids: Result<Vec<u32>, AllocError>, expected: &[u32]) -> bool {
     }
 }
 
-#[test]
-fn ids_are_in_serial_order(rt: HostRuntime) -> Result<(), Fail> {
-    let held = three(rt.alloc())?;
-    assert!(rt; are_ids(held.ids_in(4294967295, 0), &[4294967295, 0]));
-    assert!(rt; are_ids(held.ids_of(1), &[1]));
-    assert!(rt; are_ids(held.ids(), &[4294967295, 0, 1]));
-    Ok(())
+/// Ids are in serial order.
+fn are_in_order(held: &Held) -> bool {
+    are_ids(held.ids_in(4294967295, 0), &[4294967295, 0])
+        && are_ids(held.ids_of(1), &[1])
+        && are_ids(held.ids(), &[4294967295, 0, 1])
+}
+
+/// Whether the tag at this place has these octets.
+fn is_tag(tags: &[Tag], place: usize, octets: &[u8]) -> bool {
+    match tags.get(place) {
+        Some(tag) => tag.octets() == octets,
+        None => false,
+    }
 }
 
 /// Whether the tags of the first link are those of its two deliveries.
@@ -228,32 +158,35 @@ fn are_tags(held: &Held) -> bool {
     }
 }
 
-#[test]
-fn tags_are_those_of_a_link(rt: HostRuntime) -> Result<(), Fail> {
-    let held = three(rt.alloc())?;
-    assert!(rt; are_tags(&held));
-    Ok(())
-}
-
-#[test]
-fn a_range_that_ends_twice_ends_once(rt: HostRuntime) -> Result<(), Fail> {
-    let mut held = three(rt.alloc())?;
+/// The same range, ended by its ids, and not by what is said.
+fn ends_once_by_ids(held: &mut Held) -> bool {
     held.end_range(4294967295, 0);
-    assert!(rt; are_ids(held.ids(), &[1]));
+    if !are_ids(held.ids(), &[1]) {
+        return false;
+    }
     held.end_range(4294967295, 0);
-    assert!(rt; are_ids(held.ids(), &[1]));
+    if !are_ids(held.ids(), &[1]) {
+        return false;
+    }
     held.end_link(1);
-    assert!(rt; are_ids(held.ids(), &[]));
-    Ok(())
+    are_ids(held.ids(), &[])
 }
 
-#[test]
-fn all_end(rt: HostRuntime) -> Result<(), Fail> {
-    let mut held = three(rt.alloc())?;
+/// All end.
+fn all_end(held: &mut Held) -> bool {
     held.end_all();
-    assert!(rt; are_ids(held.ids(), &[]));
-    assert!(rt; held.find(0).is_none());
-    Ok(())
+    are_ids(held.ids(), &[]) && held.find(0).is_none()
+}
+
+/// Whether we said of the delivery at this place that it is accepted.
+fn is_accepted(held: &Held, place: usize) -> bool {
+    match held.at(place) {
+        Some(item) => match &item.local {
+            Some(DeliveryState::Accepted) => true,
+            _ => false,
+        },
+        None => false,
+    }
 }
 
 /// Whether the state is set of the second and third delivery alone.
@@ -264,29 +197,193 @@ fn sets_two(held: &mut Held) -> bool {
         && is_accepted(held, 2)
 }
 
-#[test]
-fn a_state_is_set_in_its_range(rt: HostRuntime) -> Result<(), Fail> {
-    let mut held = three(rt.alloc())?;
-    assert!(rt; sets_two(&mut held));
-    Ok(())
+/// Ids 4294967295, 0 and 1, on links 0, 0 and 1, with tags 01, 02 and 01.
+fn three_begin(held: &mut Held) -> bool {
+    begins(held, 4294967295, 0, b"\x01", false)
+        && begins(held, 0, 0, b"\x02", false)
+        && begins(held, 1, 1, b"\x01", false)
+}
+
+/// A thousand from id 4294966796 on, on links 0 and 1 in turn, each with its id as its tag; every second ended, one by one.
+fn five_hundred_begin(held: &mut Held) -> bool {
+    for i in 0..1000u32 {
+        let id = 4294966796u32.wrapping_add(i);
+        if !begins(held, id, i / 2 % 2, &id.to_be_bytes(), false) {
+            return false;
+        }
+    }
+    for i in 0..500u32 {
+        let id = 4294966797u32.wrapping_add(2 * i);
+        held.go_on(id, None, true);
+    }
+    true
+}
+
+/// Of five hundred, five in a range over the wrap; half of them end, and the second that is left is 2.
+fn ends_half(held: &mut Held) -> bool {
+    if held.len() != 500 || held.span(4294967291, 5).len() != 5 {
+        return false;
+    }
+    is_settled(held, 4294960000, 4294967295) && held.len() == 250 && id_at(held, 1) == Some(2)
+}
+
+/// How many things are asked of tables.
+const ASKED: u8 = 9;
+
+/// What is asked under this number: of three deliveries, and at last of a thousand.
+fn answers(held: &mut Held, asked: u8) -> bool {
+    match asked {
+        0 => three_begin(held) && ends_once(held),
+        1 => three_begin(held) && is_told_once(held),
+        2 => three_begin(held) && is_tag_in_use(held),
+        3 => three_begin(held) && are_in_order(held),
+        4 => three_begin(held) && are_tags(held),
+        5 => three_begin(held) && ends_once_by_ids(held),
+        6 => three_begin(held) && all_end(held),
+        7 => three_begin(held) && sets_two(held),
+        _ => five_hundred_begin(held) && ends_half(held),
+    }
+}
+
+/// Whether a table that is empty at first answers as it should.
+fn is_answered(alloc: Global, asked: u8) -> bool {
+    let mut held = Held::new(alloc);
+    let answer = answers(&mut held, asked);
+    drop(held);
+    answer
 }
 
 #[test]
-fn payloads_are_dropped(rt: HostRuntime) {
-    let mut partial = Partial::start(rt.alloc());
-    assert!(rt; comes(&mut partial, &[b"\x78", b"\x79"]));
-    partial.drop_all();
-    assert!(rt; joins(&partial.finish(), 0, b""));
+fn tables(rt: HostRuntime) {
+    for asked in 0..ASKED {
+        assert!(rt; is_answered(rt.alloc(), asked));
+    }
+}
+
+/// What becomes of the payloads that came.
+enum Last {
+    Stay,
+    Go,
+    /// These octets come, and are retracted.
+    Retract(&'static [u8]),
+}
+
+/// Payloads that come, what becomes of them, and what joins: so many octets, and these.
+struct Joined {
+    come: &'static [&'static [u8]],
+    last: Last,
+    long: u64,
+    octets: &'static [u8],
+}
+
+const JOINED: &[Joined] = &[
+    Joined {
+        come: &[],
+        last: Last::Stay,
+        long: 0,
+        octets: b"",
+    },
+    Joined {
+        come: &[b"\x78", b"", b"\x79"],
+        last: Last::Retract(b"\x7a"),
+        long: 2,
+        octets: b"\x78\x79",
+    },
+    Joined {
+        come: &[b"\x78", b"\x79"],
+        last: Last::Go,
+        long: 0,
+        octets: b"",
+    },
+    Joined {
+        come: &[b"\x78", b"\x79"],
+        last: Last::Stay,
+        long: 2,
+        octets: b"\x78\x79",
+    },
+    Joined {
+        come: &[b"\x78"],
+        last: Last::Retract(b"\x79"),
+        long: 1,
+        octets: b"\x78",
+    },
+];
+
+/// Whether a payload comes; where it is refused, as many octets as before are there, and it comes again, if it is to.
+pub(crate) fn comes(partial: &mut Partial, payload: &'static [u8], again: bool) -> bool {
+    let before = partial.len();
+    if partial.append(Bytes::from_static(payload)).is_ok() {
+        return true;
+    }
+    again && partial.len() == before && partial.append(Bytes::from_static(payload)).is_ok()
+}
+
+fn is_last(partial: &mut Partial, last: &Last) -> bool {
+    match last {
+        Last::Stay => true,
+        Last::Go => {
+            partial.drop_all();
+            true
+        }
+        Last::Retract(octets) => match partial.append(Bytes::from_static(octets)) {
+            Ok(()) => {
+                partial.retract();
+                true
+            }
+            Err(_) => false,
+        },
+    }
+}
+
+/// Whether the payloads so far have so many octets and join to these; where it is refused, they are joined again, if they are to.
+pub(crate) fn joins(partial: &mut Partial, long: u64, octets: &[u8], again: bool) -> bool {
+    let parts = partial.finish();
+    let joined = match parts.join() {
+        Err(_) if again => parts.join(),
+        joined => joined,
+    };
+    let is_long = parts.len() == long;
+    drop(parts);
+    match joined {
+        Ok(joined) => is_long && joined.as_slice() == octets,
+        Err(_) => false,
+    }
+}
+
+fn is_joined(partial: &mut Partial, row: &Joined) -> bool {
+    for payload in row.come {
+        if !comes(partial, payload, false) {
+            return false;
+        }
+    }
+    is_last(partial, &row.last) && joins(partial, row.long, row.octets, false)
+}
+
+/// Whether a row joins where nothing came before.
+fn is_joined_alone(alloc: Global, row: &Joined) -> bool {
+    let mut partial = Partial::start(alloc);
+    let is_joined = is_joined(&mut partial, row);
+    drop(partial);
+    is_joined
+}
+
+/// How many rows join one after the other.
+fn joined_in_turn(alloc: Global) -> usize {
+    let mut partial = Partial::start(alloc);
+    let mut joined = 0usize;
+    for row in JOINED {
+        if is_joined(&mut partial, row) {
+            joined = joined.wrapping_add(1);
+        }
+    }
+    drop(partial);
+    joined
 }
 
 #[test]
-fn a_retracted_payload_is_not_joined(rt: HostRuntime) -> Result<(), Fail> {
-    let mut partial = Partial::start(rt.alloc());
-    assert!(rt; comes(&mut partial, &[b"\x78", b"\x79"]));
-    assert!(rt; joins(&partial.finish(), 2, b"\x78\x79"));
-    assert!(rt; comes(&mut partial, &[b"\x78"]));
-    partial.append(Bytes::from_static(b"\x79"))?;
-    partial.retract();
-    assert!(rt; joins(&partial.finish(), 1, b"\x78"));
-    Ok(())
+fn payloads_join(rt: HostRuntime) {
+    for row in JOINED {
+        assert!(rt; is_joined_alone(rt.alloc(), row));
+    }
+    assert!(rt; joined_in_turn(rt.alloc()) == JOINED.len());
 }

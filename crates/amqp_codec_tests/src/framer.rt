@@ -1,11 +1,10 @@
 //! What no clause says of a framer: octets of known frames, however they are cut. A frame is let go in the helper that feeds its octets, and a framer in
-//! the helper that asks it: a test holds octets and answers alone.
+//! the helper that makes it, which lends it to what asks it: a test holds octets and answers alone.
 
-use crate::frames::{EACH, T, octets};
+use crate::frames::{EACH, T, long_frame};
 use amqp_frames::*;
 use amqp_halves::{Found, find_performative};
-use std::alloc::{AllocError, Global};
-use std::test::Fail;
+use std::alloc::Global;
 
 /// Octets, and what a framer tells of them.
 const FAULTS: &[(&[u8], FrameFault)] = &[
@@ -23,11 +22,11 @@ const FAULTS: &[(&[u8], FrameFault)] = &[
 /// How many octets of these a framer takes, and whether they end a frame.
 fn fed(framer: &mut Framer, octets: &[u8]) -> Result<(usize, bool), FrameFault> {
     match framer.feed(octets) {
-        Ok((used, Some(frame))) => {
-            drop(frame);
-            Ok((used, true))
+        Ok((used, whole)) => {
+            let is_whole = whole.is_some();
+            drop(whole);
+            Ok((used, is_whole))
         }
-        Ok((used, None)) => Ok((used, false)),
         Err(fault) => Err(fault),
     }
 }
@@ -35,68 +34,136 @@ fn fed(framer: &mut Framer, octets: &[u8]) -> Result<(usize, bool), FrameFault> 
 /// The same, and then they are put back.
 fn fed_and_unread(framer: &mut Framer, octets: &[u8]) -> Result<(usize, bool), FrameFault> {
     match framer.feed(octets) {
-        Ok((used, Some(frame))) => {
-            drop(frame);
+        Ok((used, whole)) => {
             framer.unread();
-            Ok((used, true))
-        }
-        Ok((used, None)) => {
-            framer.unread();
-            Ok((used, false))
+            let is_whole = whole.is_some();
+            drop(whole);
+            Ok((used, is_whole))
         }
         Err(fault) => Err(fault),
     }
 }
 
 /// Whether the first octets of a transfer, which are put back, leave nothing behind, and the whole of it comes again.
-fn comes_again(alloc: Global, transfer: &[u8]) -> bool {
-    let mut framer = Framer::new(alloc, 65536);
+fn comes_again(framer: &mut Framer) -> bool {
     let first = b"\x00\x00\x00\x1b\x02\x00\x00\x00\x00\x53";
-    if fed_and_unread(&mut framer, first) != Ok((10, false)) || framer.pending() != 0 {
-        return false;
-    }
-    fed_and_unread(&mut framer, transfer) == Ok((27, true))
-        && fed(&mut framer, transfer) == Ok((27, true))
+    fed_and_unread(framer, first) == Ok((10, false))
+        && framer.pending() == 0
+        && fed_and_unread(framer, T) == Ok((27, true))
+        && fed(framer, T) == Ok((27, true))
 }
 
-#[test]
-fn unread_octets_come_again(rt: HostRuntime) -> Result<(), Fail> {
-    let transfer = octets(rt.alloc(), T)?;
-    assert!(rt; comes_again(rt.alloc(), transfer.as_slice()));
-    Ok(())
-}
-
-/// How many frames the octets end that come one by one, and how many octets are left over.
-fn ended_by_each(alloc: Global, octets: &[u8]) -> Result<(u32, usize), FrameFault> {
-    let mut framer = Framer::new(alloc, 65536);
+/// Whether the octets of a transfer that come one by one end one frame, and none is left over.
+fn is_ended_by_each(framer: &mut Framer) -> bool {
     let mut frames = 0u32;
-    for octet in octets {
-        match fed(&mut framer, &[*octet]) {
+    for octet in T {
+        match fed(framer, &[*octet]) {
             Ok((_, true)) => frames = frames.wrapping_add(1),
             Ok(_) => continue,
-            Err(fault) => return Err(fault),
+            Err(_) => return false,
         }
     }
-    Ok((frames, framer.pending()))
+    frames == 1 && framer.pending() == 0
+}
+
+/// Whether a framer takes twenty pieces of a long frame, and asks for twice what came at most.
+fn is_long_taken(framer: &mut Framer) -> bool {
+    let piece = [0u8; 700];
+    for _ in 0..20_u32 {
+        if fed(framer, &piece) != Ok((700, false))
+            || framer.room() > framer.pending().saturating_mul(2)
+        {
+            return false;
+        }
+    }
+    true
+}
+
+/// Whether a framer asks for no room for a frame that lies whole in the piece, and then for what came of a long one.
+fn asks_for_what_came(framer: &mut Framer) -> bool {
+    fed(framer, T) == Ok((27, true))
+        && framer.room() == 0
+        && fed(framer, b"\x80\x00\x00\x00\x02\x00\x00\x00") == Ok((8, false))
+        && is_long_taken(framer)
+}
+
+/// How many frames a piece gives, and what stops it.
+fn counted(alloc: Global, framer: &mut Framer, piece: &[u8]) -> (usize, Result<(), Stopped>) {
+    let mut frames = Vec::new(alloc);
+    let stopped = framer.feed_all(piece, &mut frames);
+    let count = frames.len();
+    drop(frames);
+    (count, stopped)
+}
+
+/// Whether a piece gives two frames and the beginning of one, the next one its end, and none nothing.
+fn are_all_given(alloc: Global, framer: &mut Framer) -> bool {
+    let piece =
+        b"\x00\x00\x00\x0c\x02\x00\x00\x00\x00\x53\x17\x45\x00\x00\x00\x08\x02\x00\x00\x00\x00\x00\x00\x0c\x02\x00";
+    counted(alloc, framer, piece) == (2, Ok(()))
+        && framer.pending() == 6
+        && counted(alloc, framer, b"\x00\x00\x00\x53\x18\x45") == (1, Ok(()))
+        && framer.pending() == 0
+        && counted(alloc, framer, &[]) == (0, Ok(()))
+}
+
+/// Whether a frame comes, and then the fault behind it; nothing is kept.
+fn is_fault_told_behind(alloc: Global, framer: &mut Framer) -> bool {
+    let stopped = Stopped {
+        fault: FrameFault::ShortSize,
+        used: 8,
+    };
+    let piece = b"\x00\x00\x00\x08\x02\x00\x00\x00\x00\x00\x00\x07\x02\x00\x00\x00";
+    counted(alloc, framer, piece) == (1, Err(stopped)) && framer.pending() == 0
+}
+
+/// What is asked of a framer.
+enum Asked {
+    ComesAgain,
+    EndedByEach,
+    AsksForWhatCame,
+    AllGiven,
+    FaultBehind,
+}
+
+/// How long its frames may be, and what is asked of it.
+const ASKED: &[(u32, Asked)] = &[
+    (65536, Asked::ComesAgain),
+    (65536, Asked::EndedByEach),
+    (u32::MAX, Asked::AsksForWhatCame),
+    (65536, Asked::AllGiven),
+    (65536, Asked::FaultBehind),
+];
+
+fn is_answered(alloc: Global, max: u32, asked: &Asked) -> bool {
+    let mut framer = Framer::new(alloc, max);
+    let answer = match asked {
+        Asked::ComesAgain => comes_again(&mut framer),
+        Asked::EndedByEach => is_ended_by_each(&mut framer),
+        Asked::AsksForWhatCame => asks_for_what_came(&mut framer),
+        Asked::AllGiven => are_all_given(alloc, &mut framer),
+        Asked::FaultBehind => is_fault_told_behind(alloc, &mut framer),
+    };
+    drop(framer);
+    answer
 }
 
 #[test]
-fn an_octet_at_a_time(rt: HostRuntime) -> Result<(), Fail> {
-    let transfer = octets(rt.alloc(), T)?;
-    assert!(rt; ended_by_each(rt.alloc(), transfer.as_slice()) == Ok((1, 0)));
-    Ok(())
+fn framers(rt: HostRuntime) {
+    for (max, asked) in ASKED {
+        assert!(rt; is_answered(rt.alloc(), *max, asked));
+    }
 }
 
 /// What a framer tells of these octets in two pieces: whether they are one frame, or its fault.
-fn fed_in_two(alloc: Global, first: &[u8], second: &[u8]) -> Result<bool, FrameFault> {
-    let mut framer = Framer::new(alloc, 65536);
-    match fed(&mut framer, first) {
+fn fed_in_two(framer: &mut Framer, first: &[u8], second: &[u8]) -> Result<bool, FrameFault> {
+    match fed(framer, first) {
         Ok((_, true)) => Ok(second.is_empty()),
         Ok((used, false)) => {
             if used < first.len() {
                 return Ok(false);
             }
-            match fed(&mut framer, second) {
+            match fed(framer, second) {
                 Ok(answer) => Ok(answer == (second.len(), true)),
                 Err(fault) => Err(fault),
             }
@@ -105,11 +172,16 @@ fn fed_in_two(alloc: Global, first: &[u8], second: &[u8]) -> Result<bool, FrameF
     }
 }
 
-/// 600 octets of a frame that begins so, and is filled with payload.
-fn long_frame(alloc: Global, front: &str) -> Result<Vec<u8>, AllocError> {
-    let mut long = octets(alloc, front)?;
-    long.resize(600, 0x61)?;
-    Ok(long)
+fn is_told_in_two(
+    alloc: Global,
+    first: &[u8],
+    second: &[u8],
+    told: Result<bool, FrameFault>,
+) -> bool {
+    let mut framer = Framer::new(alloc, 65536);
+    let answer = fed_in_two(&mut framer, first, second);
+    drop(framer);
+    answer == told
 }
 
 /// Whether a framer tells this of the octets, cut before each of their first octets.
@@ -121,35 +193,43 @@ fn is_told_cut_anywhere(
 ) -> bool {
     for at in 0..=cuts.min(octets.len()) {
         let (first, second) = octets.split_at(at.min(octets.len()));
-        if fed_in_two(alloc, first, second) != told {
+        if !is_told_in_two(alloc, first, second, told) {
             return false;
         }
     }
     true
 }
 
-/// The same of a long frame that begins so, cut at each octet up to its payload.
-fn is_told(alloc: Global, front: &str, told: Result<bool, FrameFault>) -> bool {
-    match long_frame(alloc, front) {
+/// Where long frames begin, and what a framer tells of them.
+const LONG: &[(&[u8], Result<bool, FrameFault>)] = &[
+    // a transfer
+    (
+        b"\x00\x00\x02\x58\x02\x00\x00\x00\x00\x53\x14\xc0\x07\x04\x43\x43\xa0\x01\x00\x43",
+        Ok(true),
+    ),
+    // one whose handle is null
+    (
+        b"\x00\x00\x02\x58\x02\x00\x00\x00\x00\x53\x14\xc0\x07\x04\x40\x43\xa0\x01\x00\x43",
+        Err(FrameFault::BadBody),
+    ),
+    // a flow with a payload
+    (
+        b"\x00\x00\x02\x58\x02\x00\x00\x00\x00\x53\x13\xc0\x07\x04\x43\x43\x43\x43\x40\x40",
+        Err(FrameFault::BadBody),
+    ),
+];
+
+/// Whether a framer tells this of 600 octets of a frame that begins so, cut at each octet up to its payload.
+fn is_told(alloc: Global, front: &[u8], told: Result<bool, FrameFault>) -> bool {
+    match long_frame(alloc, front, 600) {
         Ok(long) => is_told_cut_anywhere(alloc, long.as_slice(), 24, told),
         Err(_) => false,
     }
 }
 
-/// A long transfer; one whose handle is null; and a flow with a payload.
 #[test]
 fn long_frames_cut_in_their_performative(rt: HostRuntime) {
-    for (front, told) in &[
-        ("0000025802000000 005314c00704 43 43a00100 43", Ok(true)),
-        (
-            "0000025802000000 005314c00704 40 43a00100 43",
-            Err(FrameFault::BadBody),
-        ),
-        (
-            "0000025802000000 005313c00704 43 43 43 43 40 40",
-            Err(FrameFault::BadBody),
-        ),
-    ] {
+    for (front, told) in LONG {
         assert!(rt; is_told(rt.alloc(), front, *told));
     }
 }
@@ -180,8 +260,15 @@ fn is_judged_where_it_is_cut(alloc: Global, behind_the_cut: u8, is_bad: bool) ->
     let mut rest = [0x61u8; 595];
     rest[0] = behind_the_cut;
     let mut framer = Framer::new(alloc, 65536);
-    match fed(&mut framer, first) {
-        Ok(_) => match fed(&mut framer, &rest) {
+    let answer = is_judged(&mut framer, first, &rest, is_bad);
+    drop(framer);
+    answer
+}
+
+/// The same of this framer, and of the two pieces.
+fn is_judged(framer: &mut Framer, first: &[u8], rest: &[u8], is_bad: bool) -> bool {
+    match fed(framer, first) {
+        Ok(_) => match fed(framer, rest) {
             Ok(answer) => !is_bad && answer == (595, true),
             Err(FrameFault::BadBody) => is_bad,
             Err(fault) => !is_bad && fault == FrameFault::NoMemory,
@@ -219,16 +306,14 @@ fn is_body_found(frame: &[u8]) -> bool {
 
 /// Each performative with all its fields; an open whose container-id has a character of two octets; and one whose container-id is cut short.
 #[test]
-fn a_performative_in_two_places_is_found(rt: HostRuntime) -> Result<(), Fail> {
-    for text in &EACH {
-        let frame = octets(rt.alloc(), text)?;
-        assert!(rt; is_body_found(frame.as_slice()));
+fn a_performative_in_two_places_is_found(rt: HostRuntime) {
+    for frame in EACH {
+        assert!(rt; is_body_found(frame));
     }
     let open = b"\x00\x53\x10\xc0\x07\x01\xa1\x04\x61\xc3\xa9\x62";
     assert!(rt; is_found_anywhere(open, 12, false));
     let short = b"\x00\x53\x10\xc0\x07\x01\xa1\x04\x61\xc3\xa9";
     assert!(rt; find_performative(&[], short).is_none());
-    Ok(())
 }
 
 /// A framer that was told of a frame of 4 GiB, where it keeps little room.
@@ -263,33 +348,6 @@ fn eight_octets_ask_for_little(rt: HostRuntime) {
     assert!(rt; begun_at_once(rt.alloc()) == 40_000);
 }
 
-/// Whether a framer asks for no room for a frame that lies whole in the piece, and then for what came of a long one, twice at most.
-fn asks_for_what_came(alloc: Global, whole: &[u8]) -> bool {
-    let mut framer = Framer::new(alloc, u32::MAX);
-    if fed(&mut framer, whole) != Ok((27, true)) || framer.room() != 0 {
-        return false;
-    }
-    if fed(&mut framer, b"\x80\x00\x00\x00\x02\x00\x00\x00") != Ok((8, false)) {
-        return false;
-    }
-    let piece = [0u8; 700];
-    for _ in 0..20_u32 {
-        if fed(&mut framer, &piece) != Ok((700, false))
-            || framer.room() > framer.pending().saturating_mul(2)
-        {
-            return false;
-        }
-    }
-    true
-}
-
-#[test]
-fn room_for_what_came(rt: HostRuntime) -> Result<(), Fail> {
-    let whole = octets(rt.alloc(), T)?;
-    assert!(rt; asks_for_what_came(rt.alloc(), whole.as_slice()));
-    Ok(())
-}
-
 fn fault(alloc: Global, octets: &[u8]) -> Option<FrameFault> {
     let mut framer = Framer::new(alloc, 65536);
     fed(&mut framer, octets).err()
@@ -300,49 +358,4 @@ fn faults(rt: HostRuntime) {
     for (octets, told) in FAULTS {
         assert!(rt; fault(rt.alloc(), octets) == Some(*told));
     }
-}
-
-/// How many frames a piece gives, and what stops it.
-fn counted(alloc: Global, framer: &mut Framer, piece: &[u8]) -> (usize, Result<(), Stopped>) {
-    let mut frames = Vec::new(alloc);
-    let stopped = framer.feed_all(piece, &mut frames);
-    let count = frames.len();
-    drop(frames);
-    (count, stopped)
-}
-
-/// Whether a piece gives two frames and the beginning of one, the next one its end, and none nothing.
-fn are_all_given(alloc: Global) -> bool {
-    let mut framer = Framer::new(alloc, 65536);
-    let piece =
-        b"\x00\x00\x00\x0c\x02\x00\x00\x00\x00\x53\x17\x45\x00\x00\x00\x08\x02\x00\x00\x00\x00\x00\x00\x0c\x02\x00";
-    if counted(alloc, &mut framer, piece) != (2, Ok(())) || framer.pending() != 6 {
-        return false;
-    }
-    let rest = b"\x00\x00\x00\x53\x18\x45";
-    if counted(alloc, &mut framer, rest) != (1, Ok(())) || framer.pending() != 0 {
-        return false;
-    }
-    counted(alloc, &mut framer, &[]) == (0, Ok(()))
-}
-
-#[test]
-fn all_frames_of_a_piece(rt: HostRuntime) {
-    assert!(rt; are_all_given(rt.alloc()));
-}
-
-/// Whether a frame comes, and then the fault behind it; nothing is kept.
-fn is_fault_told_behind(alloc: Global) -> bool {
-    let mut framer = Framer::new(alloc, 65536);
-    let stopped = Stopped {
-        fault: FrameFault::ShortSize,
-        used: 8,
-    };
-    let piece = b"\x00\x00\x00\x08\x02\x00\x00\x00\x00\x00\x00\x07\x02\x00\x00\x00";
-    counted(alloc, &mut framer, piece) == (1, Err(stopped)) && framer.pending() == 0
-}
-
-#[test]
-fn a_fault_behind_a_frame(rt: HostRuntime) {
-    assert!(rt; is_fault_told_behind(rt.alloc()));
 }

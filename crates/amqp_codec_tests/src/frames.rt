@@ -1,76 +1,147 @@
-//! What no clause says: octets of known frames, and each call once. A frame is let go in the helper that makes it: a test holds octets and answers alone.
+//! What no clause says: octets of known frames, and each call once. A frame is owned by the helper that reads or makes it, and lent to what looks at
+//! it: a test holds octets and answers alone. A call that is refused memory is made `again` in tests of growths alone.
 
 use amqp_decoder::{BodyFault, read_performative};
 use amqp_frames::*;
 use amqp_types::{Boxed, Items, Text, Value};
 use bytes::Bytes;
 use std::alloc::{AllocError, Global};
-use std::test::Fail;
 
 const UNFAIR: Option<FrameRefusal> = Some(FrameRefusal::NotWritable);
 
 /// A transfer of a delivery with the payload of one data section.
-pub(crate) const T: &str = "0000001b0200000000 5314c0070443 43a00100 43005375a0026869";
+pub(crate) const T: &[u8] =
+    b"\x00\x00\x00\x1b\x02\x00\x00\x00\x00\x53\x14\xc0\x07\x04\x43\x43\xa0\x01\x00\x43\x00\x53\x75\xa0\x02\x68\x69";
 
 /// A frame of each performative with all its fields, and of each delivery state; those that own memory too. A flow without properties, and an
 /// empty frame.
-pub(crate) const EACH: [&str; 16] = [
+pub(crate) const EACH: &[&[u8]] = &[
     T,
-    "0000003702000000005310c02a0aa10161a10162700001000060000070000003e8a302656ea302656ea30178a30179c10602a301615201",
-    "0000002c02000000005311c01f0860000043700000080070000008005207a30178a30179c10602a301615201",
-    "0000003c02000000005312c02f0ea1017143415002500000532845005329c00401a10171c10502a0017440414344a30178a30179c10602a301615201",
-    "0000002b02000000005313c01e0b520170000008004370000008004352035209434142c10602a301615201",
-    "0000002d02000000005314c0190b435201a001744342415001005323c0050252015302424241005375a0026869",
-    "0000001802000000005315c00b0641435201410053244541",
-    "0000003c02000000005315c02f0541434040005325c0250100531dc01f03a30e616d71703a6e6f742d666f756e64a104676f6e65c10602a301615201",
-    "0000001602000000005315c009054243404000532645",
-    "0000002202000000005315c0150541434040005327c00b034142c10602a301615201",
-    "0000001b02000000005315c00e0541434040005334c00401a00174",
-    "0000003402000000005316c02703434100531dc01f03a30e616d71703a6e6f742d666f756e64a104676f6e65c10602a301615201",
-    "0000003202000000005317c0250100531dc01f03a30e616d71703a6e6f742d666f756e64a104676f6e65c10602a301615201",
-    "0000003202000000005318c0250100531dc01f03a30e616d71703a6e6f742d666f756e64a104676f6e65c10602a301615201",
-    "0000001e02000000005313c0110743700000080043707fffffff43435205",
-    "0000000802000000",
+    b"\x00\x00\x00\x37\x02\x00\x00\x00\x00\x53\x10\xc0\x2a\x0a\xa1\x01\x61\xa1\x01\x62\x70\x00\x01\x00\x00\x60\x00\x00\x70\x00\x00\x03\xe8\xa3\x02\x65\
+        \x6e\xa3\x02\x65\x6e\xa3\x01\x78\xa3\x01\x79\xc1\x06\x02\xa3\x01\x61\x52\x01",
+    b"\x00\x00\x00\x2c\x02\x00\x00\x00\x00\x53\x11\xc0\x1f\x08\x60\x00\x00\x43\x70\x00\x00\x08\x00\x70\x00\x00\x08\x00\x52\x07\xa3\x01\x78\xa3\x01\x79\
+        \xc1\x06\x02\xa3\x01\x61\x52\x01",
+    b"\x00\x00\x00\x3c\x02\x00\x00\x00\x00\x53\x12\xc0\x2f\x0e\xa1\x01\x71\x43\x41\x50\x02\x50\x00\x00\x53\x28\x45\x00\x53\x29\xc0\x04\x01\xa1\x01\x71\
+        \xc1\x05\x02\xa0\x01\x74\x40\x41\x43\x44\xa3\x01\x78\xa3\x01\x79\xc1\x06\x02\xa3\x01\x61\x52\x01",
+    b"\x00\x00\x00\x2b\x02\x00\x00\x00\x00\x53\x13\xc0\x1e\x0b\x52\x01\x70\x00\x00\x08\x00\x43\x70\x00\x00\x08\x00\x43\x52\x03\x52\x09\x43\x41\x42\xc1\
+        \x06\x02\xa3\x01\x61\x52\x01",
+    b"\x00\x00\x00\x2d\x02\x00\x00\x00\x00\x53\x14\xc0\x19\x0b\x43\x52\x01\xa0\x01\x74\x43\x42\x41\x50\x01\x00\x53\x23\xc0\x05\x02\x52\x01\x53\x02\x42\
+        \x42\x41\x00\x53\x75\xa0\x02\x68\x69",
+    b"\x00\x00\x00\x18\x02\x00\x00\x00\x00\x53\x15\xc0\x0b\x06\x41\x43\x52\x01\x41\x00\x53\x24\x45\x41",
+    b"\x00\x00\x00\x3c\x02\x00\x00\x00\x00\x53\x15\xc0\x2f\x05\x41\x43\x40\x40\x00\x53\x25\xc0\x25\x01\x00\x53\x1d\xc0\x1f\x03\xa3\x0e\x61\x6d\x71\x70\
+        \x3a\x6e\x6f\x74\x2d\x66\x6f\x75\x6e\x64\xa1\x04\x67\x6f\x6e\x65\xc1\x06\x02\xa3\x01\x61\x52\x01",
+    b"\x00\x00\x00\x16\x02\x00\x00\x00\x00\x53\x15\xc0\x09\x05\x42\x43\x40\x40\x00\x53\x26\x45",
+    b"\x00\x00\x00\x22\x02\x00\x00\x00\x00\x53\x15\xc0\x15\x05\x41\x43\x40\x40\x00\x53\x27\xc0\x0b\x03\x41\x42\xc1\x06\x02\xa3\x01\x61\x52\x01",
+    b"\x00\x00\x00\x1b\x02\x00\x00\x00\x00\x53\x15\xc0\x0e\x05\x41\x43\x40\x40\x00\x53\x34\xc0\x04\x01\xa0\x01\x74",
+    b"\x00\x00\x00\x34\x02\x00\x00\x00\x00\x53\x16\xc0\x27\x03\x43\x41\x00\x53\x1d\xc0\x1f\x03\xa3\x0e\x61\x6d\x71\x70\x3a\x6e\x6f\x74\x2d\x66\x6f\x75\
+        \x6e\x64\xa1\x04\x67\x6f\x6e\x65\xc1\x06\x02\xa3\x01\x61\x52\x01",
+    b"\x00\x00\x00\x32\x02\x00\x00\x00\x00\x53\x17\xc0\x25\x01\x00\x53\x1d\xc0\x1f\x03\xa3\x0e\x61\x6d\x71\x70\x3a\x6e\x6f\x74\x2d\x66\x6f\x75\x6e\x64\
+        \xa1\x04\x67\x6f\x6e\x65\xc1\x06\x02\xa3\x01\x61\x52\x01",
+    b"\x00\x00\x00\x32\x02\x00\x00\x00\x00\x53\x18\xc0\x25\x01\x00\x53\x1d\xc0\x1f\x03\xa3\x0e\x61\x6d\x71\x70\x3a\x6e\x6f\x74\x2d\x66\x6f\x75\x6e\x64\
+        \xa1\x04\x67\x6f\x6e\x65\xc1\x06\x02\xa3\x01\x61\x52\x01",
+    b"\x00\x00\x00\x1e\x02\x00\x00\x00\x00\x53\x13\xc0\x11\x07\x43\x70\x00\x00\x08\x00\x43\x70\x7f\xff\xff\xff\x43\x43\x52\x05",
+    b"\x00\x00\x00\x08\x02\x00\x00\x00",
 ];
 
-/// The octets that the text writes, past its spaces; as many as fit.
-pub(crate) fn octets(alloc: Global, text: &str) -> Result<Vec<u8>, AllocError> {
-    let mut octets = Vec::new(alloc);
-    let mut high: Option<u8> = None;
-    for letter in text.as_bytes() {
-        let digit = match letter {
-            b'0'..=b'9' => *letter - b'0',
-            b'a'..=b'f' => *letter - b'a' + 10,
-            _ => continue,
-        };
-        match high {
-            None => high = Some(digit),
-            Some(first) => {
-                octets.push(first.wrapping_mul(16).wrapping_add(digit))?;
-                high = None;
-            }
-        }
-    }
-    Ok(octets)
-}
+/// Octets of frames, how long a frame may be, how long what is written for it is, and whether it is these octets.
+const WRITTEN: &[(&[u8], u32, Result<(usize, bool), FrameRefusal>)] = &[
+    (T, 27, Ok((27, true))),
+    (T, 26, Err(FrameRefusal::FrameTooBig)),
+    // frames of a session
+    (
+        b"\x00\x00\x00\x1c\x02\x00\x00\x00\x00\x53\x11\xc0\x0f\x04\x60\x00\x00\x43\x70\x00\x00\x08\x00\x70\x7f\xff\xff\xff",
+        65536,
+        Ok((28, true)),
+    ),
+    (
+        b"\x00\x00\x00\x1c\x02\x00\x00\x00\x00\x53\x12\xc0\x0f\x0a\xa1\x01\x71\x43\x42\x50\x02\x50\x00\x40\x40\x40\x40\x43",
+        65536,
+        Ok((28, true)),
+    ),
+    (
+        b"\x00\x00\x00\x1e\x02\x00\x00\x00\x00\x53\x13\xc0\x11\x07\x43\x70\x00\x00\x08\x00\x43\x70\x7f\xff\xff\xff\x43\x43\x52\x05",
+        65536,
+        Ok((30, true)),
+    ),
+    (T, 65536, Ok((27, true))),
+    // frames of a connection
+    (
+        b"\x00\x00\x00\x1a\x02\x00\x00\x00\x00\x53\x10\xc0\x0d\x04\xa1\x01\x61\x40\x70\x00\x01\x00\x00\x60\x00\x00",
+        65536,
+        Ok((26, true)),
+    ),
+    (
+        b"\x00\x00\x00\x1a\x02\x00\x00\x00\x00\x53\x11\xc0\x0d\x04\x40\x43\x70\x00\x00\x08\x00\x70\x7f\xff\xff\xff",
+        65536,
+        Ok((26, true)),
+    ),
+    (
+        b"\x00\x00\x00\x13\x02\x00\x00\x00\x00\x53\x12\xc0\x06\x03\xa1\x01\x71\x43\x41",
+        65536,
+        Ok((19, true)),
+    ),
+    // endings
+    (
+        b"\x00\x00\x00\x10\x02\x00\x00\x00\x00\x53\x15\xc0\x03\x02\x41\x43",
+        65536,
+        Ok((16, true)),
+    ),
+    (
+        b"\x00\x00\x00\x10\x02\x00\x00\x00\x00\x53\x16\xc0\x03\x02\x43\x41",
+        65536,
+        Ok((16, true)),
+    ),
+    (
+        b"\x00\x00\x00\x0c\x02\x00\x00\x00\x00\x53\x17\x45",
+        65536,
+        Ok((12, true)),
+    ),
+    (
+        b"\x00\x00\x00\x0c\x02\x00\x00\x00\x00\x53\x18\x45",
+        65536,
+        Ok((12, true)),
+    ),
+    (b"\x00\x00\x00\x08\x02\x00\x00\x00", 65536, Ok((8, true))),
+    // a name in place of a number, and an extended header: the frame is written anew in its canonical form
+    (
+        b"\x00\x00\x00\x1b\x02\x00\x00\x00\x00\xa3\x0f\x61\x6d\x71\x70\x3a\x63\x6c\x6f\x73\x65\x3a\x6c\x69\x73\x74\x45",
+        65536,
+        Ok((12, false)),
+    ),
+    (
+        b"\x00\x00\x00\x10\x03\x00\x00\x00\x01\x02\x03\x04\x00\x53\x17\x45",
+        65536,
+        Ok((12, false)),
+    ),
+    // a name of 256 octets: its size and the list's take four
+    (
+        b"\x00\x00\x01\x1b\x02\x00\x00\x00\x00\x53\x12\xd0\x00\x00\x01\x0b\x00\x00\x00\x03\xb1\x00\x00\x01\x00\
+            qqqqqqqqqqqqqqqqqqqqqqqqqqqqqqqqqqqqqqqqqqqqqqqqqqqqqqqqqqqqqqqqqqqqqqqqqqqqqqqqqqqqqqqqqqqqqqqqqqqqqqqqqqqqqqqqqqqqqqqqqqqqqqqq\
+            qqqqqqqqqqqqqqqqqqqqqqqqqqqqqqqqqqqqqqqqqqqqqqqqqqqqqqqqqqqqqqqqqqqqqqqqqqqqqqqqqqqqqqqqqqqqqqqqqqqqqqqqqqqqqqqqqqqqqqqqqqqqqqqq\x43\x41",
+        65536,
+        Ok((283, true)),
+    ),
+];
 
-/// How long what is written is, and whether it is these octets.
+/// How long what is written for the frame is, and whether it is these octets.
 fn compared(
-    written: Result<Bytes, FrameRefusal>,
+    alloc: Global,
+    frame: &Frame,
     octets: &[u8],
+    max: u32,
 ) -> Result<(usize, bool), FrameRefusal> {
-    match written {
+    match write_frame(alloc, frame, max) {
         Ok(again) => Ok((again.len(), again.as_slice() == octets)),
         Err(refusal) => Err(refusal),
     }
 }
 
-/// The same of what is written for the frame that these octets are.
+/// The same of the frame that these octets are.
 fn written(alloc: Global, octets: &[u8], max: u32) -> Result<(usize, bool), FrameRefusal> {
     let mut framer = Framer::new(alloc, 65536);
     match framer.feed(octets) {
         Ok((_, Some(frame))) => {
-            let answer = compared(write_frame(alloc, &frame, max), octets);
+            let answer = compared(alloc, &frame, octets, max);
             drop(frame);
             answer
         }
@@ -78,67 +149,227 @@ fn written(alloc: Global, octets: &[u8], max: u32) -> Result<(usize, bool), Fram
     }
 }
 
-/// The octets are a frame, and are written for it.
-fn is_written_back(alloc: Global, text: &str) -> bool {
-    match octets(alloc, text) {
-        Ok(octets) => { written(alloc, octets.as_slice(), 65536) == Ok((octets.len(), true)) }
+#[test]
+fn frames(rt: HostRuntime) {
+    for (octets, max, due) in WRITTEN {
+        assert!(rt; written(rt.alloc(), octets, *max) == *due);
+    }
+}
+
+fn writes(alloc: Global, frame: &Frame, again: bool) -> Result<Bytes, FrameRefusal> {
+    match write_frame(alloc, frame, 65536) {
+        Err(FrameRefusal::NoMemory) if again => write_frame(alloc, frame, 65536),
+        answer => answer,
+    }
+}
+
+/// Whether the frame is appended; where it is refused, there are as many octets as before.
+fn appends(frame: &Frame, out: &mut Vec<u8>, again: bool) -> bool {
+    let before = out.len();
+    match append_frame(frame, 65536, out) {
+        Err(FrameRefusal::NoMemory) if again && out.len() == before => {
+            append_frame(frame, 65536, out).is_ok()
+        }
+        answer => answer.is_ok(),
+    }
+}
+
+/// Whether these octets are written for the frame, and it is appended behind what is there.
+fn is_written(alloc: Global, frame: &Frame, octets: &[u8], out: &mut Vec<u8>, again: bool) -> bool {
+    match writes(alloc, frame, again) {
+        Ok(written) => {
+            let is_same = written.as_slice() == octets;
+            drop(written);
+            is_same && appends(frame, out, again)
+        }
         Err(_) => false,
     }
 }
 
-/// The octets are a frame, and are written for a copy of it.
-fn is_written_copied(alloc: Global, octets: &[u8]) -> bool {
-    let mut framer = Framer::new(alloc, 65536);
-    match framer.feed(octets) {
-        Ok((_, Some(frame))) => {
-            let copied: Result<Frame, AllocError> = frame.clone();
-            drop(frame);
-            is_copy_written(alloc, copied, octets)
-        }
-        _ => false,
+fn copies(frame: &Frame, again: bool) -> Result<Frame, AllocError> {
+    match frame.clone() {
+        Ok(copy) => Ok(copy),
+        Err(_) if again => frame.clone(),
+        Err(refused) => Err(refused),
     }
 }
 
-fn is_copy_written(alloc: Global, copied: Result<Frame, AllocError>, octets: &[u8]) -> bool {
-    match copied {
+/// The same of a copy of the frame.
+fn is_copy_written(
+    alloc: Global,
+    frame: &Frame,
+    octets: &[u8],
+    out: &mut Vec<u8>,
+    again: bool,
+) -> bool {
+    match copies(frame, again) {
         Ok(copy) => {
-            let answer = compared(write_frame(alloc, &copy, 65536), octets);
+            let answer = is_written(alloc, &copy, octets, out, again);
             drop(copy);
-            answer == Ok((octets.len(), true))
+            answer
         }
         Err(_) => false,
     }
 }
 
-/// The octets, and behind them what is appended for the frame that they are when they are shared.
-fn appended(alloc: Global, octets: &[u8]) -> Result<Vec<u8>, AllocError> {
-    let mut out = octets.to_vec(alloc)?;
-    let shared = Bytes::copy_from_slice(alloc, octets)?;
+/// The octets, and once more.
+pub(crate) fn is_twice(twice: &[u8], octets: &[u8]) -> bool {
+    let (one, other) = twice.split_at(octets.len().min(twice.len()));
+    one == octets && other == octets
+}
+
+/// Whether these octets are written and appended for the frame, and behind them for a copy of it.
+pub(crate) fn is_each_way(alloc: Global, frame: &Frame, octets: &[u8], again: bool) -> bool {
+    let mut out = Vec::new(alloc);
+    is_written(alloc, frame, octets, &mut out, again)
+        && is_copy_written(alloc, frame, octets, &mut out, again)
+        && is_twice(out.as_slice(), octets)
+}
+
+/// The octets, shared.
+fn shares(alloc: Global, octets: &[u8], again: bool) -> Result<Bytes, AllocError> {
+    match Bytes::copy_from_slice(alloc, octets) {
+        Err(_) if again => Bytes::copy_from_slice(alloc, octets),
+        shared => shared,
+    }
+}
+
+/// Whether the shared octets are a frame, which is read into a slot and written each way.
+fn is_through_a_slot(alloc: Global, shared: &Bytes, octets: &[u8], again: bool) -> bool {
     let mut framer = Framer::new(alloc, 65536);
     let mut slot = Frame {
         channel: 0,
         body: None,
         payload: Bytes::new(),
     };
-    let fed = framer.feed_shared(&shared, 0, &mut slot);
-    let written = append_frame(&slot, 65536, &mut out);
+    let fed = match framer.feed_shared(shared, 0, &mut slot) {
+        Err(FrameFault::NoMemory) if again => framer.feed_shared(shared, 0, &mut slot),
+        fed => fed,
+    };
+    let is_same = is_each_way(alloc, &slot, octets, again);
     drop(slot);
-    if fed.is_err() || written.is_err() {
-        out.clear();
-    }
-    Ok(out)
+    fed.is_ok() && is_same
 }
 
-/// The octets are a frame, and each way to read, copy and write it gives them again.
-fn is_written_each_way(alloc: Global, octets: &[u8]) -> bool {
-    match appended(alloc, octets) {
-        Ok(twice) => {
-            twice.len() == 2 * octets.len()
-                && twice.as_slice().ends_with(octets)
-                && is_written_copied(alloc, octets)
+pub(crate) fn is_shared(alloc: Global, octets: &[u8], again: bool) -> bool {
+    match shares(alloc, octets, again) {
+        Ok(shared) => is_through_a_slot(alloc, &shared, octets, again),
+        Err(_) => false,
+    }
+}
+
+/// The room of octets that are nobody else's.
+fn room_of(octets: Bytes) -> Result<usize, AllocError> {
+    match octets.reclaim() {
+        Some(owned) => Ok(owned.into_vec()?.capacity()),
+        None => Ok(usize::MAX),
+    }
+}
+
+/// Whether what is written for the frame has the room for its octets.
+fn is_written_in_its_room(alloc: Global, frame: &Frame, size: usize) -> bool {
+    match write_frame(alloc, frame, 65536) {
+        Ok(written) => room_of(written) == Ok(size),
+        Err(_) => false,
+    }
+}
+
+/// Whether octets with the room for this frame keep it, and have twice what they need at most with a second one.
+fn is_room_kept(frame: &Frame, size: usize, out: &mut Vec<u8>) -> bool {
+    append_frame(frame, 65536, out).is_ok()
+        && out.capacity() == size
+        && append_frame(frame, 65536, out).is_ok()
+        && out.capacity() <= out.len().saturating_mul(2)
+}
+
+fn are_rooms(alloc: Global, frame: &Frame, size: usize) -> bool {
+    match Vec::with_capacity(alloc, size) {
+        Ok(mut out) => {
+            is_room_kept(frame, size, &mut out) && is_written_in_its_room(alloc, frame, size)
         }
         Err(_) => false,
     }
+}
+
+/// Whether the octets are a frame, which is written in its room, or each way.
+fn is_frame(alloc: Global, octets: &[u8], is_room_asked: bool) -> bool {
+    let mut framer = Framer::new(alloc, 65536);
+    match framer.feed(octets) {
+        Ok((_, Some(frame))) => {
+            let answer = if is_room_asked {
+                are_rooms(alloc, &frame, octets.len())
+            } else {
+                is_each_way(alloc, &frame, octets, false)
+            };
+            drop(frame);
+            answer
+        }
+        _ => false,
+    }
+}
+
+/// What no clause tells: a `Bytes` is seen as its octets alone, and a `Vec` that octets were put into may have any room.
+#[test]
+fn room_of_what_is_written(rt: HostRuntime) {
+    for octets in EACH {
+        assert!(rt; is_frame(rt.alloc(), octets, true));
+    }
+}
+
+/// With memory at hand no call gives up.
+#[test]
+fn each_kind_and_field(rt: HostRuntime) {
+    for octets in EACH {
+        assert!(rt; is_frame(rt.alloc(), octets, false) && is_shared(rt.alloc(), octets, false));
+    }
+}
+
+/// Octets of a frame of this size that begins so, and is filled with payload.
+pub(crate) fn long_frame(alloc: Global, front: &[u8], size: usize) -> Result<Vec<u8>, AllocError> {
+    let mut long = front.to_vec(alloc)?;
+    long.resize(size, 0x61)?;
+    Ok(long)
+}
+
+/// Whether the piece ends a frame, and these octets are written for it.
+fn is_piece_written(alloc: Global, framer: &mut Framer, piece: &[u8], octets: &[u8]) -> bool {
+    match framer.feed(piece) {
+        Ok((_, Some(frame))) => {
+            let answer = compared(alloc, &frame, octets, 65536);
+            drop(frame);
+            answer == Ok((octets.len(), true))
+        }
+        _ => false,
+    }
+}
+
+/// Whether the octets, in pieces, are written for the frame that they are.
+fn is_written_from_pieces(alloc: Global, framer: &mut Framer, octets: &[u8]) -> bool {
+    for piece in octets.chunks(700) {
+        if is_piece_written(alloc, framer, piece, octets) {
+            return true;
+        }
+    }
+    false
+}
+
+/// A transfer with 4980 octets of payload: room for it grows from piece to piece.
+fn is_long_in_pieces(alloc: Global) -> bool {
+    let front = b"\x00\x00\x13\x88\x02\x00\x00\x00\x00\x53\x14\xc0\x07\x04\x43\x43\xa0\x01\x00\x43";
+    match long_frame(alloc, front, 5000) {
+        Ok(long) => {
+            let mut framer = Framer::new(alloc, 65536);
+            let answer = is_written_from_pieces(alloc, &mut framer, long.as_slice());
+            drop(framer);
+            answer
+        }
+        Err(_) => false,
+    }
+}
+
+#[test]
+fn a_long_frame_in_pieces(rt: HostRuntime) {
+    assert!(rt; is_long_in_pieces(rt.alloc()));
 }
 
 /// Why a frame of this performative and payload is not written; told by both calls, or else none.
@@ -331,222 +562,64 @@ fn detach(alloc: Global, error: Option<Boxed<AmqpError>>) -> Option<FrameRefusal
     refusal(alloc, Performative::Detach(body), Bytes::from_static(b""))
 }
 
-#[test]
-fn lengths(rt: HostRuntime) -> Result<(), Fail> {
-    let transfer = octets(rt.alloc(), T)?;
-    assert!(rt; written(rt.alloc(), transfer.as_slice(), 27) == Ok((27, true)));
-    assert!(rt; written(rt.alloc(), transfer.as_slice(), 26) == Err(FrameRefusal::FrameTooBig));
-    Ok(())
+fn are_flows_and_deliveries(alloc: Global) -> bool {
+    flow(b"", None, alloc) == None
+        && flow(b"x", None, alloc) == UNFAIR
+        && flow(b"", null(alloc), alloc) == UNFAIR
+        && transfer(alloc, Some(1)) == None
+        && transfer(alloc, Some(2)) == UNFAIR
 }
 
-/// Whether the octets, in pieces, are written for the frame that they are.
-fn is_written_from_pieces(alloc: Global, octets: &[u8]) -> bool {
-    let mut framer = Framer::new(alloc, 65536);
-    for piece in octets.chunks(700) {
-        match framer.feed(piece) {
-            Ok((_, Some(frame))) => {
-                let answer = compared(write_frame(alloc, &frame, 65536), octets);
-                drop(frame);
-                return answer == Ok((octets.len(), true));
-            }
-            _ => continue,
-        }
-    }
-    false
+fn are_states(alloc: Global) -> bool {
+    disposition(alloc, Some(DeliveryState::Accepted)) == None
+        && disposition(alloc, other(alloc)) == UNFAIR
+        && disposition(alloc, described(alloc, 0x33)) == None
+        && disposition(alloc, described(alloc, 0x24)) == UNFAIR
 }
 
-/// A transfer with 4980 octets of payload: room for it grows from piece to piece.
-#[test]
-fn a_long_frame_in_pieces(rt: HostRuntime) -> Result<(), Fail> {
-    let alloc = rt.alloc();
-    let mut long = octets(alloc, "0000138802000000 005314c00704 43 43a00100 43")?;
-    long.resize(5000, 0x61)?;
-    assert!(rt; is_written_from_pieces(alloc, long.as_slice()));
-    Ok(())
+fn are_links(alloc: Global) -> bool {
+    begin(alloc, None) == None
+        && begin(alloc, null(alloc)) == UNFAIR
+        && attach(alloc, Some(2), None) == None
+        && attach(alloc, Some(3), None) == UNFAIR
+        && attach(alloc, None, null(alloc)) == UNFAIR
 }
 
-/// A name of 256 octets: its size and the list's take four.
-#[test]
-fn a_long_name(rt: HostRuntime) -> Result<(), Fail> {
-    let alloc = rt.alloc();
-    let mut long = octets(
-        alloc,
-        "0000011b02000000 005312d00000010b00000003 b100000100",
-    )?;
-    long.resize(281, 0x71)?;
-    long.extend_from_slice(&[0x43, 0x41])?;
-    assert!(rt; written(alloc, long.as_slice(), 65536) == Ok((283, true)));
-    Ok(())
+fn are_endings(alloc: Global) -> bool {
+    open(alloc, None) == None
+        && open(alloc, null(alloc)) == UNFAIR
+        && close(alloc, None) == None
+        && close(alloc, failure(alloc, "x", null(alloc))) == UNFAIR
 }
 
-/// The room of octets that are nobody else's.
-fn room_of(octets: Bytes) -> Result<usize, AllocError> {
-    match octets.reclaim() {
-        Some(owned) => Ok(owned.into_vec()?.capacity()),
-        None => Ok(usize::MAX),
-    }
-}
-
-/// The room of what is written for the frame that these octets are.
-fn room_written(alloc: Global, octets: &[u8]) -> Option<usize> {
-    let mut framer = Framer::new(alloc, 65536);
-    match framer.feed(octets) {
-        Ok((_, Some(frame))) => {
-            let written = write_frame(alloc, &frame, 65536);
-            drop(frame);
-            match written {
-                Ok(again) => room_of(again).ok(),
-                Err(_) => None,
-            }
-        }
-        _ => None,
-    }
-}
-
-/// Appends the frame that these octets are.
-fn append(alloc: Global, octets: &[u8], out: &mut Vec<u8>) -> Result<(), FrameRefusal> {
-    let mut framer = Framer::new(alloc, 65536);
-    match framer.feed(octets) {
-        Ok((_, Some(frame))) => {
-            let written = append_frame(&frame, 65536, out);
-            drop(frame);
-            written
-        }
-        _ => Err(FrameRefusal::NoMemory),
-    }
-}
-
-/// Whether octets with the room for this frame keep it, and have twice what they need at most with a second one.
-fn is_room_kept(alloc: Global, octets: &[u8]) -> bool {
-    let Ok(mut out) = Vec::with_capacity(alloc, octets.len()) else {
-        return false;
-    };
-    if append(alloc, octets, &mut out).is_err() || out.capacity() != octets.len() {
-        return false;
-    }
-    append(alloc, octets, &mut out).is_ok() && out.capacity() <= out.len().saturating_mul(2)
-}
-
-/// What no clause tells: a `Bytes` is seen as its octets alone, and a `Vec` that octets were put into may have any room.
-#[test]
-fn room_of_what_is_written(rt: HostRuntime) -> Result<(), Fail> {
-    for text in &EACH {
-        let octets = octets(rt.alloc(), text)?;
-        assert!(rt; room_written(rt.alloc(), octets.as_slice()) == Some(octets.len()));
-        assert!(rt; is_room_kept(rt.alloc(), octets.as_slice()));
-    }
-    Ok(())
+fn are_errors(alloc: Global) -> bool {
+    end(alloc, failure(alloc, "x", None)) == None
+        && end(alloc, failure(alloc, "\u{e9}", None)) == UNFAIR
+        && detach(alloc, None) == None
+        && detach(alloc, failure(alloc, "x", null(alloc))) == UNFAIR
 }
 
 #[test]
-fn frames_of_a_session(rt: HostRuntime) {
-    for text in &[
-        "0000001c02000000 005311c00f04 600000 43 7000000800 707fffffff",
-        "0000001c02000000 005312c00f0a a10171 43 42 5002 5000 40404040 43",
-        "0000001e02000000 005313c01107 43 7000000800 43 707fffffff 43 43 5205",
-        T,
-    ] {
-        assert!(rt; is_written_back(rt.alloc(), text));
-    }
-}
-
-/// With memory at hand no call gives up.
-#[test]
-fn each_kind_and_field(rt: HostRuntime) -> Result<(), Fail> {
-    for text in &EACH {
-        let octets = octets(rt.alloc(), text)?;
-        assert!(rt; is_written_each_way(rt.alloc(), octets.as_slice()));
-    }
-    Ok(())
-}
-
-#[test]
-fn frames_of_a_connection(rt: HostRuntime) {
-    for text in &[
-        "0000001a02000000 005310c00d04 a10161 40 7000010000 600000",
-        "0000001a02000000 005311c00d04 40 43 7000000800 707fffffff",
-        "0000001302000000 005312c00603 a10171 43 41",
-    ] {
-        assert!(rt; is_written_back(rt.alloc(), text));
-    }
-}
-
-#[test]
-fn frames_of_endings(rt: HostRuntime) {
-    for text in &[
-        "00000010 02000000 005315c0030241 43",
-        "00000010 02000000 005316c003024341",
-        "0000000c 02000000 00531745",
-        "0000000c 02000000 00531845",
-        "00000008 02000000",
-    ] {
-        assert!(rt; is_written_back(rt.alloc(), text));
-    }
-}
-
-/// A name in place of a number, and an extended header: the frame is written anew in its canonical form.
-#[test]
-fn other_spellings(rt: HostRuntime) -> Result<(), Fail> {
-    for text in &[
-        "0000001b02000000 00a30f616d71703a636c6f73653a6c697374 45",
-        "00000010 03000000 01020304 00531745",
-    ] {
-        let octets = octets(rt.alloc(), text)?;
-        assert!(rt; written(rt.alloc(), octets.as_slice(), 65536) == Ok((12, false)));
-    }
-    Ok(())
-}
-
-#[test]
-fn unfair_flows_and_deliveries(rt: HostRuntime) {
-    let alloc = rt.alloc();
-    assert!(rt; flow(b"", None, alloc) == None);
-    assert!(rt; flow(b"x", None, alloc) == UNFAIR);
-    assert!(rt; flow(b"", null(alloc), alloc) == UNFAIR);
-    assert!(rt; transfer(alloc, Some(1)) == None);
-    assert!(rt; transfer(alloc, Some(2)) == UNFAIR);
-}
-
-#[test]
-fn unfair_states(rt: HostRuntime) {
-    let alloc = rt.alloc();
-    assert!(rt; disposition(alloc, Some(DeliveryState::Accepted)) == None);
-    assert!(rt; disposition(alloc, other(alloc)) == UNFAIR);
-    assert!(rt; disposition(alloc, described(alloc, 0x33)) == None);
-    assert!(rt; disposition(alloc, described(alloc, 0x24)) == UNFAIR);
-}
-
-#[test]
-fn unfair_links(rt: HostRuntime) {
-    let alloc = rt.alloc();
-    assert!(rt; begin(alloc, None) == None);
-    assert!(rt; begin(alloc, null(alloc)) == UNFAIR);
-    assert!(rt; attach(alloc, Some(2), None) == None);
-    assert!(rt; attach(alloc, Some(3), None) == UNFAIR);
-    assert!(rt; attach(alloc, None, null(alloc)) == UNFAIR);
-}
-
-#[test]
-fn unfair_endings(rt: HostRuntime) {
-    let alloc = rt.alloc();
-    assert!(rt; open(alloc, None) == None);
-    assert!(rt; open(alloc, null(alloc)) == UNFAIR);
-    assert!(rt; close(alloc, None) == None);
-    assert!(rt; close(alloc, failure(alloc, "x", null(alloc))) == UNFAIR);
-}
-
-#[test]
-fn unfair_errors(rt: HostRuntime) {
-    let alloc = rt.alloc();
-    assert!(rt; end(alloc, failure(alloc, "x", None)) == None);
-    assert!(rt; end(alloc, failure(alloc, "\u{e9}", None)) == UNFAIR);
-    assert!(rt; detach(alloc, None) == None);
-    assert!(rt; detach(alloc, failure(alloc, "x", null(alloc))) == UNFAIR);
+fn unfair_frames(rt: HostRuntime) {
+    assert!(rt; are_flows_and_deliveries(rt.alloc()));
+    assert!(rt; are_states(rt.alloc()));
+    assert!(rt; are_links(rt.alloc()));
+    assert!(rt; are_endings(rt.alloc()));
+    assert!(rt; are_errors(rt.alloc()));
 }
 
 /// A frame without a body is empty, so no stored run shows this.
+fn is_no_performative(alloc: Global, octets: &[u8]) -> bool {
+    match read_performative(alloc, octets) {
+        Ok((performative, _)) => {
+            drop(performative);
+            false
+        }
+        Err(fault) => matches!(fault, BodyFault::NoBody),
+    }
+}
+
 #[test]
 fn no_octets_are_no_performative(rt: HostRuntime) {
-    let read = read_performative(rt.alloc(), &[]);
-    assert!(rt; matches!(&read, Err(BodyFault::NoBody)));
+    assert!(rt; is_no_performative(rt.alloc(), &[]));
 }

@@ -1,8 +1,8 @@
-//! Sections of a message and whole messages, in the spellings that peers use.
-ghost use Rattle.std.specs.Prelude.{◌≤◌, length};
-
+//! Sections of a message and whole messages, in the spellings that peers use. A section, a message and a value are owned by one helper each, and lent
+//! to what looks at them. A call that is refused memory is made `again` in tests of growths alone.
+use crate::types::reads;
 use amqp_messages::*;
-use amqp_types::{Value, read_value};
+use amqp_types::{Value, WriteFault};
 use bytes::Bytes;
 use std::alloc::{AllocError, Global};
 
@@ -14,17 +14,30 @@ const MESSAGE: &[u8] = &[
     0x70, 0xc1, 1, 0,
 ];
 
-// The kind of the section that begins there, the octets of its body where it is a binary, and how many octets it takes.
-fn section(alloc: Global, octets: &Bytes, from: usize) -> Option<(SectionKind, Bytes, usize)>
-    requires { from ≤ length octets.now }
-{
-    let Ok((section, used)) = read_section(alloc, octets, from) else {
-        return None;
-    };
-    let Section { kind, body } = section;
-    match body {
-        Value::Binary(payload) => Some((kind, payload, used)),
-        _other => Some((kind, Bytes::new(), used)),
+// Where a section of it begins, its kind, the octets of its body where it is a binary, and how many octets it takes.
+const SECTIONS: &[(usize, SectionKind, &[u8], usize)] = &[
+    (0, SectionKind::Header, &[], 7),
+    (7, SectionKind::Properties, &[], 9),
+    (16, SectionKind::Data, b"hi", 7),
+    (23, SectionKind::Data, b"!", 16),
+    (39, SectionKind::Footer, &[], 21),
+];
+
+const NO_SECTIONS: &[&[u8]] = &[
+    &[],
+    // a number past the last
+    &[0x00, 0x53, 0x79, 0x45],
+    // data that is a list
+    &[0x00, 0x53, 0x75, 0x45],
+    // a header cut short
+    &[0x00, 0x53, 0x70, 0xc0, 2, 1],
+];
+
+// Whether the value is that binary; what is none has no octets.
+fn is_binary(value: &Value, octets: &[u8]) -> bool {
+    match value {
+        Value::Binary(found) => found.as_slice() == octets,
+        _ => octets.is_empty(),
     }
 }
 
@@ -34,45 +47,38 @@ fn is_section(alloc: Global, from: usize, kind: SectionKind, payload: &[u8], lon
     if from > octets.len() {
         return false;
     }
-    match section(alloc, &octets, from) {
-        Some((found, binary, used)) => {
-            found == kind && binary.as_slice() == payload && used == long
+    match read_section(alloc, &octets, from) {
+        Ok((section, used)) => {
+            let is_same = section.kind == kind && used == long && is_binary(&section.body, payload);
+            drop(section);
+            is_same
         }
-        None => false,
+        Err(_) => false,
     }
 }
 
 fn is_no_section(alloc: Global, octets: &'static [u8]) -> bool {
     match read_section(alloc, &Bytes::from_static(octets), 0) {
-        Err(SectionFault::NoSection) => true,
-        _ => false,
+        Ok((section, _)) => {
+            drop(section);
+            false
+        }
+        Err(fault) => fault == SectionFault::NoSection,
     }
 }
 
 #[test]
-fn each_section_in_turn(rt: HostRuntime) {
-    let alloc = rt.alloc();
-    assert!(rt; is_section(alloc, 0, SectionKind::Header, &[], 7));
-    assert!(rt; is_section(alloc, 7, SectionKind::Properties, &[], 9));
-    assert!(rt; is_section(alloc, 16, SectionKind::Data, b"hi", 7));
-    assert!(rt; is_section(alloc, 23, SectionKind::Data, b"!", 16));
-    assert!(rt; is_section(alloc, 39, SectionKind::Footer, &[], 21));
-}
-
-#[test]
-fn what_is_no_section(rt: HostRuntime) {
-    let alloc = rt.alloc();
-    assert!(rt; is_no_section(alloc, &[]));
-    // a number past the last
-    assert!(rt; is_no_section(alloc, &[0x00, 0x53, 0x79, 0x45]));
-    // data that is a list
-    assert!(rt; is_no_section(alloc, &[0x00, 0x53, 0x75, 0x45]));
-    // a header cut short
-    assert!(rt; is_no_section(alloc, &[0x00, 0x53, 0x70, 0xc0, 2, 1]));
+fn sections(rt: HostRuntime) {
+    for (from, kind, payload, long) in SECTIONS {
+        assert!(rt; is_section(rt.alloc(), *from, *kind, payload, *long));
+    }
+    for octets in NO_SECTIONS {
+        assert!(rt; is_no_section(rt.alloc(), octets));
+    }
 }
 
 // As Proton's client sent it: durable, priority 9, five seconds to live; an annotation; an id, an address and a subject; a property; a map.
-pub(crate) const FULL: &[u8] = &[
+const FULL: &[u8] = &[
     0x00, 0x53, 0x70, 0xc0, 0x09, 0x03, 0x41, 0x50, 0x09, 0x70, 0x00, 0x00, 0x13, 0x88, 0x00, 0x53,
     0x72, 0xd1, 0x00, 0x00, 0x00, 0x0d, 0x00, 0x00, 0x00, 0x02, 0xa3, 0x05, 0x78, 0x2d, 0x6f, 0x70,
     0x74, 0x55, 0x02, 0x00, 0x53, 0x73, 0xc0, 0x0a, 0x04, 0x53, 0x07, 0x40, 0xa1, 0x01, 0x71, 0xa1,
@@ -89,7 +95,7 @@ const HELLO: &[u8] = &[
 ];
 
 // The source of one of its attaches: an address, a mode, a filter, outcomes and capabilities; and the target of another.
-pub(crate) const SOURCE: &[u8] = &[
+const SOURCE: &[u8] = &[
     0x00, 0x53, 0x28, 0xc0, 0xab, 0x0b, 0xa1, 0x01, 0x72, 0x43, 0x40, 0x43, 0x42, 0x40, 0xa3, 0x04,
     0x63, 0x6f, 0x70, 0x79, 0xd1, 0x00, 0x00, 0x00, 0x44, 0x00, 0x00, 0x00, 0x02, 0xa3, 0x08, 0x73,
     0x65, 0x6c, 0x65, 0x63, 0x74, 0x6f, 0x72, 0x00, 0xa3, 0x21, 0x61, 0x70, 0x61, 0x63, 0x68, 0x65,
@@ -103,14 +109,14 @@ pub(crate) const SOURCE: &[u8] = &[
     0x00, 0x05, 0x71, 0x75, 0x65, 0x75, 0x65, 0x00, 0x00, 0x00, 0x05, 0x74, 0x6f, 0x70, 0x69, 0x63,
 ];
 
-pub(crate) const TARGET: &[u8] = &[
+const TARGET: &[u8] = &[
     0x00, 0x53, 0x29, 0xc0, 0x0a, 0x07, 0xa1, 0x01, 0x61, 0x43, 0x40, 0x43, 0x42, 0x40, 0x40,
 ];
 
-fn message(alloc: Global, octets: &'static [u8]) -> Option<Message> {
-    match read_message(alloc, &Bytes::from_static(octets)) {
-        Ok(message) => Some(message),
-        Err(_) => None,
+fn message(alloc: Global, octets: &Bytes, again: bool) -> Result<Message, MessageFault> {
+    match read_message(alloc, octets) {
+        Err(MessageFault::NoMemory) if again => read_message(alloc, octets),
+        answer => answer,
     }
 }
 
@@ -137,15 +143,6 @@ fn has_five(message: &Message) -> bool {
         && body_of(message, 4, SectionKind::AmqpValue).is_some()
 }
 
-#[test]
-fn a_message_of_a_peer(rt: HostRuntime) {
-    let is_there = match message(rt.alloc(), FULL) {
-        Some(message) => has_five(&message),
-        None => false,
-    };
-    assert!(rt; is_there);
-}
-
 fn header_of(message: &Message) -> Option<Header> {
     Header::read(items_of(body_of(message, 0, SectionKind::Header)?)?)
 }
@@ -162,15 +159,6 @@ fn has_header(message: &Message) -> bool {
         Some(header) => header == expected,
         None => false,
     }
-}
-
-#[test]
-fn its_header(rt: HostRuntime) {
-    let is_there = match message(rt.alloc(), FULL) {
-        Some(message) => has_header(&message),
-        None => false,
-    };
-    assert!(rt; is_there);
 }
 
 fn properties_of(message: &Message) -> Option<Properties<'_>> {
@@ -204,87 +192,112 @@ fn has_properties(message: &Message) -> bool {
     }
 }
 
-#[test]
-fn its_properties(rt: HostRuntime) {
-    let is_there = match message(rt.alloc(), FULL) {
-        Some(message) => has_properties(&message),
-        None => false,
-    };
-    assert!(rt; is_there);
-}
-
-fn written(alloc: Global, message: &Message) -> Option<Vec<u8>> {
-    let mut octets = Vec::new(alloc);
-    match write_message(message, &mut octets) {
-        Ok(()) => Some(octets),
-        Err(_) => None,
+// Whether the message is written behind the octets, of which there are as many as before where it was refused.
+fn is_written_behind(message: &Message, octets: &mut Vec<u8>, again: bool) -> bool {
+    let before = octets.len();
+    match write_message(message, octets) {
+        Err(WriteFault::NoMemory) if again && octets.len() == before => {
+            write_message(message, octets).is_ok()
+        }
+        answer => answer.is_ok(),
     }
 }
 
-// Whether the message is written as these octets, and so many are told.
-fn is_written(alloc: Global, message: &Message, octets: &[u8]) -> bool {
-    match written(alloc, message) {
-        Some(written) => {
-            message_size(message) == Some(octets.len() as u64) && written.as_slice() == octets
+// Whether the message is written as these octets, and so many are told; and once more behind.
+fn is_written(alloc: Global, message: &Message, octets: &[u8], again: bool) -> bool {
+    let mut twice = Vec::new(alloc);
+    message_size(message) == Some(octets.len() as u64)
+        && is_written_behind(message, &mut twice, again)
+        && twice.as_slice() == octets
+        && is_written_behind(message, &mut twice, again)
+        && twice.len() == 2 * octets.len()
+        && twice.as_slice().ends_with(octets)
+}
+
+fn shares(alloc: Global, octets: &[u8], again: bool) -> Result<Bytes, AllocError> {
+    match Bytes::copy_from_slice(alloc, octets) {
+        Err(_) if again => Bytes::copy_from_slice(alloc, octets),
+        answer => answer,
+    }
+}
+
+// Whether these octets are the same message.
+fn is_message(alloc: Global, message: &Message, octets: &[u8], again: bool) -> bool {
+    let Ok(octets) = shares(alloc, octets, again) else {
+        return false;
+    };
+    match self::message(alloc, &octets, again) {
+        Ok(other) => {
+            let is_same = other == *message;
+            drop(other);
+            is_same
+        }
+        Err(_) => false,
+    }
+}
+
+// Whether fewer octets than these are written, and are the same message.
+fn is_written_shorter(alloc: Global, message: &Message, octets: &[u8], again: bool) -> bool {
+    let mut shorter = Vec::new(alloc);
+    is_written_behind(message, &mut shorter, again)
+        && shorter.len() < octets.len()
+        && is_message(alloc, message, shorter.as_slice(), again)
+}
+
+// Whether it is the section of its kind in the message.
+fn is_found(message: &Message, kind: SectionKind, section: &Section) -> bool {
+    match message.find(kind) {
+        Some(body) => section.kind == kind && section.body == *body,
+        None => false,
+    }
+}
+
+// The same of what was built.
+fn is_built(message: &Message, kind: SectionKind, built: Result<Section, AllocError>) -> bool {
+    match built {
+        Ok(section) => {
+            let is_found = is_found(message, kind, &section);
+            drop(section);
+            is_found
+        }
+        Err(_) => false,
+    }
+}
+
+fn is_header_built(alloc: Global, message: &Message, again: bool) -> bool {
+    match header_of(message) {
+        Some(header) => {
+            let built = match header.to_section(alloc) {
+                Err(_) if again => header.to_section(alloc),
+                built => built,
+            };
+            is_built(message, SectionKind::Header, built)
         }
         None => false,
     }
 }
 
-#[test]
-fn a_message_is_written_as_a_peer_wrote_it(rt: HostRuntime) {
-    let is_there = match message(rt.alloc(), HELLO) {
-        Some(message) => is_written(rt.alloc(), &message, HELLO),
+fn are_properties_built(alloc: Global, message: &Message, again: bool) -> bool {
+    match properties_of(message) {
+        Some(properties) => {
+            let built = match properties.to_section(alloc) {
+                Err(_) if again => properties.to_section(alloc),
+                built => built,
+            };
+            is_built(message, SectionKind::Properties, built)
+        }
         None => false,
-    };
-    assert!(rt; is_there);
-}
-
-// Whether fewer octets than these are written, and are the same message.
-fn is_written_shorter(alloc: Global, message: &Message, octets: &[u8]) -> bool {
-    let Some(shorter) = written(alloc, message) else {
-        return false;
-    };
-    let Ok(copy) = Bytes::copy_from_slice(alloc, &shorter) else {
-        return false;
-    };
-    match read_message(alloc, &copy) {
-        Ok(again) => shorter.len() < octets.len() && again == *message,
-        Err(_) => false,
     }
 }
 
-#[test]
-fn a_message_is_written_shorter(rt: HostRuntime) {
-    let is_there = match message(rt.alloc(), FULL) {
-        Some(message) => is_written_shorter(rt.alloc(), &message, FULL),
-        None => false,
-    };
-    assert!(rt; is_there);
-}
-
-fn has_fault(alloc: Global, octets: &'static [u8], expected: MessageFault) -> bool {
-    match read_message(alloc, &Bytes::from_static(octets)) {
-        Ok(_) => false,
-        Err(fault) => fault == expected,
-    }
-}
-
-#[test]
-fn what_is_no_message(rt: HostRuntime) {
-    let alloc = rt.alloc();
-    assert!(rt; has_fault(alloc, &[], MessageFault::NoBody));
-    // a header alone
-    assert!(rt; has_fault(alloc, &[0x00, 0x53, 0x70, 0x45], MessageFault::NoBody));
-    // a number past the last, behind a header
-    let none: &[u8] = &[0x00, 0x53, 0x70, 0x45, 0x00, 0x53, 0x79, 0x45];
-    assert!(rt; has_fault(alloc, none, MessageFault::NoSection { at: 4 }));
-    // two headers
-    let twice: &[u8] = &[0x00, 0x53, 0x70, 0x45, 0x00, 0x53, 0x70, 0x45];
-    assert!(rt; has_fault(alloc, twice, MessageFault::OutOfOrder { at: 4 }));
-    // a value behind data
-    let mixed: &[u8] = &[0x00, 0x53, 0x75, 0xa0, 0, 0x00, 0x53, 0x77, 0x40];
-    assert!(rt; has_fault(alloc, mixed, MessageFault::OutOfOrder { at: 5 }));
+// A message with all its sections, which is written shorter.
+fn is_full(alloc: Global, message: &Message, octets: &[u8], again: bool) -> bool {
+    has_five(message)
+        && has_header(message)
+        && has_properties(message)
+        && is_written_shorter(alloc, message, octets, again)
+        && is_header_built(alloc, message, again)
+        && are_properties_built(alloc, message, again)
 }
 
 fn has_data_twice(message: &Message) -> bool {
@@ -293,19 +306,97 @@ fn has_data_twice(message: &Message) -> bool {
         && body_of(message, 3, SectionKind::Data).is_some()
 }
 
-#[test]
-fn data_may_repeat(rt: HostRuntime) {
-    let is_there = match message(rt.alloc(), MESSAGE) {
-        Some(message) => has_data_twice(&message),
-        None => false,
-    };
-    assert!(rt; is_there);
+// What is asked of a message.
+enum Asked {
+    Full,
+    Written,
+    DataTwice,
 }
 
-fn value(alloc: Global, octets: &[u8]) -> Option<Value> {
-    match read_value(alloc, octets) {
-        Ok((value, _)) => Some(value),
-        Err(_) => None,
+const MESSAGES: &[(&[u8], Asked)] = &[
+    (FULL, Asked::Full),
+    // written as the peer wrote it
+    (HELLO, Asked::Written),
+    (MESSAGE, Asked::DataTwice),
+];
+
+// Whether the message that these octets are is as it should be.
+fn is_as_asked(alloc: Global, octets: &'static [u8], asked: &Asked, again: bool) -> bool {
+    match message(alloc, &Bytes::from_static(octets), again) {
+        Ok(message) => {
+            let is_so = match asked {
+                Asked::Full => is_full(alloc, &message, octets, again),
+                Asked::Written => is_written(alloc, &message, octets, again),
+                Asked::DataTwice => has_data_twice(&message),
+            };
+            drop(message);
+            is_so
+        }
+        Err(_) => false,
+    }
+}
+
+// Whether a message of data is written so, as a peer wrote it.
+fn is_data_written(alloc: Global, octets: &[u8], again: bool) -> bool {
+    let made = match Message::of_data(alloc, Bytes::from_static(b"octets")) {
+        Err(_) if again => Message::of_data(alloc, Bytes::from_static(b"octets")),
+        made => made,
+    };
+    match made {
+        Ok(message) => {
+            let is_so = is_written(alloc, &message, octets, again);
+            drop(message);
+            is_so
+        }
+        Err(_) => false,
+    }
+}
+
+pub(crate) fn are_messages(alloc: Global, again: bool) -> bool {
+    for (octets, asked) in MESSAGES {
+        if !is_as_asked(alloc, octets, asked, again) {
+            return false;
+        }
+    }
+    is_data_written(alloc, b"\x00\x53\x75\xa0\x06octets", again)
+}
+
+const FAULTY: &[(&[u8], MessageFault)] = &[
+    (&[], MessageFault::NoBody),
+    // a header alone
+    (&[0x00, 0x53, 0x70, 0x45], MessageFault::NoBody),
+    // a number past the last, behind a header
+    (
+        &[0x00, 0x53, 0x70, 0x45, 0x00, 0x53, 0x79, 0x45],
+        MessageFault::NoSection { at: 4 },
+    ),
+    // two headers
+    (
+        &[0x00, 0x53, 0x70, 0x45, 0x00, 0x53, 0x70, 0x45],
+        MessageFault::OutOfOrder { at: 4 },
+    ),
+    // a value behind data
+    (
+        &[0x00, 0x53, 0x75, 0xa0, 0, 0x00, 0x53, 0x77, 0x40],
+        MessageFault::OutOfOrder { at: 5 },
+    ),
+];
+
+fn has_fault(alloc: Global, octets: &'static [u8], expected: MessageFault) -> bool {
+    match read_message(alloc, &Bytes::from_static(octets)) {
+        Ok(message) => {
+            drop(message);
+            false
+        }
+        Err(fault) => fault == expected,
+    }
+}
+
+#[test]
+fn messages(rt: HostRuntime) {
+    assert!(rt; are_messages(rt.alloc(), false));
+    for (octets, fault) in FAULTY {
+        assert!(rt; has_fault(rt.alloc(), octets, *fault));
     }
 }
 
@@ -323,15 +414,6 @@ fn is_source(value: &Value) -> bool {
     }
 }
 
-#[test]
-fn the_source_of_an_attach(rt: HostRuntime) {
-    let is_there = match value(rt.alloc(), SOURCE) {
-        Some(value) => is_source(&value) && Target::read(&value).is_none(),
-        None => false,
-    };
-    assert!(rt; is_there);
-}
-
 fn is_target(value: &Value) -> bool {
     match Target::read(value) {
         Some(target) => {
@@ -343,78 +425,24 @@ fn is_target(value: &Value) -> bool {
     }
 }
 
-#[test]
-fn the_target_of_an_attach(rt: HostRuntime) {
-    let is_there = match value(rt.alloc(), TARGET) {
-        Some(value) => is_target(&value),
-        None => false,
-    };
-    assert!(rt; is_there);
-}
-
-// Whether what was built is the section of its kind in the message.
-fn is_built(message: &Message, kind: SectionKind, built: Result<Section, AllocError>) -> bool {
-    match (built, message.find(kind)) {
-        (Ok(section), Some(body)) => section.body == *body,
-        _ => false,
+// What is built of the source that the value is.
+fn source_built(alloc: Global, value: &Value, again: bool) -> Option<Value> {
+    let source = Source::read(value)?;
+    match source.to_value(alloc) {
+        Err(_) if again => source.to_value(alloc).ok(),
+        built => built.ok(),
     }
 }
 
-fn is_header_built(alloc: Global, message: &Message) -> bool {
-    match header_of(message) {
-        Some(header) => is_built(message, SectionKind::Header, header.to_section(alloc)),
-        None => false,
-    }
-}
-
-#[test]
-fn a_header_is_built_as_it_was_read(rt: HostRuntime) {
-    let is_there = match message(rt.alloc(), FULL) {
-        Some(message) => is_header_built(rt.alloc(), &message),
-        None => false,
-    };
-    assert!(rt; is_there);
-}
-
-fn are_properties_built(alloc: Global, message: &Message) -> bool {
-    match properties_of(message) {
-        Some(properties) => {
-            is_built(
-                message,
-                SectionKind::Properties,
-                properties.to_section(alloc),
-            )
+fn is_source_built(alloc: Global, value: &Value, again: bool) -> bool {
+    match source_built(alloc, value, again) {
+        Some(built) => {
+            let is_same = built == *value;
+            drop(built);
+            is_same
         }
         None => false,
     }
-}
-
-#[test]
-fn properties_are_built_as_they_were_read(rt: HostRuntime) {
-    let is_there = match message(rt.alloc(), FULL) {
-        Some(message) => are_properties_built(rt.alloc(), &message),
-        None => false,
-    };
-    assert!(rt; is_there);
-}
-
-fn is_source_built(alloc: Global, value: &Value) -> bool {
-    match Source::read(value) {
-        Some(source) => match source.to_value(alloc) {
-            Ok(built) => built == *value,
-            Err(_) => false,
-        },
-        None => false,
-    }
-}
-
-#[test]
-fn a_source_is_built_as_it_was_read(rt: HostRuntime) {
-    let is_there = match value(rt.alloc(), SOURCE) {
-        Some(value) => is_source_built(rt.alloc(), &value),
-        None => false,
-    };
-    assert!(rt; is_there);
 }
 
 fn has_target(value: &Value) -> bool {
@@ -424,30 +452,50 @@ fn has_target(value: &Value) -> bool {
     }
 }
 
-fn is_target_built(alloc: Global, value: &Value) -> bool {
-    match Target::read(value) {
-        Some(target) => match target.to_value(alloc) {
-            Ok(built) => has_target(&built),
-            Err(_) => false,
-        },
+// What is built of the target that the value is.
+fn target_built(alloc: Global, value: &Value, again: bool) -> Option<Value> {
+    let target = Target::read(value)?;
+    match target.to_value(alloc) {
+        Err(_) if again => target.to_value(alloc).ok(),
+        built => built.ok(),
+    }
+}
+
+// What is built is shorter, so it is read.
+fn is_target_built(alloc: Global, value: &Value, again: bool) -> bool {
+    match target_built(alloc, value, again) {
+        Some(built) => {
+            let is_same = has_target(&built);
+            drop(built);
+            is_same
+        }
         None => false,
     }
 }
 
-#[test]
-fn a_target_is_built_shorter(rt: HostRuntime) {
-    let is_there = match value(rt.alloc(), TARGET) {
-        Some(value) => is_target_built(rt.alloc(), &value),
-        None => false,
-    };
-    assert!(rt; is_there);
+// Whether the terminus of an attach that these octets are is read, and built as it was read.
+fn is_terminus(alloc: Global, octets: &[u8], of_source: bool, again: bool) -> bool {
+    match reads(alloc, octets, again) {
+        Ok((value, _)) => {
+            let is_so = if of_source {
+                is_source(&value)
+                    && Target::read(&value).is_none()
+                    && is_source_built(alloc, &value, again)
+            } else {
+                is_target(&value) && is_target_built(alloc, &value, again)
+            };
+            drop(value);
+            is_so
+        }
+        Err(_) => false,
+    }
+}
+
+pub(crate) fn are_termini(alloc: Global, again: bool) -> bool {
+    is_terminus(alloc, SOURCE, true, again) && is_terminus(alloc, TARGET, false, again)
 }
 
 #[test]
-fn a_message_of_data_is_written_as_a_peer_wrote_it(rt: HostRuntime) {
-    let is_there = match Message::of_data(rt.alloc(), Bytes::from_static(b"octets")) {
-        Ok(message) => is_written(rt.alloc(), &message, b"\x00\x53\x75\xa0\x06octets"),
-        Err(_) => false,
-    };
-    assert!(rt; is_there);
+fn termini(rt: HostRuntime) {
+    assert!(rt; are_termini(rt.alloc(), false));
 }
