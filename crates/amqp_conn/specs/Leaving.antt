@@ -1,4 +1,4 @@
--- What a connection leaves: what its steps left of links that are gone, and once it has ended what its links still have.
+-- What a connection leaves: what its steps left of links that are gone, and once it does no step any more what its links still have.
 use Rattle.std.specs.Prelude.{◌≡◌, ◌&&◌, not, Bool, true, false, cond, Option, Some, None, List, [], ◌∷◌, find, ℕ}
 use Rattle.amqp_performatives.specs.declared.bodies.Role.{Role}
 use Rattle.amqp_links.specs.declared.left.Left.{Left}
@@ -8,16 +8,17 @@ use Rattle.amqp_conn.specs.declared.phase.Phase.{Phase}
 use Rattle.amqp_conn.specs.declared.phase.Phase.TheVariants as phase
 use Rattle.amqp_conn.specs.Connection.{Core}
 
-abbrev pub has_ended : Phase → Bool
-has_ended phase.AwaitHeader = false
-has_ended phase.AwaitOpen = false
-has_ended phase.Running = false
-has_ended phase.Closing = false
-has_ended phase.Closed = true
+-- no step is done any more: our close went out, and each operation is refused and each frame dropped until the peer's comes, or all has ended
+abbrev pub is_over : Phase → Bool
+is_over phase.AwaitHeader = false
+is_over phase.AwaitOpen = false
+is_over phase.Running = false
+is_over phase.Closing = true
+is_over phase.Closed = true
 
--- the connection has ended, and its links still have what they had
+-- no step is done any more, and its links still have what they had
 abbrev pub is_ungathered : Core → Bool
-is_ungathered k = has_ended k.phase && not k.gathered
+is_ungathered k = is_over k.phase && not k.gathered
 
 -- it is put behind what was left before
 abbrev pub gathering : Core → Core

@@ -1,5 +1,5 @@
 -- What a peer said: of itself, in its newest frame, and of why it ended something.
-use Rattle.std.specs.Prelude.{ℕ, ◌-◌, Bool, true, false, Option, Some, None, List, [], length, drop, slice_get}
+use Rattle.std.specs.Prelude.{ℕ, ◌-◌, ◌==◌, ◌&&◌, Bool, true, false, Option, Some, None, List, [], length, drop, find, slice_get}
 use Rattle.amqp_performatives.specs.declared.bodies.Role.{Role}
 use Rattle.amqp_performatives.specs.declared.bodies.OpenBody.{OpenBody}
 use Rattle.amqp_performatives.specs.declared.bodies.CloseBody.{CloseBody}
@@ -8,6 +8,7 @@ use Rattle.amqp_performatives.specs.declared.performative.Performative.{Performa
 use Rattle.amqp_performatives.specs.declared.performative.Performative.TheVariants.{Open, Detach, End, Close}
 use Rattle.amqp_frames.specs.declared.frame.Frame.{Frame}
 use Rattle.amqp_rules.specs.declared.reply.Given.{Given}
+use Rattle.amqp_rules.specs.declared.reply.Given.TheVariants.{Gone, Parted}
 use Rattle.amqp_laws.specs.declared.entry.Entry.{Entry}
 use Rattle.amqp_laws.specs.declared.entry.Step.{Step}
 use Rattle.amqp_laws.specs.declared.entry.Step.TheVariants.{Opened, Own, Heard}
@@ -66,3 +67,29 @@ given_by (Some e) = Some e.reply.given
 abbrev pub ended_by : Option Entry → List (Role × ℕ)
 ended_by None = []
 ended_by (Some e) = e.reply.ended
+
+-- the link of this number is left by what was given
+abbrev pub is_left_by : ℕ → Given → Bool
+is_left_by link (Gone k) = k == link
+is_left_by link (Parted k s) = k == link
+is_left_by link g = false
+
+abbrev pub is_detach : Option Performative → Bool
+is_detach (Some (Detach b)) = true
+is_detach _ = false
+
+abbrev pub has_detach : Option Frame → Bool
+has_detach None = false
+has_detach (Some f) = is_detach f.body
+
+-- the entry heard the detach by which the link of this number went
+abbrev pub hears_detach : ℕ → Entry → Bool
+hears_detach link e = has_detach (heard_in e.step) && is_left_by link e.reply.given
+
+abbrev pub error_heard : Option Frame → Option AmqpError
+error_heard None = None
+error_heard (Some f) = error_in f.body
+
+-- why the peer detached the link of this number, as far as its entry is kept: a number is of one link alone, so of one such detach
+abbrev pub detached_by : ℕ → Log → Option AmqpError
+detached_by link l = error_heard (heard_by (find (hears_detach link) (drop l.forgotten l.journal)))

@@ -8,7 +8,7 @@ ghost use Rattle.amqp_conn.specs.Connection.{IsQuiet, connection, reads_frames, 
 ghost use Rattle.amqp_conn.specs.Octets.{new_core};
 ghost use Rattle.amqp_conn.specs.Feeding.{Feeds, MovesOn};
 ghost use Rattle.amqp_conn.specs.Leaving.{Gives, GivesOf, left_of, but_left};
-ghost use Rattle.amqp_conn.specs.Saying.{error_of_close, newest, heard_by, given_by, ended_by};
+ghost use Rattle.amqp_conn.specs.Saying.{error_of_close, newest, heard_by, given_by, ended_by, detached_by};
 ghost use Rattle.amqp_conn.specs.Calling.{IsFit, IsStartFault, Does, Performs, Closes, popped, forgotten};
 
 use crate::config::Config;
@@ -18,7 +18,7 @@ use crate::feeding::{act, frame_shared};
 use crate::header::{fill, read_header};
 use crate::phase::Phase;
 use crate::refused::{CloseRefusal, StartFault};
-use crate::saying::{ended, error_of_close, given, heard};
+use crate::saying::{detached_by, ended, error_of_close, given, heard};
 use crate::treating::{Machine, nothing};
 use amqp_frames::{AmqpError, CloseBody, Frame, Framer, OpenBody, Role};
 use amqp_journal::left::Left;
@@ -125,12 +125,12 @@ impl Conn {
         self.machine.pop_unit()
     }
 
-    /// The first of what is left, in order: what links had ready and told when a detach or an end made them gone, and, once the phase is `Closed`, what
-    /// the links had then. Each is given once. It works in every phase, is no step, and changes nothing else that a reader shows.
+    /// The first of what is left, in order: what links had ready and told when a detach or an end made them gone, and, once the phase is `Closing` or `Closed`, so
+    /// that no operation is done any more, what the links had then. Each is given once. It works in every phase, is no step, and changes nothing else that a reader shows.
     ///
     /// # Errors
     ///
-    /// Want of memory, of the first call after the connection has ended alone; nothing has changed.
+    /// Want of memory, of the first call in those phases alone; nothing has changed.
     pub fn pop_left(&mut self) -> Result<Option<Left>, AllocError>
         ensures gives { IfOk result (λ given. Gives self.old.core given self.new.core) }
         ensures unread { self.new.unread ≡ self.old.unread }
@@ -240,6 +240,14 @@ impl Conn {
         ensures { option_map (λ f. f.now) result ≡ heard_by (newest self.now.core.log) }
     {
         heard(self.machine.logged())
+    }
+
+    /// Why the peer detached the link of this number (part 2, 2.8.14): the error of the detach that it heard of it, as for what that link left (`pop_left`), whose
+    /// number is in it. It is there in every phase, as long as the journal keeps the detach (`forget`). O(n) for n entries that are kept.
+    pub fn detached_by(&self, link: u32) -> Option<&AmqpError>
+        ensures { option_map (λ e. e.now) result ≡ detached_by link self.now.core.log }
+    {
+        detached_by(self.machine.logged(), link)
     }
 
     /// What the journal's newest entry gave, until the next step or `forget`: behind an operation what it gave, as the delivery that was taken. None where no

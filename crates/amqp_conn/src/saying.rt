@@ -1,6 +1,6 @@
 //! What a peer said: of itself, in its newest frame, and of why it ended something.
-ghost use Rattle.std.specs.Prelude.{◌≡◌, None, option_map};
-ghost use Rattle.amqp_conn.specs.Saying.{open_in, close_in, error_of_close, error_in, newest, heard_in, heard_by, given_by, ended_by};
+ghost use Rattle.std.specs.Prelude.{◌≡◌, None, find, option_map};
+ghost use Rattle.amqp_conn.specs.Saying.{open_in, close_in, error_of_close, error_in, newest, heard_in, heard_by, given_by, ended_by, is_left_by, is_detach, has_detach, hears_detach, error_heard, detached_by};
 ghost use Rattle.amqp_conn.specs.Kinds.{kind_of};
 
 use amqp_frames::{AmqpError, CloseBody, Frame, OpenBody, Performative, Role};
@@ -135,5 +135,71 @@ pub(crate) fn ended(logged: &Logged) -> &[(Role, u32)]
     match newest(logged) {
         Some(entry) => entry.reply.ended.as_slice(),
         None => &[],
+    }
+}
+
+fn is_left_by(given: &Given, link: u32) -> bool
+    ensures { result ≡ is_left_by link given.now }
+{
+    match given {
+        Given::Gone(gone) => *gone == link,
+        Given::Parted(parted, _) => *parted == link,
+        _ => false,
+    }
+}
+
+fn is_detach(body: &Option<Performative>) -> bool
+    ensures { result ≡ is_detach body.now }
+{
+    match body {
+        Some(Performative::Detach(_)) => true,
+        _ => false,
+    }
+}
+
+fn has_detach(step: &Step) -> bool
+    ensures { result ≡ has_detach (heard_in step.now) }
+{
+    match heard_in(step) {
+        Some(frame) => is_detach(&frame.body),
+        None => false,
+    }
+}
+
+/// The entry heard the detach by which the link of this number went.
+fn hears_detach(entry: &Entry, link: u32) -> bool
+    ensures { result ≡ hears_detach link entry.now }
+{
+    has_detach(&entry.step) && is_left_by(&entry.reply.given, link)
+}
+
+fn error_heard(step: &Step) -> Option<&AmqpError>
+    ensures { option_map (λ e. e.now) result ≡ error_heard (heard_in step.now) }
+{
+    match heard_in(step) {
+        Some(frame) => error_of(frame),
+        None => None,
+    }
+}
+
+/// The entry that heard the detach by which the link of this number went.
+fn detach_of(entries: &[Entry], link: u32) -> Option<&Entry>
+    ensures { option_map (λ e. e.now) result ≡ find (hears_detach link) entries.now }
+{
+    for place in 0..entries.len() {
+        if hears_detach(&entries[place], link) {
+            return entries.get(place);
+        }
+    }
+    None
+}
+
+/// Why the peer detached the link of this number. O(n) for n entries that are kept.
+pub(crate) fn detached_by(logged: &Logged, link: u32) -> Option<&AmqpError>
+    ensures { option_map (λ e. e.now) result ≡ detached_by link logged.now }
+{
+    match detach_of(logged.journal(), link) {
+        Some(entry) => error_heard(&entry.step),
+        None => None,
     }
 }

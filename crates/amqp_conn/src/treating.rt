@@ -220,17 +220,17 @@ impl Machine {
         self.logged.pop_unit()
     }
 
-    /// The connection has ended, and its links still have what they had.
+    /// No step is done any more, and its links still have what they had.
     fn is_ungathered(&self) -> bool
         ensures { result ≡ is_ungathered self.now }
     {
         match self.phase {
-            Phase::Closed => !self.gathered,
-            Phase::AwaitHeader | Phase::AwaitOpen | Phase::Running | Phase::Closing => false,
+            Phase::Closing | Phase::Closed => !self.gathered,
+            Phase::AwaitHeader | Phase::AwaitOpen | Phase::Running => false,
         }
     }
 
-    /// What the links of a connection have that has ended goes behind what was left before, once.
+    /// What the links of a connection have that does no step any more goes behind what was left before, once.
     pub fn gather(&mut self) -> Result<(), AllocError>
         ensures ok { OnOk result (self.new ≡ gathering self.old) }
         ensures err { OnErr result (self.new ≡ self.old) }
