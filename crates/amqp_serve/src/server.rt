@@ -530,9 +530,12 @@ impl Server {
         }
     }
 
-    /// Begins the first message of a link's queue: whether it did.
+    /// Begins the first message of a link's queue: whether it did. There is room to note it before it is out of its queue, so none that has begun is lost for want of memory.
     fn send_next<R: Wait>(&mut self, rt: &R, hall: &Hall, key: usize, outlet: Outlet) -> bool {
         let Outlet { link, place, .. } = outlet;
+        if !self.makes_room(key) {
+            return false;
+        }
         let Some(message) = hall.store().lock(rt).next(place, outlet.longest) else {
             return false;
         };
@@ -553,6 +556,15 @@ impl Server {
         }
     }
 
+    /// There is memory to note one more that has begun.
+    fn makes_room(&mut self, key: usize) -> bool {
+        match self.driver.handler_mut(key) {
+            Some(visitor) => visitor.sent.reserve(1).is_ok(),
+            None => false,
+        }
+    }
+
+    /// Notes what has begun, for which room was made.
     fn note(&mut self, key: usize, one: Unlearnt) -> bool {
         match self.driver.handler_mut(key) {
             Some(visitor) => visitor.sent.push_back(one).is_ok(),

@@ -1,5 +1,5 @@
 -- What a call that waited in vain has of its link.
-use Rattle.std.specs.Prelude.{ℕ, ◌≡◌, Option, Some, None, Result, Ok, Err}
+use Rattle.std.specs.Prelude.{ℕ, ◌≡◌, Option, None, Result, Ok, Err}
 use Rattle.amqp_performatives.specs.declared.bodies.Role.{Role}
 use Rattle.amqp_performatives.specs.declared.bodies.Role.TheVariants.{Sender, Receiver}
 use Rattle.amqp_links.specs.declared.left.Left.{Left}
@@ -9,20 +9,25 @@ use Rattle.amqp_rules.specs.declared.refusal.Refusal.{Refusal}
 use Rattle.amqp_rules.specs.declared.reply.Given.{Given}
 use Rattle.amqp_journal.specs.declared.receipt.Receipt.{Receipt}
 use Rattle.amqp_conn.specs.Connection.{Connection}
-use Rattle.amqp_conn.specs.Leaving.{GivesOf, left_of, but_left}
+use Rattle.amqp_conn.specs.Leaving.{GivesOf}
 
 -- the call's own answer
-abbrev pub plain : Result (Receipt × Given) (Refusal × Option Left) → Result (Receipt × Given) Refusal
+abbrev pub plain : {E : Type 0} → Result (Receipt × Given) (Refusal × E) → Result (Receipt × Given) Refusal
 plain (Ok r) = Ok r
 plain (Err e) = Err e.0
 
--- the first that the link left, if one is had; else nothing that is left or shown has changed
-abbrev pub LeavesOf : Role → ℕ → Connection → Option Left → Connection → Type 0
-LeavesOf role link c None new = (left_of new.core ≡ left_of c.core) × (but_left new.core ≡ but_left c.core) × (new.unread ≡ c.unread)
-LeavesOf role link c (Some x) new = GivesOf role link c.core (Some x) new.core × (new.unread ≡ c.unread)
+-- the first that the link left, if any, is had, and nothing else has changed; for want of memory nothing has
+abbrev pub LeavesOf : {E : Type 0} → Role → ℕ → Connection → Result (Option Left) E → Connection → Type 0
+LeavesOf role link c (Ok left) new = GivesOf role link c.core left new.core × (new.unread ≡ c.unread)
+LeavesOf role link c (Err _) new = new ≡ c
 
 -- a delivery to who takes of the link, an outcome to who learns by it
-abbrev pub LeavesBehind : Op → Connection → Option Left → Connection → Type 0
+abbrev pub LeavesBehind : {E : Type 0} → Op → Connection → Result (Option Left) E → Connection → Type 0
 LeavesBehind (op.Take link) c left new = LeavesOf Receiver link c left new
 LeavesBehind (op.Learn link) c left new = LeavesOf Sender link c left new
-LeavesBehind o c left new = (left ≡ None) × (new ≡ c)
+LeavesBehind o c left new = (left ≡ Ok None) × (new ≡ c)
+
+-- done, it is as the call leaves it; refused, what the link left is had of that
+abbrev pub HasLeft : {E : Type 0} → Op → Connection → Result (Receipt × Given) (Refusal × Result (Option Left) E) → Connection → Type 0
+HasLeft o c (Ok r) new = new ≡ c
+HasLeft o c (Err e) new = LeavesBehind o c e.1 new

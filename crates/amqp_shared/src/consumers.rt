@@ -32,8 +32,8 @@ pub trait Work {
     fn consume(&mut self, item: &Taken) -> DeliveryState
         ensures { Self.consumes self.old item.now result self.new };
 
-    /// What it consumed was told, and its credit granted where that was due. It is called without the lock, behind each batch: whoever writes what he puts out by himself
-    /// does it here. A work that says nothing does nothing.
+    /// What it consumed was told, and its credit granted where that was due, or what stops it was refused on the way. It is called without the lock, behind each batch:
+    /// whoever writes what he puts out by himself does it here. A work that says nothing does nothing.
     fn told(&mut self)
         ensures { self.new ≡ self.old }
     {}
@@ -57,7 +57,8 @@ pub struct Consumed<N: Name, W> {
 pub struct Terms {
     /// The link that they take them of.
     pub link: u32,
-    /// How many deliveries in all may come, whenever credit is granted.
+    /// How many deliveries in all may come, whenever credit is granted. Those that wait to be taken are not counted: where the peer is faster than its consumers, more
+    /// and more wait.
     pub credit: u32,
     /// When it is granted.
     pub renewal: Renewal,
@@ -117,6 +118,8 @@ fn consume_all<N: Name, W: Work, R: Wait>(
             terms.credit,
             terms.renewal,
         ) {
+            // Some of it may have gone out before the refusal.
+            work.told();
             return Stopped {
                 pass,
                 work,
@@ -143,7 +146,7 @@ fn next_left<N: Name, R: Wait>(rt: &R, shared: &Shared<N>, link: u32) -> Option<
     }
 }
 
-/// Consumes what the link left, until nothing of it is there: how many deliveries.
+/// Consumes what the link left, until nothing of it is there, or memory is refused: how many deliveries.
 fn consume_left<N: Name, W: Work, R: Wait>(
     rt: &R,
     shared: &Shared<N>,
@@ -192,6 +195,10 @@ fn consume<N: Name, W: Work, R: Wait>(rt: &R, shared: &Shared<N>, job: Job<N, W>
 /// and refuses nothing. Each hands back its pass, which says what it asked and was answered: a step for each delivery that it took, one where it
 /// disposed it, and one where it granted. Once it is stopped it consumes what the link left, if it is gone or the connection has ended, and settles
 /// none of it. None of either is allowed, and gives an empty list.
+///
+/// A consumer looks at the credit behind what it has consumed alone. Where deliveries use all of it that nobody takes, since they are aborted or resumed, whoever feeds
+/// grants it again, or the consumers wait for good; so they do where one is stopped by what it was to tell (`FrameTooBig`, want of memory), and the credit
+/// that it would have granted is wanting.
 ///
 /// # Errors
 ///

@@ -17,7 +17,7 @@ const LOOKS: u32 = 50;
 const LONGEST: u64 = 86400;
 
 /// The session of a connection that threads share, lent until this is dropped. Contracts see it as what lies under the lock. Whoever a step has told is woken behind
-/// that, so that nobody wakes up to find the lock taken.
+/// that, so that nobody wakes up to find it still lent.
 pub struct Guard<'a, N: Name> {
     pub(crate) locked: MutexGuard<'a, Locked<N>>,
     pub(crate) conditions: &'a Conditions,

@@ -2,8 +2,9 @@
 ghost use Rattle.std.specs.Prelude.{◌≤◌, ◌≡◌, IfOk, IfErr};
 ghost use Rattle.amqp_conn.specs.Connection.{Connection};
 ghost use Rattle.amqp_shared.specs.Passes.{after};
-ghost use Rattle.amqp_shared.specs.Session.{IsDone, IsReceipt, IsRefused, Fits, EndsWait};
-ghost use Rattle.amqp_shared.specs.Leaving.{plain, LeavesOf, LeavesBehind};
+ghost use Rattle.amqp_conn.specs.Calling.{due_in};
+ghost use Rattle.amqp_shared.specs.Session.{IsDone, IsReceipt, IsRefused, Fits, EndsWait, IsDueAtOnce, Calls};
+ghost use Rattle.amqp_shared.specs.Leaving.{plain, LeavesOf, LeavesBehind, HasLeft};
 
 use crate::guard::Guard;
 use crate::name::Name;
@@ -15,19 +16,20 @@ use amqp_journal::receipt::Receipt;
 use amqp_rules::op::Op;
 use amqp_rules::refusal::Refusal;
 use amqp_rules::reply::Given;
+use std::alloc::AllocError;
 use std::sync::Wait;
 
-/// What a call came to that waits: the receipt and what it gave; or why it stopped, and the first that its link left.
-pub type Waited = Result<(Receipt, Given), (Refusal, Option<Left>)>;
+/// What a call came to that waits: the receipt and what it gave; or why it stopped, and the first that its link left, if any, as `Shared::pop_left_by` answers.
+pub type Waited = Result<(Receipt, Given), (Refusal, Result<Option<Left>, AllocError>)>;
 
 impl<N: Name> Shared<N> {
-    /// As `call_wait`; and where an operation that takes or learns is refused, since its link, the session or the connection has ended, it has the first that the link left
-    /// for it, as `pop_left_by`, under the same lock: nobody has it before. That is no step. None is had where the link left none, or for want of memory (`pop_left_by`
-    /// tells which).
+    /// As `call_wait`; and where an operation that takes or learns is refused, mostly since its link, the session or the connection has ended, it has the first that the link
+    /// left for it, as `pop_left_by`, under the same lock: nobody has it before. That is no step. None is had where the link left
+    /// none, or where the operation neither takes nor learns.
     ///
     /// # Errors
     ///
-    /// Those of `call_wait`, each with what is had.
+    /// Those of `call_wait`, each with what is had; where that wants memory, nothing that is left has changed, and it is there to be asked for again.
     pub fn call_wait_or_left<'b, R: Wait>(
         &self,
         rt: &R,
@@ -41,6 +43,7 @@ impl<N: Name> Shared<N> {
         ensures pass { pass.new ≡ after op.now (plain result.1) pass.old }
         ensures done { IfOk result.1 (λ r. IsDone op.now r.1 result.0.conn) }
         ensures left { IfErr result.1 (λ e. (c : Connection) × IsRefused c op.now e.0 × EndsWait e.0 × LeavesBehind op.now c e.1 result.0.conn) }
+        ensures at_once { IsDueAtOnce (due_in guard.entry.conn.core.phase guard.entry.conn.core.log op.now) → (c : Connection) × Calls guard.entry.conn op.now (plain result.1) c × HasLeft op.now c result.1 result.0.conn }
     {
         let (mut guard, answer) = self.call_wait(rt, guard, pass, op);
         match answer {
@@ -53,24 +56,28 @@ impl<N: Name> Shared<N> {
     }
 
     /// The first that the link left to who takes of it or learns by it.
-    fn left_for(&self, guard: &mut Guard<'_, N>, op: &Op) -> Option<Left>
+    fn left_for(&self, guard: &mut Guard<'_, N>, op: &Op) -> Result<Option<Left>, AllocError>
         ensures { LeavesBehind op.now guard.old.conn result guard.new.conn }
     {
         match op {
             Op::Take { link } => self.left_by(guard, Role::Receiver, *link),
             Op::Learn { link } => self.left_by(guard, Role::Sender, *link),
-            _ => None,
+            _ => Ok(None),
         }
     }
 
-    /// `pop_left_by`, where want of memory gives none.
-    fn left_by(&self, guard: &mut Guard<'_, N>, role: Role, link: u32) -> Option<Left>
+    /// `pop_left_by`, by its one clause on the connection.
+    fn left_by(
+        &self,
+        guard: &mut Guard<'_, N>,
+        role: Role,
+        link: u32,
+    ) -> Result<Option<Left>, AllocError>
         ensures { LeavesOf role link guard.old.conn result guard.new.conn }
     {
         match self.pop_left_by(guard, role, link) {
-            Ok(Some(left)) => Some(left),
-            Ok(None) => None,
-            Err(_) => None,
+            Ok(left) => Ok(left),
+            Err(error) => Err(error),
         }
     }
 }

@@ -34,7 +34,7 @@
 //!    and all units are taken.
 //!    Or the threads that put units out write them, each once it has given the guard back: the writer's end then lies under a lock of its own
 //!    (`amqp_pair` does so, and `Work::told` says to a consumer when).
-//! 5. Whoever waits for what a step has brought is woken when the guard is dropped, once for all steps that were made with it. Of those that wait for a delivery of
+//! 5. Whoever waits for what a step has brought is woken when the guard is dropped, or goes into a call that waits, once for all steps that were made with it. Of those that wait for a delivery of
 //!    one link and have one of sixteen seats one is woken at a time: it looks, takes what it wants, and where it leaves something the next one is woken as it gives the lock
 //!    back. Whoever waits looks for some microseconds before he sleeps.
 //! 6. `close`, with all passes and the writer's end, gives the connection back, and the units that nobody took.

@@ -309,7 +309,8 @@ impl<N: Name> Shared<N> {
     /// # Errors
     ///
     /// Those of `call` but `NoCredit`, `NoWindow` and `Nothing`, for which it waits. Where a link, the session or the connection ends, or the journal is
-    /// full, it looks again, and tells what it is refused for then.
+    /// full, it looks again, and tells what it is refused for then. On a link that we have detached or put aside nothing comes any more, and a call that takes or
+    /// learns waits until the peer has left it, too.
     pub fn call_wait<'b, R: Wait>(
         &self,
         rt: &R,

@@ -13,7 +13,7 @@ pub(crate) const SEATS: usize = 16;
 enum Seat {
     /// No thread has it.
     Free,
-    /// It sleeps until its link has a delivery, or cannot have one any more. Who went to sleep later has the greater number.
+    /// It sleeps until its link has a delivery, or a take of it is refused for another reason than that there is none. Who went to sleep later has the greater number.
     Sleeps { link: u32, since: u64 },
     /// It is woken, and has not looked yet.
     Woken { link: u32 },
@@ -32,8 +32,8 @@ impl Seat {
     }
 }
 
-/// Those who sleep. One of them is woken at a time for each link, the one that went to sleep last, whose memory is the nearest; once it has looked, and has left
-/// something, the next one is.
+/// Those who sleep. One of a link is woken at a time, the one that went to sleep last, whose memory is the nearest; once it has looked, and has left something, the next
+/// one is. Who gives the lock back wakes one, of whatever link.
 #[derive(Clone, Copy)]
 pub(crate) struct Sleepers {
     seats: [Seat; SEATS],
@@ -130,7 +130,8 @@ impl Sleepers {
     }
 }
 
-/// A delivery of the link can be taken, or none ever will: who takes would not be told that there is nothing.
+/// A delivery of the link can be taken, or it is gone: who takes would not be told that there is nothing. (On a link that we have left nothing comes any more, and
+/// there is nothing until the peer leaves it, too.)
 fn has_news(conn: &Conn, link: u32) -> bool
     ensures { IsFalse result → IsNothingYet conn.now link }
 {

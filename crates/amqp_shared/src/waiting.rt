@@ -27,7 +27,7 @@ pub(crate) enum Want {
 pub(crate) enum Change {
     Nothing,
     Brings(Want),
-    /// What is waited for may have come, or may not come any more: all who wait look again.
+    /// What is waited for may have come, or may not come any more: all who wait look again, but those at seats for whose link that is not so.
     Ends,
 }
 
@@ -202,7 +202,7 @@ pub(crate) fn awaited_by(op: &Op) -> Want
     }
 }
 
-/// What an operation may bring to others who wait: its link or its session is gone. No other one brings anything to who waits already: credit, a
+/// What an operation may bring to others who wait: its link or its session is gone, or is to go. No other one brings anything to who waits already: credit, a
 /// window, a delivery and an outcome come from the peer.
 pub(crate) fn brought_by(op: &Op) -> Change
     ensures { result ≡ brought_by_op op.now }

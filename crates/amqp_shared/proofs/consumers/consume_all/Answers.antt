@@ -1,7 +1,7 @@
 use Rattle.std.proofs.Common.{suc, inl, inr, Ok, length, refl, sym, ap, subst, ◌∙◌, ◌+◌, ◌-◌, arith}
 use Rattle.std.proofs.lemmas.List.{length-map}
 use Rattle.amqp_shared.specs.Consuming.{Goer}
-use Rattle.amqp_shared.specs.Batching.{TakesBatch, Batched}
+use Rattle.amqp_shared.specs.Batching.{TakesBatch, Batched, ConsumesAll}
 use Rattle.amqp_shared.specs.declared.batches.Judged.{Judged}
 use Rattle.amqp_shared.proofs.Rounds.{takes-more, batches-more}
 use Rattle.amqp_shared.proofs.consumers.consume_all.Goals as goal
@@ -52,7 +52,7 @@ returns-in-Err-settle_batch g c =
         between = c.take_batch.new.pass;
         takes = subst (λ ts. TakesBatch job.terms.link job.batch.more c.loop.pass ts (Ok tt) c.take_batch.new.pass) (sym all)
             (subst (λ more. TakesBatch job.terms.link more c.loop.pass c.take_batch.new.batch.items (Ok tt) c.take_batch.new.pass) was.1 c.in_default.ensures.takes);
-        consumed = c.judge_all.ensures.consumed;
+        consumed = subst (λ work. ConsumesAll g.W.Work.consumes c.loop.work js work) (sym c.told.ensures) c.judge_all.ensures.consumed;
         settles = c.in-Err-settle_batch.ensures.pass;
       };
     })
@@ -76,6 +76,6 @@ loop-preserved g c =
       settles = c.in_default-settle_batch.ensures.pass;
     }
     in (
-      (suc was.0.0, (before, c.loop.count, c.len.result, refl, was.0.1, subst (λ work. Batched g.W.Work.consumes job.terms job.batch.more before c.len.result (Ok tt) (record { pass = c.settle_batch.new.pass; work = work })) (sym c.told.ensures) last)),
+      (suc was.0.0, (before, c.loop.count, c.len.result, refl, was.0.1, subst (λ work. Batched g.W.Work.consumes job.terms job.batch.more before c.len.result (Ok tt) (record { pass = c.settle_batch.new.pass; work = work })) (sym c.told-in-loop.ensures) last)),
       c.in_default-settle_batch.ensures.room ∙ c.judge_all.ensures.more ∙ c.in_default.ensures.room ∙ was.1,
     )
