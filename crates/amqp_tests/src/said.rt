@@ -35,6 +35,8 @@ enum Do {
     Begin,
     /// Attaches `q` as its receiver, and grants one delivery.
     Attach,
+    /// A step that changes nothing.
+    Beat,
     Close,
     Lost,
     Forget,
@@ -52,6 +54,8 @@ struct Shown {
     ended_by: bool,
     /// The newest frame told it.
     heard: bool,
+    /// A detach of link 0 told it, whose entry is kept.
+    detached: bool,
     /// So many deliveries were ended by the newest step.
     ended: usize,
     phase: Phase,
@@ -103,6 +107,7 @@ fn show(conn: &Conn) -> Shown {
         closed: conn.parting().is_some(),
         ended_by: is_told(conn.ended_by()),
         heard,
+        detached: is_told(conn.detached_by(0)),
         ended: conn.ended().len(),
         phase: conn.phase(),
     }
@@ -129,6 +134,7 @@ fn does(alloc: Global, conn: &mut Conn, what: Do) -> Result<(), AllocError> {
         }
         Do::Begin => drop(conn.apply(&Op::Begin)),
         Do::Attach => receives(alloc, conn)?,
+        Do::Beat => drop(conn.apply(&Op::Beat)),
         Do::Close => drop(conn.close(None)),
         Do::Lost => conn.lost(),
         Do::Forget => conn.forget(),
@@ -158,6 +164,7 @@ const RUNNING: Shown = Shown {
     closed: false,
     ended_by: false,
     heard: false,
+    detached: false,
     ended: 0,
     phase: Phase::Running,
 };
@@ -167,6 +174,7 @@ const CLOSED: Shown = Shown {
     closed: true,
     ended_by: true,
     heard: false,
+    detached: false,
     ended: 0,
     phase: Phase::Closed,
 };
@@ -253,6 +261,7 @@ fn ends_and_detaches_tell_why(rt: HostRuntime) -> Result<(), Fail> {
         Do::Attach,
         Do::Feed(TRANSFER),
         Do::Feed(DETACH),
+        Do::Beat,
         Do::Forget,
     ];
     let told = Shown {
@@ -260,8 +269,17 @@ fn ends_and_detaches_tell_why(rt: HostRuntime) -> Result<(), Fail> {
         ended: 1,
         ..RUNNING
     };
+    let detached = Shown {
+        detached: true,
+        ..told
+    };
+    let kept = Shown {
+        detached: true,
+        ..RUNNING
+    };
     assert!(rt; shows(alloc, &steps[..7], RUNNING));
-    assert!(rt; shows(alloc, &steps[..8], told));
+    assert!(rt; shows(alloc, &steps[..8], detached));
+    assert!(rt; shows(alloc, &steps[..9], kept));
     assert!(rt; shows(alloc, &steps, RUNNING));
     steps[7] = Do::Feed(END);
     assert!(rt; shows(alloc, &steps[..8], told));
