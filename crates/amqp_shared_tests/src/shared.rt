@@ -6,6 +6,7 @@ mod callers;
 mod consumers;
 mod ends;
 mod left;
+mod wakes;
 mod writers;
 
 use amqp_conn::{Config, Phase};
@@ -93,7 +94,10 @@ fn seed_of(alloc: Global, ring: usize, journal_limit: u32) -> Result<Seed, Fail>
 fn hear<N: Name, R: Wait + Abort>(rt: &R, shared: &Shared<N>, pass: &mut Pass<N>, octets: &[u8]) {
     let mut guard = shared.lock(rt);
     let mut rest = octets;
-    for _ in 0..4u8 {
+    for _ in 0..8u8 {
+        if rest.is_empty() {
+            break;
+        }
         let Ok(fed) = shared.feed(&mut guard, pass, rest) else {
             break;
         };

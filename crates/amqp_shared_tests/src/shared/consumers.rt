@@ -2,6 +2,7 @@
 ghost use Rattle.std.specs.Prelude.{◌≡◌, vec_len};
 ghost use Rattle.amqp_shared.specs.Passes.{IsNamed};
 
+use super::wakes::transfer;
 use super::{CLOSE, GREETING, attaches, comes_to, does, hear, left_and_taken, seed};
 use amqp_conn::Conn;
 use amqp_frames::{DeliveryState, Role};
@@ -46,7 +47,7 @@ fn with_deliveries<N: Name, R: Wait + Abort>(
 }
 
 /// An end that receives on link 1.
-fn with_session<N: Name, R: Wait + Abort>(
+pub(super) fn with_session<N: Name, R: Wait + Abort>(
     rt: &R,
     alloc: Global,
     shared: &Shared<N>,
@@ -62,12 +63,12 @@ fn with_session<N: Name, R: Wait + Abort>(
 
 /// Two deliveries may begin on link 1.
 fn grant() -> Op {
-    granting(2)
+    granting(1, 2)
 }
 
-fn granting(credit: u32) -> Op {
+pub(super) fn granting(link: u32, credit: u32) -> Op {
     Op::Grant {
-        link: 1,
+        link,
         credit,
         drain: false,
         echo: false,
@@ -433,13 +434,7 @@ fn stopped_by_a_grant<N: Name + Send + Sync, R: Threads + Wait + Abort + Sync>(
 {
     let (shared, mut pass, _) = open_shared::<N>(seed);
     with_deliveries(rt, alloc, &shared, &mut pass);
-    let more = Op::Grant {
-        link: 1,
-        credit: 5,
-        drain: false,
-        echo: false,
-    };
-    assert!(rt; does(rt, &shared, &mut pass, more).is_some());
+    assert!(rt; does(rt, &shared, &mut pass, granting(1, 5)).is_some());
     let (pass, told) = accepted_on(rt, alloc, &shared, pass, 1)?;
     assert_eq!(rt; told, (1, Refusal::CreditRecedes));
     let made = pass.made();
@@ -568,7 +563,7 @@ fn settled_at_once<N: Name + Send + Sync, R: Threads + Wait + Abort + Sync>(
 {
     let (shared, mut pass, _) = open_shared::<N>(seed);
     with_session(rt, alloc, &shared, &mut pass);
-    assert!(rt; does(rt, &shared, &mut pass, granting(6)).is_some());
+    assert!(rt; does(rt, &shared, &mut pass, granting(1, 6)).is_some());
     hear(rt, &shared, &mut pass, &FIVE[..65]);
     hear(rt, &shared, &mut pass, &FIVE[65..]);
     let Some(own) = pass.split() else {
@@ -597,7 +592,7 @@ fn are_settled(conn: &Conn) -> bool {
         conn,
         &telling(3, 4, DeliveryState::Accepted),
         end.saturating_sub(2),
-    ) && stands_at(conn, &granting(5), end.saturating_sub(1))
+    ) && stands_at(conn, &granting(1, 5), end.saturating_sub(1))
 }
 
 fn telling(first: u32, last: u32, state: DeliveryState) -> Op {
@@ -628,6 +623,111 @@ fn in_batches<N: Name + Send + Sync, R: Threads + Wait + Abort + Sync>(
         renewal: Renewal::Each,
     };
     let mut done = run_consumers_in_batches(rt, shared, passes, works, terms, 4)?;
+    let Some(consumed) = done.pop() else {
+        panic!(rt; "nothing consumed");
+    };
+    let told = (consumed.count, consumed.stopped);
+    Ok((consumed.pass, told))
+}
+
+/// Hears of the next delivery at each of the first four, and ends the connection at the fifth.
+struct Following<'a, N: Name, R: Wait> {
+    rt: &'a R,
+    shared: &'a Shared<N>,
+    pass: Pass<N>,
+}
+
+impl<'a, N: Name, R: Wait> Drop for Following<'a, N, R> {
+    fn drop(self) {
+        let Following {
+            rt: _,
+            shared: _,
+            pass,
+        } = self;
+        drop(pass);
+    }
+}
+
+impl<'a, N: Name, R: Wait> Work for Following<'a, N, R> {
+    fn consume(&mut self, item: &Taken) -> DeliveryState {
+        let mut guard = self.shared.lock(self.rt);
+        let id = u8::try_from(item.id).unwrap_or(u8::MAX);
+        let next = transfer(0, id.wrapping_add(1));
+        if item.id > 3 {
+            self.shared.lost(&mut guard);
+        } else if let Ok(fed) = self.shared.feed(&mut guard, &mut self.pass, &next) {
+            drop(fed);
+        }
+        DeliveryState::Accepted
+    }
+}
+
+#[test]
+fn credit_is_granted_at_half(rt: HostRuntime) -> Result<(), Fail> {
+    let seed = seed(rt.alloc(), 64)?;
+    renewed::<Brand, HostRuntime>(&rt, rt.alloc(), seed, Renewal::AtHalf, &[12, 5])
+}
+
+#[test]
+fn credit_is_granted_at_zero(rt: HostRuntime) -> Result<(), Fail> {
+    let seed = seed(rt.alloc(), 64)?;
+    renewed::<Brand, HostRuntime>(&rt, rt.alloc(), seed, Renewal::AtZero, &[5])
+}
+
+/// Of a credit of four so much is left behind each delivery: two, three, two, three; or two, one, none, three. It is granted again where that is due, at these
+/// places of the journal, counted from its end, and nowhere else.
+fn renewed<N: Name + Send + Sync, R: Threads + Wait + Abort + Sync>(
+    rt: &R,
+    alloc: Global,
+    seed: Seed,
+    renewal: Renewal,
+    places: &[u64],
+) -> Result<(), Fail>
+    requires { IsNamed seed N.name N.parts N.ring }
+{
+    let (shared, mut pass, _) = open_shared::<N>(seed);
+    with_session(rt, alloc, &shared, &mut pass);
+    assert!(rt; does(rt, &shared, &mut pass, granting(1, 4)).is_some());
+    hear(rt, &shared, &mut pass, &transfer(0, 0));
+    let Some(own) = pass.split() else {
+        panic!(rt; "no part");
+    };
+    let (own, told) = followed_by(rt, alloc, &shared, own, pass, renewal)?;
+    assert_eq!(rt; told, (5, Refusal::NotRunning));
+    // Five are taken, and four told of.
+    assert_eq!(rt; own.made(), (places.len() as u64).wrapping_add(9));
+    let guard = shared.lock(rt);
+    assert!(rt; grants_at(guard.conn(), places));
+    Ok(())
+}
+
+fn grants_at(conn: &Conn, places: &[u64]) -> bool {
+    let end = u64::from(conn.logged().steps());
+    let granted = granting(1, 4);
+    let stand = places.iter().all(|place| stands_at(conn, &granted, end.saturating_sub(*place)));
+    drop(granted);
+    stand
+}
+
+/// One consumer that grants a credit of four: its pass, how many it consumed, and what stopped it.
+fn followed_by<N: Name + Send + Sync, R: Threads + Wait + Abort + Sync>(
+    rt: &R,
+    alloc: Global,
+    shared: &Shared<N>,
+    own: Pass<N>,
+    pass: Pass<N>,
+    renewal: Renewal,
+) -> Result<(Pass<N>, (u64, Refusal)), Fail> {
+    let mut passes = Vec::new(alloc);
+    passes.push(own)?;
+    let mut works = Vec::new(alloc);
+    works.push(Following { rt, shared, pass })?;
+    let terms = Terms {
+        link: 1,
+        credit: 4,
+        renewal,
+    };
+    let mut done = run_consumers_in_batches(rt, shared, passes, works, terms, 0)?;
     let Some(consumed) = done.pop() else {
         panic!(rt; "nothing consumed");
     };
