@@ -227,26 +227,49 @@ fn ends_half(held: &mut Held) -> bool {
     is_settled(held, 4294960000, 4294967295) && held.len() == 250 && id_at(held, 1) == Some(2)
 }
 
-/// How many things are asked of tables.
-const ASKED: u8 = 9;
+/// What is asked of a table, with three deliveries but where it is said.
+#[derive(Clone, Copy)]
+enum Asked {
+    EndOnce,
+    ToldOnce,
+    TagInUse,
+    Order,
+    Tags,
+    EndByIds,
+    EndAll,
+    SetTwo,
+    /// Of five hundred deliveries half end.
+    EndHalf,
+}
 
-/// What is asked under this number: of three deliveries, and at last of a thousand.
-fn answers(held: &mut Held, asked: u8) -> bool {
+const ASKED: [Asked; 9] = [
+    Asked::EndOnce,
+    Asked::ToldOnce,
+    Asked::TagInUse,
+    Asked::Order,
+    Asked::Tags,
+    Asked::EndByIds,
+    Asked::EndAll,
+    Asked::SetTwo,
+    Asked::EndHalf,
+];
+
+fn answers(held: &mut Held, asked: Asked) -> bool {
     match asked {
-        0 => three_begin(held) && ends_once(held),
-        1 => three_begin(held) && is_told_once(held),
-        2 => three_begin(held) && is_tag_in_use(held),
-        3 => three_begin(held) && are_in_order(held),
-        4 => three_begin(held) && are_tags(held),
-        5 => three_begin(held) && ends_once_by_ids(held),
-        6 => three_begin(held) && all_end(held),
-        7 => three_begin(held) && sets_two(held),
-        _ => five_hundred_begin(held) && ends_half(held),
+        Asked::EndOnce => three_begin(held) && ends_once(held),
+        Asked::ToldOnce => three_begin(held) && is_told_once(held),
+        Asked::TagInUse => three_begin(held) && is_tag_in_use(held),
+        Asked::Order => three_begin(held) && are_in_order(held),
+        Asked::Tags => three_begin(held) && are_tags(held),
+        Asked::EndByIds => three_begin(held) && ends_once_by_ids(held),
+        Asked::EndAll => three_begin(held) && all_end(held),
+        Asked::SetTwo => three_begin(held) && sets_two(held),
+        Asked::EndHalf => five_hundred_begin(held) && ends_half(held),
     }
 }
 
 /// Whether a table that is empty at first answers as it should.
-fn is_answered(alloc: Global, asked: u8) -> bool {
+fn is_answered(alloc: Global, asked: Asked) -> bool {
     let mut held = Held::new(alloc);
     let answer = answers(&mut held, asked);
     drop(held);
@@ -255,7 +278,7 @@ fn is_answered(alloc: Global, asked: u8) -> bool {
 
 #[test]
 fn tables(rt: HostRuntime) {
-    for asked in 0..ASKED {
+    for asked in ASKED {
         assert!(rt; is_answered(rt.alloc(), asked));
     }
 }
