@@ -136,13 +136,12 @@ impl Tally {
     }
 
     /// What an operation gave.
-    fn have(&mut self, given: Given) {
-        match &given {
+    fn have(&mut self, given: &Given) {
+        match given {
             Given::Taken(taken) => self.take(taken.get()),
             Given::Learned(learned) => self.learn(learned.get()),
             _ => {}
         }
-        drop(given);
     }
 
     /// The frame of a step.
@@ -157,9 +156,14 @@ impl Tally {
 
 /// Does the operation, where that can be done.
 fn does(conn: &mut Conn, tally: &mut Tally, op: Op) {
-    let done = conn.apply(&op);
-    drop(op);
-    if let Ok(given) = done {
+    if conn.perform(op).is_ok() {
+        have(conn, tally);
+    }
+}
+
+/// Counts what the newest step gave.
+fn have(conn: &Conn, tally: &mut Tally) {
+    if let Some(given) = conn.given() {
         tally.have(given);
     }
 }
@@ -285,8 +289,8 @@ fn attaches(alloc: Global, conn: &mut Conn, name: &str, role: Role) -> Result<()
 
 /// Starts a delivery of this tag on link 0.
 fn starts(alloc: Global, conn: &mut Conn, tag: u8) -> Result<(), AllocError> {
-    let payload = Bytes::copy_from_slice(alloc, b"y")?;
     if let Some(tag) = Tag::new(&[tag]) {
+        let payload = Bytes::copy_from_slice(alloc, b"y")?;
         does(conn, &mut NONE, ops::start(0, tag, payload));
     }
     Ok(())

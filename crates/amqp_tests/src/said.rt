@@ -115,15 +115,9 @@ fn show(conn: &Conn) -> Shown {
 
 fn receives(alloc: Global, conn: &mut Conn) -> Result<(), AllocError> {
     let name = Text::new(alloc, "q")?;
-    goes(conn, ops::attach(name, Role::Receiver, None, None));
-    goes(conn, ops::grant(0, 1));
+    let _ = conn.perform(ops::attach(name, Role::Receiver, None, None));
+    let _ = conn.perform(ops::grant(0, 1));
     Ok(())
-}
-
-fn goes(conn: &mut Conn, op: Op) {
-    let answer = conn.apply(&op);
-    drop(op);
-    drop(answer);
 }
 
 fn does(alloc: Global, conn: &mut Conn, what: Do) -> Result<(), AllocError> {
@@ -132,10 +126,16 @@ fn does(alloc: Global, conn: &mut Conn, what: Do) -> Result<(), AllocError> {
         Do::Feed(text) => {
             let _ = hears(conn, octets(alloc, text)?.as_slice());
         }
-        Do::Begin => drop(conn.apply(&Op::Begin)),
+        Do::Begin => {
+            let _ = conn.perform(Op::Begin);
+        }
         Do::Attach => receives(alloc, conn)?,
-        Do::Beat => drop(conn.apply(&Op::Beat)),
-        Do::Close => drop(conn.close(None)),
+        Do::Beat => {
+            let _ = conn.perform(Op::Beat);
+        }
+        Do::Close => {
+            let _ = conn.close(None);
+        }
         Do::Lost => conn.lost(),
         Do::Forget => conn.forget(),
     }

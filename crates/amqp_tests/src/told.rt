@@ -99,18 +99,6 @@ fn attach(alloc: Global) -> Result<Op, AllocError> {
     Ok(ops::attach(name, Role::Receiver, Some(source), None))
 }
 
-fn does(conn: &mut Conn, op: Op) -> bool {
-    let answer = conn.apply(&op);
-    drop(op);
-    match answer {
-        Ok(given) => {
-            drop(given);
-            true
-        }
-        Err(_) => false,
-    }
-}
-
 /// The peer's octets, each of which is used.
 fn is_heard(alloc: Global, conn: &mut Conn) -> Result<bool, AllocError> {
     let octets = octets(alloc, HEARD)?;
@@ -123,11 +111,12 @@ fn is_heard(alloc: Global, conn: &mut Conn) -> Result<bool, AllocError> {
 fn shown(alloc: Global, conn: &mut Conn) -> Result<[(Option<Told>, Option<Told>); 2], AllocError> {
     let none = (None, None);
     let mut shown = [none; 2];
-    if !is_heard(alloc, conn)? || !does(conn, Op::Begin) {
+    if !is_heard(alloc, conn)? || conn.perform(Op::Begin).is_err() {
         return Ok(shown);
     }
     shown[0] = conn.logged().endpoint().link_of(0).map_or(none, told_by);
-    if does(conn, attach(alloc)?) {
+    let attach = attach(alloc)?;
+    if conn.perform(attach).is_ok() {
         conn.forget();
         shown[1] = conn.logged().endpoint().link_of(0).map_or(none, told_by);
     }
