@@ -112,11 +112,20 @@ fn starts<N: Name>(
     guard: &mut Guard<'_, N>,
     pass: &mut Pass<N>,
 ) {
-    for number in 1..3u8 {
-        if let Some(start) = start(alloc, [number, 0]) {
-            let _ = shared.call(guard, pass, &start);
-            drop(start);
-        }
+    starts_one(alloc, shared, guard, pass, 1);
+    starts_one(alloc, shared, guard, pass, 2);
+}
+
+fn starts_one<N: Name>(
+    alloc: Global,
+    shared: &Shared<N>,
+    guard: &mut Guard<'_, N>,
+    pass: &mut Pass<N>,
+    number: u8,
+) {
+    if let Some(start) = start(alloc, [number, 0]) {
+        let _ = shared.call(guard, pass, &start);
+        drop(start);
     }
 }
 
@@ -282,7 +291,8 @@ fn learns_late<N: Name, R: Wait>(rt: &R, shared: &Shared<N>, pass: &mut Pass<N>)
     let is_shut = shared.shut(&mut guard, None).is_ok();
     let (guard, answer) = shared.call_wait_or_left(rt, guard, pass, &Op::Learn { link: 0 });
     drop(guard);
-    is_shut && told(answer) == (Some(Refusal::NotRunning), true)
+    let told = told(answer);
+    is_shut && told == (Some(Refusal::NotRunning), true)
 }
 
 /// Pops the first of what is left: whether that is the outcome of our delivery with this id.
