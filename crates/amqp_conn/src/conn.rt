@@ -38,7 +38,8 @@ use std::marker::Model;
 #[derive(Drop)]
 pub struct Conn {
     alloc: Global,
-    machine: Machine,
+    /// It is behind a pointer, so that a connection is moved at no cost.
+    machine: Boxed<Machine>,
     /// Octets of the peer's header; it has room for all eight.
     head: Vec<u8>,
     framer: Framer,
@@ -61,7 +62,7 @@ impl Model for Conn {
 }
 
 impl Conn {
-    /// A connection whose header waits to go out. It takes room for eight octets, and for our open.
+    /// A connection whose header waits to go out. It takes room for itself, for eight octets, and for our open.
     ///
     /// # Errors
     ///
@@ -78,6 +79,9 @@ impl Conn {
             return Err(StartFault::NoMemory);
         };
         let framer = Framer::new(alloc, machine.max_frame());
+        let Ok(machine) = Boxed::new(alloc, machine) else {
+            return Err(StartFault::NoMemory);
+        };
         Ok(Conn {
             alloc,
             machine,
@@ -92,7 +96,7 @@ impl Conn {
         ensures does { Does self.old.core op.now result self.new.core }
         ensures unread { self.new.unread ≡ self.old.unread }
     {
-        self.machine.apply(op)
+        self.machine.boxed.apply(op)
     }
 
     /// Does an operation, as `apply`, which its entry keeps: nothing is copied, and what it gives stands in the entry (`given`). A refused operation is
@@ -101,7 +105,7 @@ impl Conn {
         ensures performs { Performs self.old.core op result self.new.core }
         ensures unread { self.new.unread ≡ self.old.unread }
     {
-        self.machine.perform(op)
+        self.machine.boxed.perform(op)
     }
 
     /// Puts out our close, with the error, and awaits the peer's (part 2, 2.4.3). What is heard until it comes is dropped.
@@ -114,7 +118,7 @@ impl Conn {
         ensures closes { Closes self.old.core error result self.new.core }
         ensures unread { self.new.unread ≡ self.old.unread }
     {
-        self.machine.close(error)
+        self.machine.boxed.close(error)
     }
 
     /// The first unit that waits to go out, with its number: the octets of one frame, or our header. It takes no memory.
@@ -122,7 +126,7 @@ impl Conn {
         ensures some { IfSome result (λ unit. (unit.number ≡ self.old.core.log.popped) × (slice_get (units self.old.core.log) self.old.core.log.popped ≡ Some unit.bytes) × (self.new ≡ popped self.old)) }
         ensures none { result ≡ None → (waiting self.old.core.log ≡ []) × (self.new ≡ self.old) }
     {
-        self.machine.pop_unit()
+        self.machine.boxed.pop_unit()
     }
 
     /// The first of what is left, in order: what links had ready and told when a detach or an end made them gone, and, once the phase is `Closing` or `Closed`, so
@@ -136,8 +140,8 @@ impl Conn {
         ensures unread { self.new.unread ≡ self.old.unread }
         ensures err { OnErr result (self.new ≡ self.old) }
     {
-        match self.machine.gather() {
-            Ok(()) => Ok(self.machine.logged.pop_left()),
+        match self.machine.boxed.gather() {
+            Ok(()) => Ok(self.machine.boxed.logged.pop_left()),
             Err(error) => Err(error),
         }
     }
@@ -152,8 +156,8 @@ impl Conn {
         ensures unread { self.new.unread ≡ self.old.unread }
         ensures err { OnErr result (self.new ≡ self.old) }
     {
-        match self.machine.gather() {
-            Ok(()) => Ok(self.machine.logged.pop_left_by(role, link)),
+        match self.machine.boxed.gather() {
+            Ok(()) => Ok(self.machine.boxed.logged.pop_left_by(role, link)),
             Err(error) => Err(error),
         }
     }
@@ -169,7 +173,7 @@ impl Conn {
         ensures unread { self.new.unread ≡ self.old.unread }
         ensures err { OnErr result (self.new ≡ self.old) }
     {
-        match self.machine.gather() {
+        match self.machine.boxed.gather() {
             Ok(()) => Ok(self.logged().left_len()),
             Err(error) => Err(error),
         }
@@ -180,7 +184,7 @@ impl Conn {
     pub fn forget(&mut self)
         ensures { self.new ≡ forgotten self.old }
     {
-        self.machine.forget();
+        self.machine.boxed.forget();
     }
 
     /// Where the connection stands.
@@ -188,14 +192,14 @@ impl Conn {
         ensures value { result ≡ self.now.core.phase }
         ensures quiet { IsQuiet self.now }
     {
-        self.machine.phase()
+        self.machine.get().phase()
     }
 
     /// The session with its journal, and the units that wait.
     pub fn logged(&self) -> &Logged
         ensures { result.now ≡ self.now.core.log }
     {
-        self.machine.logged()
+        self.machine.get().logged()
     }
 
     /// The links of this role that can be rejoined, as each would be put aside, in order: for another connection, once the octets of this one ended
@@ -212,7 +216,7 @@ impl Conn {
     pub fn peer(&self) -> Option<&OpenBody>
         ensures { option_map (λ b. b.now) result ≡ self.now.core.peer }
     {
-        match &self.machine.peer {
+        match &self.machine.get().peer {
             Some(body) => Some(body.get()),
             None => None,
         }
@@ -223,14 +227,14 @@ impl Conn {
     pub fn parting(&self) -> Option<&CloseBody>
         ensures { option_map (λ b. b.now) result ≡ self.now.core.parting }
     {
-        self.machine.parting.as_ref()
+        self.machine.get().parting.as_ref()
     }
 
     /// Why the peer closed the connection (part 2, 2.8.14): the error of its close, where one was heard that has an error.
     pub fn ended_by(&self) -> Option<&AmqpError>
         ensures { option_map (λ e. e.now) result ≡ error_of_close self.now.core.parting }
     {
-        error_of_close(&self.machine.parting)
+        error_of_close(&self.machine.get().parting)
     }
 
     /// The frame that the journal's newest entry heard, until the next step or `forget`. Behind a feed that made a step it is the frame that was fed:
@@ -239,7 +243,7 @@ impl Conn {
     pub fn heard(&self) -> Option<&Frame>
         ensures { option_map (λ f. f.now) result ≡ heard_by (newest self.now.core.log) }
     {
-        heard(self.machine.logged())
+        heard(self.machine.get().logged())
     }
 
     /// Why the peer detached the link of this number (part 2, 2.8.14): the error of the detach that it heard of it, as for what that link left (`pop_left`), whose
@@ -247,7 +251,7 @@ impl Conn {
     pub fn detached_by(&self, link: u32) -> Option<&AmqpError>
         ensures { option_map (λ e. e.now) result ≡ detached_by link self.now.core.log }
     {
-        detached_by(self.machine.logged(), link)
+        detached_by(self.machine.get().logged(), link)
     }
 
     /// What the journal's newest entry gave, until the next step or `forget`: behind an operation what it gave, as the delivery that was taken. None where no
@@ -255,7 +259,7 @@ impl Conn {
     pub fn given(&self) -> Option<&Given>
         ensures { option_map (λ g. g.now) result ≡ given_by (newest self.now.core.log) }
     {
-        given(self.machine.logged())
+        given(self.machine.get().logged())
     }
 
     /// The deliveries that the journal's newest entry ended, by our role and id, until the next step or `forget`: what was settled, and what was
@@ -263,15 +267,15 @@ impl Conn {
     pub fn ended(&self) -> &[(Role, u32)]
         ensures { result.now ≡ ended_by (newest self.now.core.log) }
     {
-        ended(self.machine.logged())
+        ended(self.machine.get().logged())
     }
 
     /// The octets ended: the phase is `Closed`, and what was not read is dropped. Nothing else changes, and no close goes out.
     pub fn lost(&mut self)
         ensures { self.new ≡ connection (in_phase Phase.Closed self.old.core) [] }
     {
-        self.machine.lose();
-        self.framer = Framer::new(self.alloc, self.machine.max_frame());
+        self.machine.boxed.lose();
+        self.framer = Framer::new(self.alloc, self.machine.get().max_frame());
     }
 
     /// Takes octets of the piece, at most to the end of one frame, and does what they say. Of a piece that is not empty it uses an octet, or makes

@@ -8,6 +8,7 @@ use crate::fault::ConnFault;
 use crate::fed::Fed;
 use crate::treating::{Machine, nothing};
 use amqp_frames::{Filled, Frame, FrameFault, Framer};
+use amqp_types::Boxed;
 use bytes::Bytes;
 use std::alloc::Global;
 
@@ -40,7 +41,7 @@ pub(crate) fn frame_shared(framer: &mut Framer, shared: &Bytes, from: usize) -> 
 /// Does what the framer's answer says.
 pub(crate) fn act(
     alloc: Global,
-    machine: &mut Machine,
+    machine: &mut Boxed<Machine>,
     framer: &mut Framer,
     answer: Framed,
 ) -> Result<Fed, ConnFault>
@@ -50,9 +51,9 @@ pub(crate) fn act(
     ensures { Acts answer machine.old framer.old.state result machine.new framer.new.state }
 {
     match answer {
-        Err(fault) => Err(end_whole(alloc, machine, framer, fault)),
+        Err(fault) => Err(end_whole(alloc, &mut machine.boxed, framer, fault)),
         Ok((used, None)) => Ok(nothing(used)),
-        Ok((used, Some(frame))) => treat_whole(machine, framer, used, frame),
+        Ok((used, Some(frame))) => treat_whole(&mut machine.boxed, framer, used, frame),
     }
 }
 

@@ -7,6 +7,7 @@ use crate::fault::ConnFault;
 use crate::fed::Fed;
 use crate::treating::{Machine, nothing};
 use crate::writing::HEADER;
+use amqp_types::Boxed;
 
 /// Puts octets behind those that are there; there is room for them.
 pub(crate) fn fill(head: &mut Vec<u8>, octets: &[u8])
@@ -25,7 +26,7 @@ fn is_header(octets: &[u8]) -> bool
 
 /// Reads eight octets as the peer's header, of which `used` came last, behind `count`. Where memory is refused those are taken away again.
 pub(crate) fn read_header(
-    machine: &mut Machine,
+    machine: &mut Boxed<Machine>,
     head: &mut Vec<u8>,
     count: usize,
     used: usize,
@@ -34,10 +35,10 @@ pub(crate) fn read_header(
     ensures room { vec_capacity head.old ≤ vec_capacity head.new }
 {
     if !is_header(head.as_slice()) {
-        machine.lose();
+        machine.boxed.lose();
         return Err(ConnFault::BadHeader);
     }
-    match machine.greet() {
+    match machine.boxed.greet() {
         Ok(()) => Ok(nothing(used)),
         Err(_) => {
             head.truncate(count);

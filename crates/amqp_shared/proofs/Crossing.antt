@@ -256,7 +256,7 @@ pub machine_send : IsSend (machine.the_field).row
 machine_send = search (sendable, crosses, config_crosses.the_send, bytes_send, phase_crosses.the_send, logged_send, boxed.the_send, open_body_send, close_body_send) depth 40 fits 20000
 
 pub conn_send : IsSend (conn.the_field).row
-conn_send = search (sendable, crosses, machine_send, framer_crosses.the_send) depth 40 fits 20000
+conn_send = search (sendable, crosses, boxed.the_send, machine_send, framer_crosses.the_send) depth 40 fits 20000
 
 producer_send : IsSend (producer_row.the_field unit_row.the_row global.the_row numbered.the_row ghosts numbered_protocol.ghosts).row
 producer_send = producer.the_field_send _ _ _ _ _ unit.the_send heap.the_send frees
