@@ -1,9 +1,10 @@
 //! `amqp_frames` alone: frames are written into octets, and read out of a stream however it is cut.
 ghost use Rattle.std.specs.Prelude.{◌<◌};
 
+use crate::operations::tag_of;
 use amqp_frames::{BeginBody, Frame, Framer, Performative, TransferBody, write_frame};
-use amqp_types::{Boxed, Tag};
-use anyhow::Context;
+use amqp_types::Boxed;
+use anyhow::bail;
 use bytes::Bytes;
 use std::alloc::Global;
 use std::io::Write;
@@ -12,19 +13,20 @@ use std::io::Write;
 const MAX_FRAME: u32 = 65536;
 
 /// Writes two frames behind one another, and reads them in pieces of three sizes.
-pub fn run<W: Write>(alloc: Global, writer: &mut W) -> anyhow::Result<()> {
+pub fn run(alloc: Global, lines: &mut Vec<u8>) -> anyhow::Result<()> {
     let stream = write(alloc)?;
-    writeln!(writer, "written: {} octets", stream.len())?;
-    read_in_three_ways(alloc, writer, stream.as_slice())?;
-    show_refusal(alloc, writer)?;
-    show_fault(alloc, writer)
+    let shown = show_stream(alloc, lines, stream.as_slice());
+    drop(stream);
+    shown?;
+    show_refusal(alloc, lines)?;
+    show_fault(alloc, lines)
 }
 
 /// Two frames.
 fn write(alloc: Global) -> anyhow::Result<Vec<u8>> {
     let mut stream = Vec::new(alloc);
     append(&mut stream, begin(alloc)?)?;
-    append(&mut stream, transfer(alloc)?)?;
+    append(&mut stream, transfer())?;
     Ok(stream)
 }
 
@@ -36,33 +38,27 @@ fn append(stream: &mut Vec<u8>, frame: Frame) -> anyhow::Result<()> {
     Ok(())
 }
 
-fn read_in_three_ways<W: Write>(
-    alloc: Global,
-    writer: &mut W,
-    stream: &[u8],
-) -> anyhow::Result<()> {
+fn show_stream(alloc: Global, lines: &mut Vec<u8>, stream: &[u8]) -> anyhow::Result<()> {
+    writeln!(lines, "written: {} octets", stream.len())?;
     for size in [1, 10, 1000] {
-        read_in_pieces(alloc, writer, stream, size)?;
+        read_in_pieces(alloc, lines, stream, size)?;
     }
     Ok(())
 }
 
-/// Feeds the stream in pieces of this size, and prints the frames that come out of it.
-fn read_in_pieces<W: Write>(
+/// Feeds the stream in pieces of this size, and shows the frames that come out of it.
+fn read_in_pieces(
     alloc: Global,
-    writer: &mut W,
+    lines: &mut Vec<u8>,
     stream: &[u8],
     size: usize,
 ) -> anyhow::Result<()>
     requires { 0 < size }
 {
     let frames = read(alloc, stream, size)?;
-    writeln!(
-        writer,
-        "read in pieces of at most {size}: {} frames",
-        frames.len()
-    )?;
-    print_frames(writer, frames.as_slice())
+    let shown = show_frames(lines, size, frames.as_slice());
+    drop(frames);
+    shown
 }
 
 /// The frames of the stream, which is fed in pieces of this size.
@@ -77,52 +73,52 @@ fn read(alloc: Global, stream: &[u8], size: usize) -> anyhow::Result<Vec<Frame>>
     Ok(frames)
 }
 
-fn print_frames<W: Write>(writer: &mut W, frames: &[Frame]) -> anyhow::Result<()> {
+fn show_frames(lines: &mut Vec<u8>, size: usize, frames: &[Frame]) -> anyhow::Result<()> {
+    let count = frames.len();
+    writeln!(lines, "read in pieces of at most {size}: {count} frames")?;
     for frame in frames {
-        print_frame(writer, frame)?;
+        show_frame(lines, frame)?;
     }
     Ok(())
 }
 
-fn print_frame<W: Write>(writer: &mut W, frame: &Frame) -> anyhow::Result<()> {
-    let payload = frame.payload.len();
-    match &frame.body {
-        None => writeln!(writer, "  an empty frame")?,
-        Some(Performative::Transfer(body)) => {
-            let handle = body.handle;
-            writeln!(
-                writer,
-                "  transfer on handle {handle}, {payload} octets of payload"
-            )?;
-        }
-        Some(performative) => writeln!(writer, "  {}", performative.name())?,
-    }
-    Ok(())
+fn show_frame(lines: &mut Vec<u8>, frame: &Frame) -> anyhow::Result<()> {
+    let name = match &frame.body {
+        Some(Performative::Transfer(body)) => return show_transfer(lines, body, &frame.payload),
+        Some(performative) => performative.name(),
+        None => "an empty frame",
+    };
+    Ok(writeln!(lines, "  {name}")?)
+}
+
+fn show_transfer(lines: &mut Vec<u8>, body: &TransferBody, payload: &Bytes) -> anyhow::Result<()> {
+    let (handle, length) = (body.handle, payload.len());
+    Ok(writeln!(
+        lines,
+        "  transfer on handle {handle}, {length} octets of payload"
+    )?)
 }
 
 /// A frame that cannot be written is refused before memory is asked for.
-fn show_refusal<W: Write>(alloc: Global, writer: &mut W) -> anyhow::Result<()> {
-    let frame = transfer(alloc)?;
+fn show_refusal(alloc: Global, lines: &mut Vec<u8>) -> anyhow::Result<()> {
+    let frame = transfer();
     let written = write_frame(alloc, &frame, 16);
     drop(frame);
-    match written {
-        Ok(octets) => writeln!(writer, "written: {} octets", octets.len())?,
-        Err(refusal) => writeln!(writer, "for a peer that takes 16 octets: {refusal}")?,
-    }
-    Ok(())
+    let Err(refusal) = written else {
+        bail!("the frame has more than 16 octets");
+    };
+    Ok(writeln!(lines, "for a peer that takes 16 octets: {refusal}")?)
 }
 
 /// Octets that are no frame show a fault as soon as can be: here a size of seven, which is less than a frame's header.
-fn show_fault<W: Write>(alloc: Global, writer: &mut W) -> anyhow::Result<()> {
+fn show_fault(alloc: Global, lines: &mut Vec<u8>) -> anyhow::Result<()> {
     let mut framer = Framer::new(alloc, MAX_FRAME);
-    match framer.feed(&[0, 0, 0, 7]) {
-        Ok((used, frame)) => {
-            drop(frame);
-            writeln!(writer, "taken: {used} octets")?;
-        }
-        Err(fault) => writeln!(writer, "octets 00000007: {fault}")?,
-    }
-    Ok(())
+    let fed = framer.feed(&[0, 0, 0, 7]);
+    drop(framer);
+    let Err(fault) = fed else {
+        bail!("no frame has seven octets");
+    };
+    Ok(writeln!(lines, "octets 00000007: {fault}")?)
 }
 
 /// A begin of the session (part 2, 2.7.2). A field that is not mandatory is an option.
@@ -145,13 +141,11 @@ fn begin(alloc: Global) -> anyhow::Result<Frame> {
 }
 
 /// A transfer of a whole delivery (part 2, 2.7.5), with a payload of five octets.
-fn transfer(alloc: Global) -> anyhow::Result<Frame> {
-    let tag = Tag::new(&[1]).context("a tag has at most 32 octets")?;
-    let payload = Bytes::from_vec(b"hello".to_vec(alloc)?)?;
+fn transfer() -> Frame {
     let body = TransferBody {
         handle: 0,
         delivery_id: Some(0),
-        delivery_tag: Some(tag),
+        delivery_tag: Some(tag_of(1)),
         message_format: Some(0),
         settled: Some(true),
         more: None,
@@ -161,9 +155,9 @@ fn transfer(alloc: Global) -> anyhow::Result<Frame> {
         aborted: None,
         batchable: None,
     };
-    Ok(Frame {
+    Frame {
         channel: 0,
         body: Some(Performative::Transfer(body)),
-        payload,
-    })
+        payload: Bytes::from_static(b"hello"),
+    }
 }

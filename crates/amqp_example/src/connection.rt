@@ -1,7 +1,8 @@
 //! `amqp_conn`: two ends of a connection, over memory. Octets go in and octets come out; each end does operations while it is running.
 
 use crate::operations::{attach, start};
-use amqp_conn::{Config, Conn, FromStd, Given, Hears, Op, Pump, Role, Text, ops};
+use crate::telling::{tell_learned, tell_of};
+use amqp_conn::{Config, Conn, FromStd, Given, Op, Pump, Role, Text, ops};
 use std::alloc::Global;
 use std::io::Write;
 
@@ -12,59 +13,76 @@ const TURNS: u32 = 8;
 const READS: u32 = 100;
 
 /// A message goes there and is accepted, one comes back, and the connection is closed.
-pub fn run<W: Write>(alloc: Global, writer: &mut W) -> anyhow::Result<()> {
+pub fn run(alloc: Global, lines: &mut Vec<u8>) -> anyhow::Result<()> {
     let mut one = End::new(alloc, "one")?;
-    let talked = talk_with_other(alloc, writer, &mut one);
+    let talked = talk_with_other(alloc, lines, &mut one);
     drop(one);
     talked
 }
 
-fn talk_with_other<W: Write>(alloc: Global, writer: &mut W, one: &mut End) -> anyhow::Result<()> {
+fn talk_with_other(alloc: Global, lines: &mut Vec<u8>, one: &mut End) -> anyhow::Result<()> {
     let mut other = End::new(alloc, "other")?;
-    let talked = talk(alloc, writer, one, &mut other);
+    let talked = talk(alloc, lines, one, &mut other);
     drop(other);
     talked
 }
 
-fn talk<W: Write>(
-    alloc: Global,
-    writer: &mut W,
-    one: &mut End,
-    other: &mut End,
-) -> anyhow::Result<()> {
-    exchange(alloc, writer, one, other)?;
-    one.apply(writer, ops::begin())?;
-    exchange(alloc, writer, one, other)?;
-    other.apply(writer, ops::begin())?;
-    exchange(alloc, writer, one, other)?;
-    send(alloc, writer, one, other, "there", 0)?;
-    send(alloc, writer, other, one, "back", 1)?;
+fn talk(alloc: Global, lines: &mut Vec<u8>, one: &mut End, other: &mut End) -> anyhow::Result<()> {
+    begin(alloc, lines, one, other)?;
+    send(alloc, lines, one, other, "there", 0)?;
+    send(alloc, lines, other, one, "back", 1)?;
     one.conn.close(None)?;
-    exchange(alloc, writer, one, other)?;
-    one.tell_end(writer)?;
-    other.tell_end(writer)
+    exchange(alloc, lines, one, other)?;
+    one.tell_end(lines)?;
+    other.tell_end(lines)
+}
+
+/// Both open, and begin the session.
+fn begin(alloc: Global, lines: &mut Vec<u8>, one: &mut End, other: &mut End) -> anyhow::Result<()> {
+    exchange(alloc, lines, one, other)?;
+    act(alloc, lines, one, other, ops::begin())?;
+    act(alloc, lines, other, one, ops::begin())
 }
 
 /// A link of this name, the first or second of either end, and a message over it, which is accepted.
-fn send<W: Write>(
+fn send(
     alloc: Global,
-    writer: &mut W,
+    lines: &mut Vec<u8>,
     from: &mut End,
     to: &mut End,
     name: &str,
     link: u32,
 ) -> anyhow::Result<()> {
-    from.apply(writer, attach(alloc, name, Role::Sender)?)?;
-    exchange(alloc, writer, from, to)?;
-    to.apply(writer, attach(alloc, name, Role::Receiver)?)?;
-    to.apply(writer, ops::grant(link, 10))?;
-    exchange(alloc, writer, from, to)?;
-    from.apply(writer, start(alloc, link)?)?;
-    exchange(alloc, writer, from, to)?;
-    to.apply(writer, ops::take(link))?;
-    to.apply(writer, ops::accept(0))?;
-    exchange(alloc, writer, from, to)?;
-    from.apply(writer, ops::learn(link))
+    attach_both(alloc, lines, from, to, name)?;
+    act(alloc, lines, to, from, ops::grant(link, 10))?;
+    act(alloc, lines, from, to, start(link, 1))?;
+    act(alloc, lines, to, from, ops::take(link))?;
+    act(alloc, lines, to, from, ops::accept(0))?;
+    act(alloc, lines, from, to, ops::learn(link))
+}
+
+/// The one end asks for a link, and the other takes it, to which it is offered.
+fn attach_both(
+    alloc: Global,
+    lines: &mut Vec<u8>,
+    from: &mut End,
+    to: &mut End,
+    name: &str,
+) -> anyhow::Result<()> {
+    act(alloc, lines, from, to, attach(alloc, name, Role::Sender)?)?;
+    act(alloc, lines, to, from, attach(alloc, name, Role::Receiver)?)
+}
+
+/// The one end does the operation, and each hears what the other says then.
+fn act(
+    alloc: Global,
+    lines: &mut Vec<u8>,
+    one: &mut End,
+    other: &mut End,
+    op: Op,
+) -> anyhow::Result<()> {
+    one.apply(lines, op)?;
+    exchange(alloc, lines, one, other)
 }
 
 /// One end, and its name.
@@ -82,103 +100,77 @@ impl End {
     }
 
     /// Does the operation, and tells what it gave.
-    pub fn apply<W: Write>(&mut self, writer: &mut W, op: Op) -> anyhow::Result<()> {
-        let answer = self.conn.apply(&op);
-        drop(op);
-        let given = answer?;
-        tell(writer, self.name, &given)
+    pub fn apply(&mut self, lines: &mut Vec<u8>, op: Op) -> anyhow::Result<()> {
+        let before = self.conn.logged().journal().len();
+        self.conn.perform(op)?;
+        self.tell_since(lines, before)
     }
 
-    /// Hears the octets, and answers what goes out then.
-    pub fn hear<W: Write>(
+    /// Hears the octets, tells what they gave, and answers what goes out then.
+    pub fn hear(
         &mut self,
         alloc: Global,
-        writer: &mut W,
+        lines: &mut Vec<u8>,
         octets: &[u8],
     ) -> anyhow::Result<Vec<u8>> {
-        let mut from = FromStd::new(octets);
-        let mut to = FromStd::new(Vec::new(alloc));
-        let mut teller = Teller {
-            name: self.name,
-            lines: Vec::new(alloc),
-            told: Ok(()),
-        };
-        Pump::new().drive(&mut from, &mut to, &mut self.conn, &mut teller, READS)?;
-        teller.told?;
-        writer.write_all(teller.lines.as_slice())?;
-        Ok(to.into_inner())
+        let before = self.conn.logged().journal().len();
+        let answer = hear(alloc, &mut self.conn, octets)?;
+        self.tell_since(lines, before)?;
+        Ok(answer)
     }
 
-    fn tell_end<W: Write>(&self, writer: &mut W) -> anyhow::Result<()> {
+    /// Tells what each entry of the journal behind the first ones gave.
+    fn tell_since(&self, lines: &mut Vec<u8>, before: usize) -> anyhow::Result<()> {
+        for entry in self.conn.logged().journal().iter().skip(before) {
+            tell(lines, self.name, &entry.reply.given)?;
+        }
+        Ok(())
+    }
+
+    fn tell_end(&self, lines: &mut Vec<u8>) -> anyhow::Result<()> {
+        let (name, phase) = (self.name, self.conn.phase());
         let steps = self.conn.logged().steps();
-        Ok(writeln!(
-            writer,
-            "{}: {:?} after {steps} steps",
-            self.name,
-            self.conn.phase()
-        )?)
+        Ok(writeln!(lines, "{name}: {phase:?} after {steps} steps")?)
     }
 }
 
-/// Gathers a line for what each entry of the journal gives, and whether that could be told.
-#[derive(Drop)]
-struct Teller {
-    name: &'static str,
-    lines: Vec<u8>,
-    told: anyhow::Result<()>,
-}
-
-impl Hears for Teller {
-    ghost use Rattle.std.specs.Prelude.{None};
-
-    ghost heard = { λ t. None };
-
-    fn hear(&mut self, given: Given) {
-        if let Err(fault) = tell(&mut self.lines, self.name, &given) {
-            self.told = Err(fault);
-        }
-        drop(given);
+/// Hears the octets, and answers what goes out then.
+pub fn hear(alloc: Global, conn: &mut Conn, octets: &[u8]) -> anyhow::Result<Vec<u8>> {
+    let mut from = FromStd::new(octets);
+    let mut to = FromStd::new(Vec::new(alloc));
+    match Pump::new().run(&mut from, &mut to, conn, READS) {
+        Ok(_) => Ok(to.into_inner()),
+        Err(fault) => Err(fault.into()),
     }
 }
 
-fn tell<W: Write>(writer: &mut W, name: &str, given: &Given) -> anyhow::Result<()> {
+/// Tells what a step gives, but for what goes without saying here.
+fn tell(lines: &mut Vec<u8>, name: &str, given: &Given) -> anyhow::Result<()> {
     match given {
-        Given::Attached(link) => Ok(writeln!(writer, "{name}: link {link} is attached")?),
-        Given::Offered(link) => Ok(writeln!(writer, "{name}: link {link} is offered")?),
-        Given::Ready(link, id) => Ok(writeln!(
-            writer,
-            "{name}: delivery {id} is ready on link {link}"
-        )?),
-        Given::Taken(taken) => {
-            let id = taken.get().id;
-            Ok(writeln!(writer, "{name}: delivery {id} is taken")?)
-        }
-        Given::Learned(learned) => {
-            let learned = learned.get();
-            let (id, settled) = (learned.id, learned.settled);
-            Ok(writeln!(writer, "{name}: delivery {id} is settled: {settled}")?)
-        }
-        Given::Nothing
-        | Given::Link(_)
-        | Given::Gone(_)
-        | Given::Delivery(_)
-        | Given::Suspended(_)
-        | Given::Parted(_, _)
-        | Given::Resumed(_) => Ok(()),
+        Given::Attached(link) => tell_of(lines, name, "link", *link, "is attached"),
+        Given::Offered(link) => tell_of(lines, name, "link", *link, "is offered"),
+        Given::Ready(link, id) => tell_ready(lines, name, *id, *link),
+        Given::Taken(taken) => tell_of(lines, name, "delivery", taken.get().id, "is taken"),
+        Given::Learned(learned) => tell_learned(lines, name, learned.get()),
+        _ => Ok(()),
     }
+}
+
+fn tell_ready(lines: &mut Vec<u8>, name: &str, id: u32, link: u32) -> anyhow::Result<()> {
+    Ok(writeln!(lines, "{name}: delivery {id} is ready on link {link}")?)
 }
 
 /// Each end hears what the other says, in turn.
-fn exchange<W: Write>(
+fn exchange(
     alloc: Global,
-    writer: &mut W,
+    lines: &mut Vec<u8>,
     one: &mut End,
     other: &mut End,
 ) -> anyhow::Result<()> {
-    let mut said = one.hear(alloc, writer, &[])?;
+    let mut said = one.hear(alloc, lines, &[])?;
     for _ in 0..TURNS {
-        let answer = other.hear(alloc, writer, &said)?;
-        said = one.hear(alloc, writer, &answer)?;
+        let answer = other.hear(alloc, lines, &said)?;
+        said = one.hear(alloc, lines, &answer)?;
     }
     Ok(())
 }

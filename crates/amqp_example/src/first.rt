@@ -1,71 +1,90 @@
 //! A connection in some lines: a message goes to a queue over whatever can be read and written, by `amqp_conn` alone. The peer is one that was recorded.
 
+use crate::operations::tag_of;
 use amqp_conn::{
     Bytes, Config, Conn, Failed, FromStd, Given, Op, Pump, PumpEnd, Refusal, Role, Sink, Source,
-    Tag, Text, ops,
+    Text, ops,
 };
-use anyhow::{Context, bail};
-use std::alloc::Global;
+use anyhow::bail;
+use std::alloc::{AllocError, Global};
 use std::io::Write;
 
 /// More reads than a peer needs that answers.
 const TURNS: u32 = 100;
 
-/// Sends one message to the queue, and answers what became of it.
+/// Sends one message to the queue, and answers whether it is settled.
 fn send<S: Source, K: Sink>(
+    client: &mut Client<S, K>,
     alloc: Global,
-    from: &mut S,
-    to: &mut K,
     queue: &str,
     message: Bytes,
-) -> anyhow::Result<Given> {
-    let mut conn = Conn::new(alloc, Config::new(Text::new(alloc, "first")?))?;
-    let mut pump = Pump::new();
+) -> anyhow::Result<bool> {
+    client.apply(ops::begin())?;
+    client.apply(link_to(alloc, queue)?)?;
+    client.apply(ops::start(0, tag_of(0), message))?;
+    client.apply(ops::learn(0))?;
+    let settled = client.is_settled();
+    client.conn.close(None)?;
+    client.run(TURNS)?;
+    Ok(settled)
+}
+
+/// A link over which messages go to the queue.
+fn link_to(alloc: Global, queue: &str) -> Result<Op, AllocError> {
     let target = ops::target(alloc, Text::new(alloc, queue)?)?;
-    let link = ops::attach(Text::new(alloc, queue)?, Role::Sender, None, Some(target));
-    let tag = Tag::new(&[0]).context("a tag has at most 32 octets")?;
-    apply(&mut pump, from, to, &mut conn, &ops::begin())?;
-    apply(&mut pump, from, to, &mut conn, &link)?;
-    apply(&mut pump, from, to, &mut conn, &ops::start(0, tag, message))?;
-    let outcome = apply(&mut pump, from, to, &mut conn, &ops::learn(0))?;
-    conn.close(None)?;
-    run(&mut pump, from, to, &mut conn, TURNS)?;
-    Ok(outcome)
+    let name = Text::new(alloc, queue)?;
+    Ok(ops::attach(name, Role::Sender, None, Some(target)))
 }
 
-/// Does the operation as soon as what the peer says allows it.
-fn apply<S: Source, K: Sink>(
-    pump: &mut Pump,
-    from: &mut S,
-    to: &mut K,
-    conn: &mut Conn,
-    op: &Op,
-) -> anyhow::Result<Given> {
-    for _ in 0..TURNS {
-        match conn.apply(op) {
-            Ok(given) => return Ok(given),
-            Err(refusal) if is_early(refusal) => {}
-            Err(refusal) => return Err(refusal.into()),
-        }
-        if run(pump, from, to, conn, 1)? != PumpEnd::TurnsOver {
-            bail!("the peer ended first");
-        }
-    }
-    bail!("the peer does not answer")
+/// A connection, and what it is read from and written to.
+#[derive(Drop)]
+struct Client<S, K> {
+    conn: Conn,
+    pump: Pump,
+    from: S,
+    to: K,
 }
 
-/// Lets the connection run. Failures of the devices are counted in 64 bits.
-fn run<S: Source, K: Sink>(
-    pump: &mut Pump,
-    from: &mut S,
-    to: &mut K,
-    conn: &mut Conn,
-    turns: u32,
-) -> anyhow::Result<PumpEnd> {
-    if from.failures() == u64::MAX || to.failures() == u64::MAX {
-        bail!("a device fails again and again");
+impl<S: Source, K: Sink> Client<S, K> {
+    /// Does the operation as soon as what the peer says allows it.
+    fn apply(&mut self, op: Op) -> anyhow::Result<()> {
+        let applied = self.try_again(&op);
+        drop(op);
+        applied
     }
-    Ok(pump.run(from, to, conn, turns)?)
+
+    fn try_again(&mut self, op: &Op) -> anyhow::Result<()> {
+        for _ in 0..TURNS {
+            match self.conn.apply(op) {
+                Ok(_) => return Ok(()),
+                Err(refusal) if is_early(refusal) => {}
+                Err(refusal) => return Err(refusal.into()),
+            }
+            if self.run(1)? != PumpEnd::TurnsOver {
+                bail!("the peer ended first");
+            }
+        }
+        bail!("the peer does not answer")
+    }
+
+    /// Lets the connection run. Failures of the devices are counted in 64 bits.
+    fn run(&mut self, turns: u32) -> anyhow::Result<PumpEnd> {
+        if self.from.failures() == u64::MAX || self.to.failures() == u64::MAX {
+            bail!("a device fails again and again");
+        }
+        Ok(
+            self.pump
+                .run(&mut self.from, &mut self.to, &mut self.conn, turns)?,
+        )
+    }
+
+    /// The outcome that was learnt last is a settled one.
+    fn is_settled(&self) -> bool {
+        match self.conn.given() {
+            Some(Given::Learned(learned)) => learned.get().settled,
+            _ => false,
+        }
+    }
 }
 
 /// What the peer says may change it.
@@ -123,18 +142,35 @@ impl Source for Recorded {
 }
 
 /// Sends a message to the recorded peer, and tells what became of it.
-pub fn send_first<W: Write>(alloc: Global, writer: &mut W) -> anyhow::Result<()> {
-    let mut from = Recorded {
-        said: 0,
-        failures: 0,
-    };
-    let mut to = FromStd::new(Vec::new(alloc));
-    let message = Bytes::copy_from_slice(alloc, b"hello")?;
-    let outcome = send(alloc, &mut from, &mut to, "q", message)?;
-    let Given::Learned(learned) = outcome else {
-        bail!("no outcome was told");
-    };
-    let settled = learned.get().settled;
-    let octets = to.into_inner().len();
-    Ok(writeln!(writer, "first: settled: {settled}, {octets} octets sent")?)
+pub fn send_first(alloc: Global, lines: &mut Vec<u8>) -> anyhow::Result<()> {
+    let mut client = connect(alloc)?;
+    let settled = send(&mut client, alloc, "q", Bytes::from_static(b"hello"));
+    let octets = octets_sent(client);
+    let settled = settled?;
+    Ok(writeln!(lines, "first: settled: {settled}, {octets} octets sent")?)
+}
+
+/// A connection with the recorded peer, which writes to memory.
+fn connect(alloc: Global) -> anyhow::Result<Client<Recorded, FromStd<Vec<u8>>>> {
+    let conn = Conn::new(alloc, Config::new(Text::new(alloc, "first")?))?;
+    Ok(Client {
+        conn,
+        pump: Pump::new(),
+        from: Recorded {
+            said: 0,
+            failures: 0,
+        },
+        to: FromStd::new(Vec::new(alloc)),
+    })
+}
+
+fn octets_sent(client: Client<Recorded, FromStd<Vec<u8>>>) -> usize {
+    let Client {
+        conn,
+        pump: _,
+        from: _,
+        to,
+    } = client;
+    drop(conn);
+    to.into_inner().len()
 }

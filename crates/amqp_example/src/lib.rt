@@ -8,7 +8,7 @@
 //! | `connection` | `amqp_conn`: octets in, octets out |
 //! | `rejoined` | `amqp_conn`: a link that goes on over several connections |
 //! | `shared` | `amqp_shared`: two threads send on one connection |
-//! | `operations` | the operations that these do |
+//! | `operations`, `telling` | the operations that these do, and what they tell |
 #![tactic(auto)]
 
 mod codec;
@@ -18,22 +18,35 @@ mod operations;
 mod rejoined;
 mod session;
 mod shared;
+mod telling;
 
 use std::io::Write;
 use std::sync::Wait;
 use std::thread::Threads;
 
-/// Runs each example in turn, which tells what it does.
+/// Runs each example in turn, and writes the lines that tell what it does.
 pub fn run_examples<R: AllocGlobal + Threads + Wait + Sync, W: Write>(
     rt: &R,
     writer: &mut W,
 ) -> anyhow::Result<()> {
-    let alloc = rt.alloc();
-    codec::run(alloc, writer)?;
-    session::run(alloc, writer)?;
-    first::send_first(alloc, writer)?;
-    connection::run(alloc, writer)?;
-    rejoined::run(alloc, writer)?;
-    shared::run(rt, writer)?;
+    let mut lines = Vec::new(rt.alloc());
+    let ran = run_each(rt, &mut lines);
+    let written = writer.write_all(lines.as_slice());
+    drop(lines);
+    ran?;
+    written?;
     Ok(writer.flush()?)
+}
+
+fn run_each<R: AllocGlobal + Threads + Wait + Sync>(
+    rt: &R,
+    lines: &mut Vec<u8>,
+) -> anyhow::Result<()> {
+    let alloc = rt.alloc();
+    codec::run(alloc, lines)?;
+    session::run(alloc, lines)?;
+    first::send_first(alloc, lines)?;
+    connection::run(alloc, lines)?;
+    rejoined::run(alloc, lines)?;
+    shared::run(rt, lines)
 }

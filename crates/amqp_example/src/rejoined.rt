@@ -3,12 +3,13 @@
 //!
 //! An outcome is told unsettled and settled by the sender, so that the receiver knows what it has until the sender knows, too (part 2, 2.6.13).
 
+use crate::connection::hear;
+use crate::operations::{start, tag_of};
 use amqp_conn::{
-    Bytes, Config, Conn, DeliveryState, FromStd, Given, Op, Pump, Refusal, Role, Suspended, Tag,
-    Text, Verdict, ops,
+    Config, Conn, DeliveryState, Given, Op, Refusal, Role, Suspended, Tag, Text, Verdict, ops,
 };
 use amqp_types::Items;
-use anyhow::{Context, bail};
+use anyhow::Context;
 use std::alloc::Global;
 use std::io::Write;
 
@@ -27,15 +28,15 @@ const BATCH_STEPS: u32 = 24;
 /// More connections than the messages want.
 const CONNECTIONS: u8 = 10;
 
-/// More turns than a piece needs.
-const TURNS: u32 = 100;
-
 /// More pieces in turn than either end has to say.
 const PIECES: u32 = 4;
 
-/// What both programs know beside their connections: what the sender has to send yet, and how often each message arrived.
+/// What both programs know beside their connections: the link as each has put it aside, what the sender has to send yet, and how often each message
+/// arrived.
 #[derive(Drop)]
 struct Known {
+    from: Suspended,
+    to: Suspended,
     next: u8,
     learnt: u32,
     arrived: [u8; MESSAGES as usize],
@@ -49,70 +50,67 @@ struct Ends {
 }
 
 /// Sends all messages, over as many connections as it takes.
-pub fn run<W: Write>(alloc: Global, writer: &mut W) -> anyhow::Result<()> {
-    let mut known = Known {
+pub fn run(alloc: Global, lines: &mut Vec<u8>) -> anyhow::Result<()> {
+    let mut known = at_first(alloc)?;
+    let sent = send_all(alloc, lines, &mut known);
+    let once = known.arrived.iter().all(|times| *times == 1);
+    drop(known);
+    sent?;
+    Ok(writeln!(lines, "each of {MESSAGES} messages arrived once: {once}")?)
+}
+
+/// What is known before the first connection: nothing waits on the link.
+fn at_first(alloc: Global) -> anyhow::Result<Known> {
+    let (one, other) = (Text::new(alloc, "q")?, Text::new(alloc, "q")?);
+    Ok(Known {
+        from: Suspended {
+            name: one,
+            role: Role::Sender,
+            items: Items::new(alloc),
+        },
+        to: Suspended {
+            name: other,
+            role: Role::Receiver,
+            items: Items::new(alloc),
+        },
         next: 0,
         learnt: 0,
         arrived: [0; MESSAGES as usize],
-    };
-    let mut from = link(alloc, Role::Sender)?;
-    let mut to = link(alloc, Role::Receiver)?;
+    })
+}
+
+fn send_all(alloc: Global, lines: &mut Vec<u8>, known: &mut Known) -> anyhow::Result<()> {
     for number in 0..CONNECTIONS {
-        (from, to) = connect_and_go(alloc, writer, number, &from, &to, &mut known)?;
+        connect_and_go(alloc, lines, number, known)?;
         if known.learnt == MESSAGES as u32 {
             break;
         }
     }
-    let once = known.arrived.iter().all(|times| *times == 1);
-    Ok(writeln!(writer, "each of {MESSAGES} messages arrived once: {once}")?)
+    Ok(())
 }
 
-/// One connection with this number, and what of the link goes with it to the next.
-fn connect_and_go<W: Write>(
+/// One connection with this number, after which what of the link goes with it to the next is known.
+fn connect_and_go(
     alloc: Global,
-    writer: &mut W,
+    lines: &mut Vec<u8>,
     number: u8,
-    from: &Suspended,
-    to: &Suspended,
     known: &mut Known,
-) -> anyhow::Result<(Suspended, Suspended)> {
-    let mut ends = connect(alloc, from, to)?;
-    let aside = go(alloc, writer, number, &mut ends, known);
+) -> anyhow::Result<()> {
+    let mut ends = connect(alloc)?;
+    let gone = go(alloc, lines, number, &mut ends, known);
     drop(ends);
-    aside
+    gone
 }
 
-fn go<W: Write>(
-    alloc: Global,
-    writer: &mut W,
-    number: u8,
-    ends: &mut Ends,
-    known: &mut Known,
-) -> anyhow::Result<(Suspended, Suspended)> {
-    if number == 0 {
-        cut_off(alloc, writer, ends, known)?;
-    } else {
-        go_on(alloc, writer, ends, known)?;
+fn connect(alloc: Global) -> anyhow::Result<Ends> {
+    let one = conn(alloc, "one")?;
+    match conn(alloc, "other") {
+        Ok(other) => Ok(Ends { one, other }),
+        Err(error) => {
+            drop(one);
+            Err(error)
+        }
     }
-    let from = aside(&ends.one, Role::Sender)?;
-    let to = aside(&ends.other, Role::Receiver)?;
-    Ok((from, to))
-}
-
-/// The link before its first connection: nothing waits on it.
-fn link(alloc: Global, role: Role) -> anyhow::Result<Suspended> {
-    let name = Text::new(alloc, "q")?;
-    Ok(Suspended {
-        name,
-        role,
-        items: Items::new(alloc),
-    })
-}
-
-/// The only link of an end, with what is in doubt on it.
-fn aside(conn: &Conn, role: Role) -> anyhow::Result<Suspended> {
-    let mut links = conn.links_aside(role)?;
-    links.pop().context("each end has its link")
 }
 
 /// A connection of this name, which takes few steps.
@@ -122,47 +120,57 @@ fn conn(alloc: Global, name: &str) -> anyhow::Result<Conn> {
     Ok(Conn::new(alloc, config)?)
 }
 
-/// A new connection, on which both have attached the link again.
-fn connect(alloc: Global, from: &Suspended, to: &Suspended) -> anyhow::Result<Ends> {
-    let one = conn(alloc, "one")?;
-    let other = conn(alloc, "other")?;
-    let mut ends = Ends { one, other };
-    match attach(alloc, &mut ends, from, to) {
-        Ok(()) => Ok(ends),
-        Err(error) => {
-            drop(ends);
-            Err(error)
-        }
+fn go(
+    alloc: Global,
+    lines: &mut Vec<u8>,
+    number: u8,
+    ends: &mut Ends,
+    known: &mut Known,
+) -> anyhow::Result<()> {
+    begin(alloc, ends)?;
+    attach(alloc, ends, known)?;
+    if number == 0 {
+        cut_off(alloc, lines, ends, known)?;
+    } else {
+        go_on(alloc, lines, ends, known)?;
     }
+    put_aside(ends, known)
 }
 
-/// Both open, begin and attach; the receiver grants credit for all messages.
-fn attach(alloc: Global, ends: &mut Ends, from: &Suspended, to: &Suspended) -> anyhow::Result<()> {
+/// Both open and begin.
+fn begin(alloc: Global, ends: &mut Ends) -> anyhow::Result<()> {
     exchange(alloc, ends)?;
-    does(&mut ends.one, ops::begin())?;
-    does(&mut ends.other, ops::begin())?;
-    exchange(alloc, ends)?;
-    does(&mut ends.one, ops::rejoin(alloc, from, None, None)?)?;
-    does(&mut ends.other, ops::rejoin(alloc, to, None, None)?)?;
-    exchange(alloc, ends)?;
-    does(&mut ends.other, ops::grant(0, MESSAGES as u32))?;
+    ends.one.perform(ops::begin())?;
+    ends.other.perform(ops::begin())?;
     exchange(alloc, ends)
 }
 
-/// Does the operation, and lets it go with what it gave.
-fn does(conn: &mut Conn, op: Op) -> anyhow::Result<()> {
-    let answer = conn.apply(&op);
-    drop(op);
-    drop(answer?);
+/// Both attach the link again; the receiver grants credit for all messages.
+fn attach(alloc: Global, ends: &mut Ends, known: &Known) -> anyhow::Result<()> {
+    rejoin(alloc, &mut ends.one, &known.from)?;
+    rejoin(alloc, &mut ends.other, &known.to)?;
+    exchange(alloc, ends)?;
+    ends.other.perform(ops::grant(0, MESSAGES as u32))?;
+    exchange(alloc, ends)
+}
+
+fn rejoin(alloc: Global, conn: &mut Conn, link: &Suspended) -> anyhow::Result<()> {
+    Ok(conn.perform(ops::rejoin(alloc, link, None, None)?)?)
+}
+
+/// The link of either end, with what is in doubt on it.
+fn put_aside(ends: &Ends, known: &mut Known) -> anyhow::Result<()> {
+    known.from = aside(&ends.one, Role::Sender)?;
+    known.to = aside(&ends.other, Role::Receiver)?;
     Ok(())
 }
 
-/// Hears the octets, and answers what goes out then.
-fn hear(alloc: Global, conn: &mut Conn, octets: &[u8]) -> anyhow::Result<Vec<u8>> {
-    let mut from = FromStd::new(octets);
-    let mut to = FromStd::new(Vec::new(alloc));
-    Pump::new().run(&mut from, &mut to, conn, TURNS)?;
-    Ok(to.into_inner())
+/// The only link of an end.
+fn aside(conn: &Conn, role: Role) -> anyhow::Result<Suspended> {
+    let mut links = conn.links_aside(role)?;
+    let link = links.pop();
+    drop(links);
+    link.context("each end has its link")
 }
 
 /// Each end hears what the other says, in turn.
@@ -176,43 +184,56 @@ fn exchange(alloc: Global, ends: &mut Ends) -> anyhow::Result<()> {
 }
 
 /// A batch is sent, and the pipe is cut in its last frame. Of the others the receiver takes two and accepts one, which the sender does not hear.
-fn cut_off<W: Write>(
+fn cut_off(
     alloc: Global,
-    writer: &mut W,
+    lines: &mut Vec<u8>,
     ends: &mut Ends,
     known: &mut Known,
 ) -> anyhow::Result<()> {
-    send(alloc, &mut ends.one, known)?;
-    let said = hear(alloc, &mut ends.one, &[])?;
-    let there = &said[..said.len().saturating_sub(3)];
-    drop(hear(alloc, &mut ends.other, there)?);
+    send(&mut ends.one, known)?;
+    carry_but_three(alloc, ends)?;
     take(&mut ends.other, known)?;
     accept_at(&mut ends.other, 0)?;
     take(&mut ends.other, known)?;
     ends.one.lost();
     ends.other.lost();
-    tell(writer, "cut off", ends, known)
+    tell(lines, "cut off", ends, known)
+}
+
+/// The receiver hears all that the sender says but the last three octets.
+fn carry_but_three(alloc: Global, ends: &mut Ends) -> anyhow::Result<()> {
+    let said = hear(alloc, &mut ends.one, &[])?;
+    let there = &said[..said.len().saturating_sub(3)];
+    let heard = hear(alloc, &mut ends.other, there);
+    drop(said);
+    drop(heard?);
+    Ok(())
 }
 
 /// What is in doubt is resumed, and batches are sent as long as there are steps for them. Then the connection is closed.
-fn go_on<W: Write>(
+fn go_on(
     alloc: Global,
-    writer: &mut W,
+    lines: &mut Vec<u8>,
     ends: &mut Ends,
     known: &mut Known,
 ) -> anyhow::Result<()> {
-    resume(alloc, writer, &mut ends.one, known)?;
+    resume(lines, &mut ends.one, known)?;
     deliver(alloc, ends, known)?;
+    send_batches(alloc, ends, known)?;
+    ends.one.close(None)?;
+    exchange(alloc, ends)?;
+    tell(lines, "closed", ends, known)
+}
+
+fn send_batches(alloc: Global, ends: &mut Ends, known: &mut Known) -> anyhow::Result<()> {
     for _ in 0..MESSAGES {
         if known.next == MESSAGES || is_near_its_end(ends) {
             break;
         }
-        send(alloc, &mut ends.one, known)?;
+        send(&mut ends.one, known)?;
         deliver(alloc, ends, known)?;
     }
-    ends.one.close(None)?;
-    exchange(alloc, ends)?;
-    tell(writer, "closed", ends, known)
+    Ok(())
 }
 
 /// Either journal has no steps for another batch.
@@ -223,34 +244,27 @@ fn is_near_its_end(ends: &Ends) -> bool {
 /// What was sent arrives and is accepted, and the sender learns of it.
 fn deliver(alloc: Global, ends: &mut Ends, known: &mut Known) -> anyhow::Result<()> {
     exchange(alloc, ends)?;
-    while_ready(&mut ends.other, known)?;
-    accept(&mut ends.other)?;
+    take_all(&mut ends.other, known)?;
+    accept_all(&mut ends.other)?;
     exchange(alloc, ends)?;
     learn(&mut ends.one, known)?;
     exchange(alloc, ends)
 }
 
 /// The next messages.
-fn send(alloc: Global, conn: &mut Conn, known: &mut Known) -> anyhow::Result<()> {
+fn send(conn: &mut Conn, known: &mut Known) -> anyhow::Result<()> {
     for _ in 0..BATCH {
         if known.next == MESSAGES {
             break;
         }
-        start(alloc, conn, known.next)?;
+        conn.perform(start(0, known.next))?;
         known.next = known.next.saturating_add(1);
     }
     Ok(())
 }
 
-/// Sends the message with this number.
-fn start(alloc: Global, conn: &mut Conn, number: u8) -> anyhow::Result<()> {
-    let tag = Tag::new(&[number]).context("a tag has at most 32 octets")?;
-    let payload = Bytes::from_vec(b"hello".to_vec(alloc)?)?;
-    does(conn, ops::start(0, tag, payload))
-}
-
 /// Takes all messages that are ready.
-fn while_ready(conn: &mut Conn, known: &mut Known) -> anyhow::Result<()> {
+fn take_all(conn: &mut Conn, known: &mut Known) -> anyhow::Result<()> {
     for _ in 0..MESSAGES {
         if !take(conn, known)? {
             break;
@@ -259,24 +273,42 @@ fn while_ready(conn: &mut Conn, known: &mut Known) -> anyhow::Result<()> {
     Ok(())
 }
 
-/// Takes a message, where one is ready. Where memory is wanting one may still be, so that is no answer.
+/// Takes a message, where one is ready.
 fn take(conn: &mut Conn, known: &mut Known) -> anyhow::Result<bool> {
-    match conn.apply(&ops::take(0)) {
-        Ok(Given::Taken(taken)) => {
-            let number = taken.get().tag.octets().first().copied().unwrap_or(0);
-            if let Some(times) = known.arrived.get_mut(number as usize) {
-                *times = times.saturating_add(1);
-            }
-            Ok(true)
+    let is_taken = is_done(conn.perform(ops::take(0)))?;
+    if is_taken {
+        let number = taken(conn) as usize;
+        if let Some(times) = known.arrived.get_mut(number) {
+            *times = times.saturating_add(1);
         }
-        Ok(_) => Ok(false),
-        Err(Refusal::NoMemory) => bail!("{}", Refusal::NoMemory),
+    }
+    Ok(is_taken)
+}
+
+/// The operation was done. Where memory is wanting it may still be, so that is no answer.
+fn is_done(answer: Result<(), Refusal>) -> anyhow::Result<bool> {
+    match answer {
+        Ok(()) => Ok(true),
+        Err(Refusal::NoMemory) => Err(Refusal::NoMemory.into()),
         Err(_) => Ok(false),
     }
 }
 
+/// The number of the message that was taken last.
+fn taken(conn: &Conn) -> u8 {
+    match conn.given() {
+        Some(Given::Taken(taken)) => number_of(&taken.get().tag),
+        _ => 0,
+    }
+}
+
+/// The number of the message with this tag.
+fn number_of(tag: &Tag) -> u8 {
+    tag.octets().first().copied().unwrap_or(0)
+}
+
 /// Accepts each unsettled delivery that has no outcome yet, and leaves it to the sender to settle it.
-fn accept(conn: &mut Conn) -> anyhow::Result<()> {
+fn accept_all(conn: &mut Conn) -> anyhow::Result<()> {
     for place in 0..conn.logged().endpoint().unsettled_len(Role::Receiver) {
         accept_at(conn, place)?;
     }
@@ -285,7 +317,7 @@ fn accept(conn: &mut Conn) -> anyhow::Result<()> {
 
 fn accept_at(conn: &mut Conn, place: usize) -> anyhow::Result<()> {
     match undecided(conn, place) {
-        Some(id) => does(conn, accepted(id)),
+        Some(id) => Ok(conn.perform(dispose(Role::Receiver, id, Some(DeliveryState::Accepted)))?),
         None => Ok(()),
     }
 }
@@ -298,99 +330,81 @@ fn undecided(conn: &Conn, place: usize) -> Option<u32> {
     }
 }
 
-fn accepted(id: u32) -> Op {
+/// The receiver tells the state of a delivery, or the sender settles it.
+fn dispose(role: Role, id: u32, state: Option<DeliveryState>) -> Op {
     Op::Dispose {
-        role: Role::Receiver,
+        role,
         first: id,
         last: id,
-        settled: false,
-        state: Some(DeliveryState::Accepted),
+        settled: role == Role::Sender,
+        state,
     }
 }
 
 /// Learns what was told, and settles it.
 fn learn(conn: &mut Conn, known: &mut Known) -> anyhow::Result<()> {
     for _ in 0..MESSAGES {
-        let Some(id) = learnt(conn)? else {
+        if !is_done(conn.perform(ops::learn(0)))? {
             break;
-        };
+        }
         known.learnt = known.learnt.saturating_add(1);
-        does(conn, settled(id))?;
+        conn.perform(dispose(Role::Sender, learnt(conn), None))?;
     }
     Ok(())
 }
 
-/// The id of the next delivery of which an outcome was told.
-fn learnt(conn: &mut Conn) -> anyhow::Result<Option<u32>> {
-    match conn.apply(&ops::learn(0)) {
-        Ok(Given::Learned(learned)) => Ok(Some(learned.get().id)),
-        Ok(_) => Ok(None),
-        Err(Refusal::NoMemory) => bail!("{}", Refusal::NoMemory),
-        Err(_) => Ok(None),
-    }
-}
-
-fn settled(id: u32) -> Op {
-    Op::Dispose {
-        role: Role::Sender,
-        first: id,
-        last: id,
-        settled: true,
-        state: None,
+/// The id of the delivery of which was learnt last.
+fn learnt(conn: &Conn) -> u32 {
+    match conn.given() {
+        Some(Given::Learned(learned)) => learned.get().id,
+        _ => 0,
     }
 }
 
 /// Resumes what waits on the link, in its order: what did not come is sent again.
-fn resume<W: Write>(
-    alloc: Global,
-    writer: &mut W,
-    conn: &mut Conn,
-    known: &mut Known,
-) -> anyhow::Result<()> {
+fn resume(lines: &mut Vec<u8>, conn: &mut Conn, known: &mut Known) -> anyhow::Result<()> {
     for _ in 0..MESSAGES {
-        let Some((tag, verdict)) = waiting(conn) else {
+        let Some((number, verdict)) = waiting(conn) else {
             break;
         };
-        let number = tag.octets().first().copied().unwrap_or(0);
-        writeln!(writer, "message {number} is {verdict:?}")?;
-        resume_one(alloc, conn, tag, verdict, known)?;
+        writeln!(lines, "message {number} is {verdict:?}")?;
+        resume_one(conn, number, verdict, known)?;
     }
     Ok(())
 }
 
-/// The first delivery that waits, and what became of it.
-fn waiting(conn: &Conn) -> Option<(Tag, Verdict)> {
+/// The number of the first message that waits, and what became of it.
+fn waiting(conn: &Conn) -> Option<(u8, Verdict)> {
     match conn.logged().endpoint().waiting_at(0, 0) {
-        Some((tag, verdict)) => Some((*tag, verdict)),
+        Some((tag, verdict)) => Some((number_of(tag), verdict)),
         None => None,
     }
 }
 
 fn resume_one(
-    alloc: Global,
     conn: &mut Conn,
-    tag: Tag,
+    number: u8,
     verdict: Verdict,
     known: &mut Known,
 ) -> anyhow::Result<()> {
-    let settled = verdict == Verdict::Outcome;
-    let link = 0;
-    does(conn, Op::Resume { link, tag, settled })?;
+    conn.perform(Op::Resume {
+        link: 0,
+        tag: tag_of(number),
+        settled: verdict == Verdict::Outcome,
+    })?;
     match verdict {
         Verdict::Outcome => known.learnt = known.learnt.saturating_add(1),
-        Verdict::Absent | Verdict::Partial => {
-            start(alloc, conn, tag.octets().first().copied().unwrap_or(0))?;
-        }
+        Verdict::Absent | Verdict::Partial => conn.perform(start(0, number))?,
         Verdict::Held | Verdict::Unclear => {}
     }
     Ok(())
 }
 
-fn tell<W: Write>(writer: &mut W, what: &str, ends: &Ends, known: &Known) -> anyhow::Result<()> {
+fn tell(lines: &mut Vec<u8>, what: &str, ends: &Ends, known: &Known) -> anyhow::Result<()> {
     let left = ends.one.logged().steps_left();
+    let (sent, learnt) = (known.next, known.learnt);
     Ok(writeln!(
-        writer,
-        "{what}: {} messages were sent, {} are known to be accepted, {left} of {STEPS} steps are left",
-        known.next, known.learnt
+        lines,
+        "{what}: {sent} messages were sent, {learnt} are known to be accepted, {left} of {STEPS} steps are left"
     )?)
 }

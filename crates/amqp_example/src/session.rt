@@ -1,11 +1,12 @@
 //! `amqp_journal`: two ends of a session, each an endpoint with its journal. The octets of one are fed to the other.
 
 use crate::operations::{attach, start};
-use amqp_conn::{Given, Op, Refusal, Role, ViolationKind, ops};
+use crate::telling::{tell_learned, tell_of};
+use amqp_conn::{Given, Op, Refusal, Role, Taken, ops};
 use amqp_endpoint::config::Config;
 use amqp_frames::{Frame, Framer};
 use amqp_journal::logged::Logged;
-use anyhow::{bail, ensure};
+use anyhow::ensure;
 use std::alloc::Global;
 use std::io::Write;
 
@@ -16,59 +17,91 @@ const MAX_FRAME: u32 = 65536;
 const UNITS: u32 = 8;
 
 /// A message is sent, taken, accepted and settled.
-pub fn run<W: Write>(alloc: Global, writer: &mut W) -> anyhow::Result<()> {
+pub fn run(alloc: Global, lines: &mut Vec<u8>) -> anyhow::Result<()> {
     let mut sender = End::new(alloc, "sender")?;
-    let talked = talk_with_receiver(alloc, writer, &mut sender);
+    let talked = talk_with_receiver(alloc, lines, &mut sender);
     drop(sender);
     talked
 }
 
-fn talk_with_receiver<W: Write>(
-    alloc: Global,
-    writer: &mut W,
-    sender: &mut End,
-) -> anyhow::Result<()> {
+fn talk_with_receiver(alloc: Global, lines: &mut Vec<u8>, sender: &mut End) -> anyhow::Result<()> {
     let mut receiver = End::new(alloc, "receiver")?;
-    let talked = talk(alloc, writer, sender, &mut receiver);
+    let talked = talk(alloc, lines, sender, &mut receiver);
     drop(receiver);
     talked
 }
 
-fn talk<W: Write>(
+fn talk(
     alloc: Global,
-    writer: &mut W,
+    lines: &mut Vec<u8>,
     sender: &mut End,
     receiver: &mut End,
 ) -> anyhow::Result<()> {
-    sender.apply(writer, ops::begin())?;
-    exchange(alloc, writer, sender, receiver)?;
-    receiver.apply(writer, ops::begin())?;
-    exchange(alloc, writer, sender, receiver)?;
-    sender.apply(writer, attach(alloc, "news", Role::Sender)?)?;
-    receiver.apply(writer, attach(alloc, "news", Role::Receiver)?)?;
-    exchange(alloc, writer, sender, receiver)?;
-    // The link has no credit yet. A refusal has changed nothing, so the same operation may be tried again.
-    sender.apply(writer, start(alloc, 0)?)?;
-    receiver.apply(writer, ops::grant(0, 10))?;
-    exchange(alloc, writer, sender, receiver)?;
-    sender.apply(writer, start(alloc, 0)?)?;
-    exchange(alloc, writer, sender, receiver)?;
-    settle(alloc, writer, sender, receiver)
+    begin(alloc, lines, sender, receiver)?;
+    attach_both(alloc, lines, sender, receiver)?;
+    send(alloc, lines, sender, receiver)?;
+    settle(alloc, lines, sender, receiver)?;
+    sender.tell_steps(lines)?;
+    receiver.tell_steps(lines)
+}
+
+/// Both begin the session.
+fn begin(
+    alloc: Global,
+    lines: &mut Vec<u8>,
+    sender: &mut End,
+    receiver: &mut End,
+) -> anyhow::Result<()> {
+    act(alloc, lines, sender, receiver, ops::begin())?;
+    act(alloc, lines, receiver, sender, ops::begin())
+}
+
+/// Both attach a link of one name, neither of which has heard of the other's.
+fn attach_both(
+    alloc: Global,
+    lines: &mut Vec<u8>,
+    sender: &mut End,
+    receiver: &mut End,
+) -> anyhow::Result<()> {
+    sender.apply(lines, attach(alloc, "news", Role::Sender)?)?;
+    receiver.apply(lines, attach(alloc, "news", Role::Receiver)?)?;
+    exchange(alloc, lines, sender, receiver)
+}
+
+/// The link has no credit yet. A refusal has changed nothing, so the same operation may be tried again.
+fn send(
+    alloc: Global,
+    lines: &mut Vec<u8>,
+    sender: &mut End,
+    receiver: &mut End,
+) -> anyhow::Result<()> {
+    act(alloc, lines, sender, receiver, start(0, 1))?;
+    act(alloc, lines, receiver, sender, ops::grant(0, 10))?;
+    act(alloc, lines, sender, receiver, start(0, 1))
 }
 
 /// The receiver takes the message and accepts it; the sender learns of it.
-fn settle<W: Write>(
+fn settle(
     alloc: Global,
-    writer: &mut W,
+    lines: &mut Vec<u8>,
     sender: &mut End,
     receiver: &mut End,
 ) -> anyhow::Result<()> {
-    receiver.apply(writer, ops::take(0))?;
-    receiver.apply(writer, ops::accept(0))?;
-    exchange(alloc, writer, sender, receiver)?;
-    sender.apply(writer, ops::learn(0))?;
-    sender.tell_steps(writer)?;
-    receiver.tell_steps(writer)
+    act(alloc, lines, receiver, sender, ops::take(0))?;
+    act(alloc, lines, receiver, sender, ops::accept(0))?;
+    act(alloc, lines, sender, receiver, ops::learn(0))
+}
+
+/// The one end does the operation, and each hears what the other put out then.
+fn act(
+    alloc: Global,
+    lines: &mut Vec<u8>,
+    one: &mut End,
+    other: &mut End,
+    op: Op,
+) -> anyhow::Result<()> {
+    one.apply(lines, op)?;
+    exchange(alloc, lines, one, other)
 }
 
 /// One end of the session, and the framer of what it hears.
@@ -88,106 +121,105 @@ impl End {
         };
         ensure!(config.is_within_limits(), "a setting is out of its limits");
         let mut logged = Logged::new(alloc, &config);
-        logged.opened(MAX_FRAME)?;
-        Ok(End {
-            name,
-            logged,
-            framer: Framer::new(alloc, MAX_FRAME),
-        })
-    }
-
-    /// Does an operation. What is to be sent waits as a unit.
-    fn apply<W: Write>(&mut self, writer: &mut W, op: Op) -> anyhow::Result<()> {
-        let answer = self.logged.apply(&op);
-        drop(op);
-        match answer {
-            Ok(given) => self.tell(writer, &given),
-            Err(Refusal::NoMemory) => bail!("{}", Refusal::NoMemory),
-            Err(refusal) => Ok(writeln!(writer, "{}: refused, {refusal}", self.name)?),
+        match logged.opened(MAX_FRAME) {
+            Ok(()) => Ok(End {
+                name,
+                logged,
+                framer: Framer::new(alloc, MAX_FRAME),
+            }),
+            Err(error) => {
+                drop(logged);
+                Err(error.into())
+            }
         }
     }
 
-    /// Takes octets of the peer's. A frame that breaks the rules has changed nothing.
-    fn hear<W: Write>(
-        &mut self,
-        alloc: Global,
-        writer: &mut W,
-        octets: &[u8],
-    ) -> anyhow::Result<()> {
+    /// Does an operation. What is to be sent waits as a unit.
+    fn apply(&mut self, lines: &mut Vec<u8>, op: Op) -> anyhow::Result<()> {
+        let answer = self.logged.apply(&op);
+        drop(op);
+        match answer {
+            Ok(given) => self.tell(lines, &given),
+            Err(Refusal::NoMemory) => Err(Refusal::NoMemory.into()),
+            Err(refusal) => Ok(writeln!(lines, "{}: refused, {refusal}", self.name)?),
+        }
+    }
+
+    /// Takes octets of the peer's.
+    fn hear(&mut self, alloc: Global, lines: &mut Vec<u8>, octets: &[u8]) -> anyhow::Result<()> {
         let mut frames = Vec::new(alloc);
-        self.framer.feed_all(octets, &mut frames)?;
-        for frame in &frames {
-            self.receive(writer, frame)?;
+        let heard = match self.framer.feed_all(octets, &mut frames) {
+            Ok(()) => self.receive_all(lines, frames.as_slice()),
+            Err(fault) => Err(fault.into()),
+        };
+        drop(frames);
+        heard
+    }
+
+    fn receive_all(&mut self, lines: &mut Vec<u8>, frames: &[Frame]) -> anyhow::Result<()> {
+        for frame in frames {
+            self.receive(lines, frame)?;
         }
         Ok(())
     }
 
-    fn receive<W: Write>(&mut self, writer: &mut W, frame: &Frame) -> anyhow::Result<()> {
+    /// A frame that breaks the rules has changed nothing. Here none does.
+    fn receive(&mut self, lines: &mut Vec<u8>, frame: &Frame) -> anyhow::Result<()> {
         match self.logged.receive(frame) {
-            Ok(given) => self.tell(writer, &given),
-            Err(violation) if violation.kind == ViolationKind::NoMemory => bail!("{violation}"),
-            Err(violation) => Ok(writeln!(writer, "{}: a violation, {violation}", self.name)?),
+            Ok(given) => self.tell(lines, &given),
+            Err(violation) => Err(violation.into()),
         }
     }
 
-    fn tell<W: Write>(&self, writer: &mut W, given: &Given) -> anyhow::Result<()> {
+    /// Tells what a step gives. No link is put aside here, and so no delivery resumed.
+    fn tell(&self, lines: &mut Vec<u8>, given: &Given) -> anyhow::Result<()> {
         let name = self.name;
         match given {
-            Given::Nothing => Ok(()),
-            Given::Link(link) => Ok(writeln!(writer, "{name}: link {link} is asked for")?),
-            Given::Offered(link) => Ok(writeln!(writer, "{name}: link {link} is offered")?),
-            Given::Attached(link) => Ok(writeln!(writer, "{name}: link {link} is attached")?),
-            Given::Gone(link) => Ok(writeln!(writer, "{name}: link {link} is gone")?),
-            Given::Suspended(_) => Ok(writeln!(writer, "{name}: a link is put aside")?),
-            Given::Resumed(_) => Ok(writeln!(writer, "{name}: a delivery is resumed")?),
-            Given::Parted(link, _) => Ok(writeln!(
-                writer,
-                "{name}: link {link} is put aside by the peer"
-            )?),
-            Given::Delivery(id) => Ok(writeln!(writer, "{name}: delivery {id} begins")?),
-            Given::Ready(_, id) => Ok(writeln!(writer, "{name}: delivery {id} is ready")?),
-            Given::Taken(taken) => {
-                let taken = taken.get();
-                let (id, length) = (taken.id, taken.payload.len());
-                Ok(writeln!(writer, "{name}: delivery {id} is taken, {length} octets")?)
-            }
-            Given::Learned(learned) => {
-                let learned = learned.get();
-                let (id, settled) = (learned.id, learned.settled);
-                Ok(writeln!(writer, "{name}: delivery {id} is settled: {settled}")?)
+            Given::Link(link) => tell_of(lines, name, "link", *link, "is asked for"),
+            Given::Offered(link) => tell_of(lines, name, "link", *link, "is offered"),
+            Given::Attached(link) => tell_of(lines, name, "link", *link, "is attached"),
+            Given::Gone(link) => tell_of(lines, name, "link", *link, "is gone"),
+            Given::Delivery(id) => tell_of(lines, name, "delivery", *id, "begins"),
+            Given::Ready(_, id) => tell_of(lines, name, "delivery", *id, "is ready"),
+            Given::Taken(taken) => tell_taken(lines, name, taken.get()),
+            Given::Learned(learned) => tell_learned(lines, name, learned.get()),
+            Given::Nothing | Given::Suspended(_) | Given::Parted(_, _) | Given::Resumed(_) => {
+                Ok(())
             }
         }
     }
 
-    fn tell_steps<W: Write>(&self, writer: &mut W) -> anyhow::Result<()> {
-        let steps = self.logged.steps();
-        Ok(writeln!(writer, "{}: {steps} steps in the journal", self.name)?)
+    fn tell_steps(&self, lines: &mut Vec<u8>) -> anyhow::Result<()> {
+        let (name, steps) = (self.name, self.logged.steps());
+        Ok(writeln!(lines, "{name}: {steps} steps in the journal")?)
     }
 }
 
+fn tell_taken(lines: &mut Vec<u8>, name: &str, taken: &Taken) -> anyhow::Result<()> {
+    let (id, length) = (taken.id, taken.payload.len());
+    Ok(writeln!(lines, "{name}: delivery {id} is taken, {length} octets")?)
+}
+
 /// Each end hears what the other put out.
-fn exchange<W: Write>(
+fn exchange(
     alloc: Global,
-    writer: &mut W,
+    lines: &mut Vec<u8>,
     one: &mut End,
     other: &mut End,
 ) -> anyhow::Result<()> {
     for _ in 0..UNITS {
-        hand_on(alloc, writer, one, other)?;
-        hand_on(alloc, writer, other, one)?;
+        hand_on(alloc, lines, one, other)?;
+        hand_on(alloc, lines, other, one)?;
     }
     Ok(())
 }
 
 /// The first unit that waits at the one end is heard at the other.
-fn hand_on<W: Write>(
-    alloc: Global,
-    writer: &mut W,
-    from: &mut End,
-    to: &mut End,
-) -> anyhow::Result<()> {
-    match from.logged.pop_unit() {
-        Some(unit) => to.hear(alloc, writer, unit.bytes.as_slice()),
-        None => Ok(()),
-    }
+fn hand_on(alloc: Global, lines: &mut Vec<u8>, from: &mut End, to: &mut End) -> anyhow::Result<()> {
+    let Some(unit) = from.logged.pop_unit() else {
+        return Ok(());
+    };
+    let heard = to.hear(alloc, lines, unit.bytes.as_slice());
+    drop(unit);
+    heard
 }

@@ -4,9 +4,9 @@ ghost use Rattle.amqp_shared.specs.Passes.{IsNamed};
 use crate::connection::End;
 use crate::operations::attach;
 use amqp_conn::{Bytes, Config, Op, Role, Tag, Text, ops};
-use amqp_shared::{Closed, Name, NotClosed, Pass, Seed, Shared, WriterEnd, open_shared};
-use anyhow::{Context, anyhow, ensure};
-use std::alloc::Global;
+use amqp_shared::{Closed, Guard, Name, NotClosed, Pass, Seed, Shared, WriterEnd, open_shared};
+use anyhow::{bail, ensure};
+use std::alloc::{AllocError, Global};
 use std::io::Write;
 use std::marker::Brand;
 use std::sync::Wait;
@@ -23,75 +23,113 @@ const TURNS: u32 = 16;
 const DELIVERIES: u8 = 4;
 
 /// Two threads send; the connection is closed, and comes back with its journal.
-pub fn run<R: AllocGlobal + Threads + Wait + Sync, W: Write>(
+pub fn run<R: AllocGlobal + Threads + Wait + Sync>(
     rt: &R,
-    writer: &mut W,
+    lines: &mut Vec<u8>,
+) -> anyhow::Result<()> {
+    let mut peer = End::new(rt.alloc(), "peer")?;
+    let talked = share(rt, lines, &mut peer);
+    drop(peer);
+    talked
+}
+
+/// A connection of its own type, so that no pass of another counts for it.
+fn share<R: AllocGlobal + Threads + Wait + Sync>(
+    rt: &R,
+    lines: &mut Vec<u8>,
+    peer: &mut End,
 ) -> anyhow::Result<()> {
     let config = Config::new(Text::new(rt.alloc(), "shared")?);
     let seed = Seed::new(rt.alloc(), config, RING)?;
-    let mut peer = End::new(rt.alloc(), "peer")?;
-    talk::<Brand, R, W>(rt, writer, seed, &mut peer)
+    talk::<Brand, R>(rt, lines, seed, peer)
 }
 
-fn talk<N: Name + Send + Sync, R: AllocGlobal + Threads + Wait + Sync, W: Write>(
+fn talk<N: Name + Send + Sync, R: AllocGlobal + Threads + Wait + Sync>(
     rt: &R,
-    writer: &mut W,
+    lines: &mut Vec<u8>,
     seed: Seed,
     peer: &mut End,
 ) -> anyhow::Result<()>
     requires { IsNamed seed N.name N.parts N.ring }
 {
     let (shared, mut pass, mut units) = open_shared::<N>(seed);
-    match speak(rt, writer, &shared, &mut pass, &mut units, peer) {
-        Ok((first, second)) => close(rt.alloc(), writer, shared, units, pass, first, second),
-        Err(error) => Err(error),
+    match speak(rt, lines, &shared, &mut pass, &mut units, peer) {
+        Ok((first, second)) => close(rt.alloc(), lines, shared, units, pass, first, second),
+        Err(error) => {
+            drop(units);
+            drop(pass);
+            drop(shared);
+            Err(error)
+        }
     }
 }
 
 /// Two threads send, each with a pass of its own, which it gives back.
-fn speak<N: Name + Send + Sync, R: AllocGlobal + Threads + Wait + Sync, W: Write>(
+fn speak<N: Name + Send + Sync, R: AllocGlobal + Threads + Wait + Sync>(
     rt: &R,
-    writer: &mut W,
+    lines: &mut Vec<u8>,
     shared: &Shared<N>,
     pass: &mut Pass<N>,
     units: &mut WriterEnd<N>,
     peer: &mut End,
 ) -> anyhow::Result<(Pass<N>, Pass<N>)> {
-    begin(rt, writer, shared, pass, units, peer)?;
+    begin(rt, lines, shared, pass, units, peer)?;
+    attach_both(rt, lines, shared, pass, units, peer)?;
     let (first, second) = split(pass)?;
     let (first, second) = send_by_two(rt, shared, first, second);
-    match exchange(rt, writer, shared, pass, units, peer) {
+    match exchange(rt, lines, shared, pass, units, peer) {
         Ok(()) => Ok((first, second)),
-        Err(error) => Err(error),
+        Err(error) => {
+            drop(first);
+            drop(second);
+            Err(error)
+        }
     }
 }
 
 /// Two passes, split off this one.
 fn split<N: Name>(pass: &mut Pass<N>) -> anyhow::Result<(Pass<N>, Pass<N>)> {
-    let first = pass.split().context("a pass of 65536 parts can be split")?;
-    let second = pass.split().context("a pass of 65535 parts can be split")?;
-    Ok((first, second))
+    match (pass.split(), pass.split()) {
+        (Some(first), Some(second)) => Ok((first, second)),
+        _ => bail!("a pass of 65536 parts can be split"),
+    }
 }
 
-/// A session, and a link on which the peer has given credit for ten deliveries.
-fn begin<N: Name, R: AllocGlobal + Wait, W: Write>(
+/// Both open, and begin the session.
+fn begin<N: Name, R: AllocGlobal + Wait>(
     rt: &R,
-    writer: &mut W,
+    lines: &mut Vec<u8>,
     shared: &Shared<N>,
     pass: &mut Pass<N>,
     units: &mut WriterEnd<N>,
     peer: &mut End,
 ) -> anyhow::Result<()> {
-    exchange(rt, writer, shared, pass, units, peer)?;
+    exchange(rt, lines, shared, pass, units, peer)?;
     apply(rt, shared, pass, ops::begin())?;
-    exchange(rt, writer, shared, pass, units, peer)?;
-    peer.apply(writer, ops::begin())?;
-    exchange(rt, writer, shared, pass, units, peer)?;
+    exchange(rt, lines, shared, pass, units, peer)?;
+    peer.apply(lines, ops::begin())?;
+    exchange(rt, lines, shared, pass, units, peer)
+}
+
+/// A link on which the peer gives credit for ten deliveries.
+fn attach_both<N: Name, R: AllocGlobal + Wait>(
+    rt: &R,
+    lines: &mut Vec<u8>,
+    shared: &Shared<N>,
+    pass: &mut Pass<N>,
+    units: &mut WriterEnd<N>,
+    peer: &mut End,
+) -> anyhow::Result<()> {
     apply(rt, shared, pass, attach(rt.alloc(), "there", Role::Sender)?)?;
-    exchange(rt, writer, shared, pass, units, peer)?;
-    peer.apply(writer, attach(rt.alloc(), "there", Role::Receiver)?)?;
-    peer.apply(writer, ops::grant(0, 10))?;
-    exchange(rt, writer, shared, pass, units, peer)
+    exchange(rt, lines, shared, pass, units, peer)?;
+    attach_peer(rt.alloc(), lines, peer)?;
+    exchange(rt, lines, shared, pass, units, peer)
+}
+
+/// The peer takes the link that was offered to it.
+fn attach_peer(alloc: Global, lines: &mut Vec<u8>, peer: &mut End) -> anyhow::Result<()> {
+    peer.apply(lines, attach(alloc, "there", Role::Receiver)?)?;
+    peer.apply(lines, ops::grant(0, 10))
 }
 
 /// Each thread has a pass of its own, and takes the lock for one operation at a time.
@@ -129,12 +167,12 @@ fn send<N: Name, R: AllocGlobal + Wait>(
     rt: &R,
     shared: &Shared<N>,
     pass: &mut Pass<N>,
-    tag: [u8; 2],
+    octets: [u8; 2],
 ) -> anyhow::Result<()> {
-    let tag_of = Tag::new(&tag).context("a tag has at most 32 octets")?;
-    let payload = Bytes::copy_from_slice(rt.alloc(), &tag)?;
-    let start = ops::start(0, tag_of, payload);
-    apply(rt, shared, pass, start)
+    let mut tag = Tag::empty();
+    tag.set(&octets);
+    let payload = Bytes::copy_from_slice(rt.alloc(), &octets)?;
+    apply(rt, shared, pass, ops::start(0, tag, payload))
 }
 
 fn apply<N: Name, R: Wait>(
@@ -145,6 +183,7 @@ fn apply<N: Name, R: Wait>(
 ) -> anyhow::Result<()> {
     let mut guard = shared.lock(rt);
     let answer = shared.call(&mut guard, pass, &op);
+    drop(guard);
     drop(op);
     match answer {
         Ok(_) => Ok(()),
@@ -153,9 +192,9 @@ fn apply<N: Name, R: Wait>(
 }
 
 /// Each end hears what the other put out.
-fn exchange<N: Name, R: AllocGlobal + Wait, W: Write>(
+fn exchange<N: Name, R: AllocGlobal + Wait>(
     rt: &R,
-    writer: &mut W,
+    lines: &mut Vec<u8>,
     shared: &Shared<N>,
     pass: &mut Pass<N>,
     units: &mut WriterEnd<N>,
@@ -163,13 +202,25 @@ fn exchange<N: Name, R: AllocGlobal + Wait, W: Write>(
 ) -> anyhow::Result<()> {
     for _ in 0..TURNS {
         shared.move_units(&mut shared.lock(rt));
-        let answer = match units.take() {
-            Some(unit) => peer.hear(rt.alloc(), writer, unit.bytes.as_slice())?,
-            None => peer.hear(rt.alloc(), writer, &[])?,
-        };
-        hear(rt, shared, pass, &answer)?;
+        let answer = write_to_peer(rt.alloc(), lines, units, peer)?;
+        hear(rt, shared, pass, answer)?;
     }
     Ok(())
+}
+
+/// The peer hears the first unit in the ring, if there is one, and answers what it says then.
+fn write_to_peer<N: Name>(
+    alloc: Global,
+    lines: &mut Vec<u8>,
+    units: &mut WriterEnd<N>,
+    peer: &mut End,
+) -> anyhow::Result<Vec<u8>> {
+    let Some(unit) = units.take() else {
+        return peer.hear(alloc, lines, &[]);
+    };
+    let answer = peer.hear(alloc, lines, unit.bytes.as_slice());
+    drop(unit);
+    answer
 }
 
 /// Feeds all of the octets.
@@ -177,15 +228,27 @@ fn hear<N: Name, R: Wait>(
     rt: &R,
     shared: &Shared<N>,
     pass: &mut Pass<N>,
-    octets: &[u8],
+    octets: Vec<u8>,
 ) -> anyhow::Result<()> {
     let mut guard = shared.lock(rt);
+    let fed = feed_all(shared, &mut guard, pass, octets.as_slice());
+    drop(guard);
+    drop(octets);
+    fed
+}
+
+fn feed_all<N: Name>(
+    shared: &Shared<N>,
+    guard: &mut Guard<'_, N>,
+    pass: &mut Pass<N>,
+    octets: &[u8],
+) -> anyhow::Result<()> {
     let mut rest = octets;
     for _ in 0..octets.len() {
         if rest.is_empty() {
             return Ok(());
         }
-        let fed = shared.feed(&mut guard, pass, rest)?;
+        let fed = shared.feed(guard, pass, rest)?;
         ensure!(fed.used > 0, "the peer breaks a rule");
         rest = &rest[fed.used..];
     }
@@ -193,9 +256,9 @@ fn hear<N: Name, R: Wait>(
 }
 
 /// All that belongs to the connection comes together again.
-fn close<N: Name, W: Write>(
+fn close<N: Name>(
     alloc: Global,
-    writer: &mut W,
+    lines: &mut Vec<u8>,
     shared: Shared<N>,
     units: WriterEnd<N>,
     pass: Pass<N>,
@@ -204,8 +267,12 @@ fn close<N: Name, W: Write>(
 ) -> anyhow::Result<()> {
     let made = [pass.made(), first.made(), second.made()];
     match gather(alloc, pass, first, second) {
-        Ok(passes) => tell(writer, made, shared.close(passes, units)),
-        Err(error) => Err(error),
+        Ok(passes) => tell(lines, made, shared.close(passes, units)),
+        Err(error) => {
+            drop(units);
+            drop(shared);
+            Err(error.into())
+        }
     }
 }
 
@@ -214,36 +281,49 @@ fn gather<N: Name>(
     pass: Pass<N>,
     first: Pass<N>,
     second: Pass<N>,
-) -> anyhow::Result<Vec<Pass<N>>> {
-    let mut passes = Vec::new(alloc);
-    passes.push(pass)?;
-    passes.push(first)?;
-    passes.push(second)?;
-    Ok(passes)
+) -> Result<Vec<Pass<N>>, AllocError> {
+    match Vec::with_capacity(alloc, 3) {
+        Ok(mut passes) => {
+            passes.push_reserved(pass);
+            passes.push_reserved(first);
+            passes.push_reserved(second);
+            Ok(passes)
+        }
+        Err(error) => {
+            drop(pass);
+            drop(first);
+            drop(second);
+            Err(error)
+        }
+    }
 }
 
-fn tell<N: Name, W: Write>(
-    writer: &mut W,
+fn tell<N: Name>(
+    lines: &mut Vec<u8>,
     made: [u64; 3],
     closed: Result<Closed, NotClosed<N>>,
 ) -> anyhow::Result<()> {
     match closed {
-        Ok(closed) => tell_closed(writer, made, &closed),
-        Err(refusal) => Err(anyhow!("{}", refusal.reason)),
+        Ok(closed) => {
+            let told = tell_closed(lines, made, &closed);
+            drop(closed);
+            told
+        }
+        Err(refusal) => {
+            let reason = refusal.reason;
+            drop(refusal);
+            Err(reason.into())
+        }
     }
 }
 
-fn tell_closed<W: Write>(writer: &mut W, made: [u64; 3], closed: &Closed) -> anyhow::Result<()> {
+fn tell_closed(lines: &mut Vec<u8>, made: [u64; 3], closed: &Closed) -> anyhow::Result<()> {
+    let [pass, first, second] = made;
     let steps = closed.conn.logged().steps();
     writeln!(
-        writer,
-        "shared: steps of the passes: {} + {} + {}, of the journal: {steps}",
-        made[0], made[1], made[2]
+        lines,
+        "shared: steps of the passes: {pass} + {first} + {second}, of the journal: {steps}"
     )?;
-    Ok(writeln!(
-        writer,
-        "shared: units written: {}, left: {}",
-        closed.taken,
-        closed.left.len()
-    )?)
+    let (taken, left) = (closed.taken, closed.left.len());
+    Ok(writeln!(lines, "shared: units written: {taken}, left: {left}")?)
 }

@@ -101,13 +101,21 @@ fn jobs_of<N: Name>(
 ) -> Result<Vec<Job<N>>, AllocError> {
     let mut jobs = Vec::new(alloc);
     for pass in passes {
-        jobs.push(Job {
+        let job = Job {
             alloc,
             pass,
             credit,
-        })?;
+        };
+        put_job(&mut jobs, job)?;
     }
     Ok(jobs)
+}
+
+fn put_job<N: Name>(jobs: &mut Vec<Job<N>>, job: Job<N>) -> Result<(), AllocError> {
+    match jobs.push(job) {
+        Ok(()) => Ok(()),
+        Err(_) => Err(AllocError),
+    }
 }
 
 /// What a consumer's thread hands back.
@@ -167,7 +175,9 @@ fn consume_alone<N: Name + Send + Sync, R: Threads + Wait + Sync>(
         renewal: Renewal::AtHalf,
     };
     let mut done = run_consumers_in_batches(rt, &end.shared, passes, works, terms, MORE)?;
-    match done.pop() {
+    let consumed = done.pop();
+    drop(done);
+    match consumed {
         Some(consumed) => Ok(done_by(consumed)),
         None => Err(AllocError),
     }
@@ -199,16 +209,34 @@ fn gather<N: Name>(alloc: Global, done: Vec<Result<Done<N>, AllocError>>) -> Con
     let mut passes = Vec::new(alloc);
     let mut counts = NOTHING;
     for consumed in done {
-        let Ok(consumed) = consumed else {
-            return Err(PairFault::NoMemory);
-        };
-        if consumed.stopped != Refusal::NotRunning {
-            return Err(PairFault::Consume(consumed.stopped));
-        }
-        let Counts { deliveries, octets } = consumed.counts;
-        counts.deliveries = counts.deliveries.saturating_add(deliveries);
-        counts.octets = counts.octets.saturating_add(octets);
-        put(&mut passes, consumed.pass)?;
+        counts = add(&mut passes, counts, consumed)?;
     }
     Ok((passes, counts))
+}
+
+/// What the consumers before have had, and this one, whose pass is put behind theirs.
+fn add<N: Name>(
+    passes: &mut Vec<Pass<N>>,
+    counts: Counts,
+    consumed: Result<Done<N>, AllocError>,
+) -> Result<Counts, PairFault> {
+    let Ok(consumed) = consumed else {
+        return Err(PairFault::NoMemory);
+    };
+    let Done {
+        pass,
+        counts: more,
+        stopped,
+    } = consumed;
+    if stopped != Refusal::NotRunning {
+        drop(pass);
+        return Err(PairFault::Consume(stopped));
+    }
+    match put(passes, pass) {
+        Ok(()) => Ok(Counts {
+            deliveries: counts.deliveries.saturating_add(more.deliveries),
+            octets: counts.octets.saturating_add(more.octets),
+        }),
+        Err(fault) => Err(fault),
+    }
 }

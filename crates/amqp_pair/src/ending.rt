@@ -3,7 +3,7 @@ use crate::end::End;
 use crate::fault::PairFault;
 use crate::gate::{Gate, Opening};
 use amqp_frames::Role;
-use amqp_shared::{Closed, Name, Pass, Shared, WriterEnd};
+use amqp_shared::{Closed, Name, NotClosed, Pass, Shared, WriterEnd};
 use std::sync::Wait;
 
 /// Ends the connection without a close: no more octets come, and none go out but those that wait. Whoever waits for it goes on.
@@ -40,15 +40,30 @@ pub fn put<N: Name>(passes: &mut Vec<Pass<N>>, pass: Pass<N>) -> Result<(), Pair
     }
 }
 
-/// Takes an end apart.
+/// Takes an end apart, where all its passes were gathered.
 pub fn take_apart<N: Name>(
     shared: Shared<N>,
-    passes: Vec<Pass<N>>,
+    passes: Result<Vec<Pass<N>>, PairFault>,
     writer: WriterEnd<N>,
 ) -> Result<Closed, PairFault> {
-    match shared.close(passes, writer) {
+    match passes {
+        Ok(passes) => only_closed(shared.close(passes, writer)),
+        Err(fault) => {
+            drop(writer);
+            drop(shared);
+            Err(fault)
+        }
+    }
+}
+
+fn only_closed<N: Name>(closed: Result<Closed, NotClosed<N>>) -> Result<Closed, PairFault> {
+    match closed {
         Ok(closed) => Ok(closed),
-        Err(refusal) => Err(PairFault::Close(refusal.reason)),
+        Err(refusal) => {
+            let reason = refusal.reason;
+            drop(refusal);
+            Err(PairFault::Close(reason))
+        }
     }
 }
 

@@ -157,17 +157,41 @@ impl<'a, N: Name> Reading<'a, N> {
         gate: &Gate,
     ) -> Result<(), ReadFault> {
         let mut inbox = Inbox::new(self.alloc);
+        let read = self.read_into(rt, &mut inbox, stream, gate);
+        drop(inbox);
+        read
+    }
+
+    fn read_into<R: Wait, S: io::Read>(
+        &mut self,
+        rt: &R,
+        inbox: &mut Inbox,
+        stream: &mut S,
+        gate: &Gate,
+    ) -> Result<(), ReadFault> {
         for _ in rt.forever() {
             let octets = inbox.read_frames(rt, stream)?;
-            let opens = self.stage != Stage::Runs;
-            if self.take_in(rt, &octets)? {
+            if self.take_frames(rt, octets, gate)? {
                 return Ok(());
-            }
-            if opens && self.stage == Stage::Runs {
-                gate.tell(rt, Opening::Ready);
             }
         }
         unreachable!()
+    }
+
+    /// Takes whole frames in, and tells the gate where the end is ready with them. Whether the connection has ended.
+    fn take_frames<R: Wait>(
+        &mut self,
+        rt: &R,
+        octets: Bytes,
+        gate: &Gate,
+    ) -> Result<bool, ReadFault> {
+        let opens = self.stage != Stage::Runs;
+        let taken = self.take_in(rt, &octets);
+        drop(octets);
+        if opens && self.stage == Stage::Runs && matches!(taken, Ok(false)) {
+            gate.tell(rt, Opening::Ready);
+        }
+        taken
     }
 
     /// Feeds octets, and does what the session allows behind them; what is put out by either is written by the thread beside this one. Whether the connection
@@ -175,16 +199,26 @@ impl<'a, N: Name> Reading<'a, N> {
     fn take_in<R: Wait>(&mut self, rt: &R, octets: &Bytes) -> Result<bool, ReadFault> {
         let mut guard = self.end.shared.lock(rt);
         let before = guard.conn().logged().put_out();
-        self.feed_piece(rt, &mut guard, octets)?;
-        let has_ended = guard.conn().phase() == Phase::Closed;
-        if !has_ended {
-            self.go_on(&mut guard)?;
-            make_room(&self.end.shared, &mut guard, self.beginning.keep);
-        }
+        let taken = self.feed_and_go_on(rt, &mut guard, octets);
         let is_more = before < guard.conn().logged().put_out();
         drop(guard);
-        if is_more {
+        if is_more && taken.is_ok() {
             self.end.outlet.ask(rt);
+        }
+        taken
+    }
+
+    fn feed_and_go_on<R: Wait>(
+        &mut self,
+        rt: &R,
+        guard: &mut Guard<'_, N>,
+        octets: &Bytes,
+    ) -> Result<bool, ReadFault> {
+        self.feed_piece(rt, guard, octets)?;
+        let has_ended = guard.conn().phase() == Phase::Closed;
+        if !has_ended {
+            self.go_on(guard)?;
+            make_room(&self.end.shared, guard, self.beginning.keep);
         }
         Ok(has_ended)
     }

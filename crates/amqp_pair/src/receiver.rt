@@ -4,16 +4,16 @@ ghost use Rattle.amqp_shared.specs.Passes.{IsNamed};
 
 use crate::beginning::seed;
 use crate::beside::beside;
-use crate::consuming::{ConsumeOutcome, consume_all};
-use crate::end::End;
+use crate::consuming::{ConsumeOutcome, Counts, consume_all};
+use crate::end::{End, Means};
 use crate::ending::{give_up, left_of, put, take_apart};
 use crate::fault::PairFault;
 use crate::gate::Gate;
 use crate::options::Options;
 use crate::reading::{Beginning, ReadFault, ReadOutcome, Reader, read_end};
-use crate::writing::{Outlet, write_end};
+use crate::writing::write_end;
 use amqp_frames::Role;
-use amqp_shared::{Closed, Name, Pass, Seed, Shared, WriterEnd, open_shared};
+use amqp_shared::{Closed, Name, Pass, Seed, open_shared};
 use std::alloc::Global;
 use std::io;
 use std::marker::Brand;
@@ -45,6 +45,7 @@ where
     receive::<Brand, R>(rt, alloc, seed, options, stream)
 }
 
+/// What can fail comes first, so that an end which is made runs.
 fn receive<N, R>(
     rt: &R,
     alloc: Global,
@@ -57,59 +58,86 @@ where
     R: Threads + Wait + Sync,
     requires { IsNamed seed N.name N.parts N.ring }
 {
-    let (shared, mut pass, writer) = open_shared::<N>(seed);
-    let passes = split_off(alloc, &mut pass, options.consumers)?;
-    let copy = stream.try_clone().map_err(PairFault::Socket)?;
-    let outlet = Outlet::new(alloc, writer, stream)?;
-    let end = End { shared, outlet };
-    let ran = run_end(rt, alloc, &end, pass, passes, options, copy)?;
-    finish(end, ran)
+    match Means::new(alloc, stream) {
+        Ok(means) => receive_by::<N, R>(rt, alloc, seed, options, means),
+        Err(fault) => {
+            drop(seed);
+            Err(fault)
+        }
+    }
 }
 
 /// What the threads of the end gave, its reader and its consumers; and whether the system made all of them.
 type Ran<N> = (ReadOutcome<N>, ConsumeOutcome<N>, bool);
 
 /// Runs the end over its socket.
-fn run_end<N, R>(
+fn receive_by<N, R>(
     rt: &R,
     alloc: Global,
-    end: &End<N>,
-    pass: Pass<N>,
-    passes: Vec<Pass<N>>,
+    seed: Seed,
     options: &Options,
-    stream: TcpStream,
-) -> Result<Ran<N>, PairFault>
+    means: Means,
+) -> Result<Received, PairFault>
 where
     N: Name + Send + Sync,
     R: Threads + Wait + Sync,
+    requires { IsNamed seed N.name N.parts N.ring }
 {
-    let (gate, told) = Gate::pair(alloc)?;
+    let (shared, mut reading, writer) = open_shared::<N>(seed);
     let beginning = Beginning {
         role: Role::Receiver,
         credit: options.credit,
         keep: options.keep,
     };
-    let reader = Reader {
-        alloc,
-        pass,
-        stream,
-        beginning,
-        gate: told,
-    };
-    Ok(run_threads(rt, end, reader, passes, options.credit, &gate))
+    match split_off(alloc, &mut reading, options.consumers) {
+        Ok(passes) => {
+            let (end, reader, gate) = means.into_end(alloc, shared, reading, writer, beginning);
+            let ran = run_threads(rt, &end, reader, passes, options.credit, &gate);
+            drop(gate);
+            finish(end, ran)
+        }
+        Err(fault) => {
+            drop(means);
+            drop(writer);
+            drop(reading);
+            drop(shared);
+            Err(fault)
+        }
+    }
 }
 
 /// What the end has done, once its threads have ended.
 fn finish<N: Name>(end: End<N>, ran: Ran<N>) -> Result<Received, PairFault> {
     let (shared, (writer, written)) = end.into_parts();
     let ((reading, read), consumed, is_made) = ran;
-    let (passes, counts) = outcome(is_made, read, written, consumed)?;
-    let closed = end_receiver(shared, reading, passes, writer)?;
-    Ok(Received {
-        consumed: counts.deliveries,
-        octets: counts.octets,
-        left: left_of(&closed),
-    })
+    match outcome(is_made, read, written, consumed) {
+        Ok((passes, counts)) => {
+            let closed = take_apart(shared, with_reader(passes, reading), writer);
+            received_by(closed, counts)
+        }
+        Err(fault) => {
+            drop(writer);
+            drop(reading);
+            drop(shared);
+            Err(fault)
+        }
+    }
+}
+
+/// What is told of the end, where it was taken apart.
+fn received_by(closed: Result<Closed, PairFault>, counts: Counts) -> Result<Received, PairFault> {
+    match closed {
+        Ok(closed) => {
+            let left = left_of(&closed);
+            drop(closed);
+            Ok(Received {
+                consumed: counts.deliveries,
+                octets: counts.octets,
+                left,
+            })
+        }
+        Err(fault) => Err(fault),
+    }
 }
 
 /// What the consumers came to, unless the reader or the writer failed, or was not made.
@@ -127,14 +155,16 @@ fn outcome<N: Name>(
     consumed
 }
 
-fn end_receiver<N: Name>(
-    shared: Shared<N>,
-    reading: Pass<N>,
-    mut passes: Vec<Pass<N>>,
-    writer: WriterEnd<N>,
-) -> Result<Closed, PairFault> {
-    put(&mut passes, reading)?;
-    take_apart(shared, passes, writer)
+/// The passes, with the reader's behind them.
+fn with_reader<N: Name>(passes: Vec<Pass<N>>, reading: Pass<N>) -> Result<Vec<Pass<N>>, PairFault> {
+    let mut passes = passes;
+    match put(&mut passes, reading) {
+        Ok(()) => Ok(passes),
+        Err(fault) => {
+            drop(passes);
+            Err(fault)
+        }
+    }
 }
 
 /// The reader, beside the thread that writes for it and the consumers. With no thread for it the end is given up, and it reads to the end behind the others.

@@ -4,17 +4,17 @@ ghost use Rattle.amqp_shared.specs.Passes.{IsNamed};
 
 use crate::beginning::seed;
 use crate::beside::beside;
-use crate::end::End;
-use crate::ending::{give_up, left_of, put, take_apart};
+use crate::end::{End, Means};
+use crate::ending::{give_up, left_of, take_apart};
 use crate::fault::PairFault;
 use crate::gate::Gate;
 use crate::options::Options;
 use crate::reading::{Beginning, ReadFault, ReadOutcome, Reader, read_end};
 use crate::sending::{Done, Hand, Messages, SendOutcome, send_all};
-use crate::writing::{Outlet, write_end};
+use crate::writing::write_end;
 use amqp_frames::Role;
 use amqp_rules::refusal::Refusal;
-use amqp_shared::{Closed, Name, Pass, Receipt, Seed, Shared, WriterEnd, open_shared};
+use amqp_shared::{Closed, Name, Pass, Receipt, Seed, open_shared};
 use std::alloc::Global;
 use std::io;
 use std::marker::Brand;
@@ -46,6 +46,7 @@ where
     send::<Brand, R>(rt, alloc, seed, &messages, stream)
 }
 
+/// What can fail comes first, so that an end which is made runs.
 fn send<N, R>(
     rt: &R,
     alloc: Global,
@@ -58,52 +59,51 @@ where
     R: Threads + Wait + Sync,
     requires { IsNamed seed N.name N.parts N.ring }
 {
-    let (shared, mut pass, writer) = open_shared::<N>(seed);
-    let Some(reading) = pass.split() else {
-        return Err(PairFault::Options);
-    };
-    let hand = Hand {
-        pass,
-        receipts: messages.receipts(alloc),
-    };
-    let copy = stream.try_clone().map_err(PairFault::Socket)?;
-    let outlet = Outlet::new(alloc, writer, stream)?;
-    let end = End { shared, outlet };
-    let ran = run_end(rt, alloc, &end, reading, hand, messages, copy)?;
-    finish(alloc, end, messages, ran)
+    match Means::new(alloc, stream) {
+        Ok(means) => send_by::<N, R>(rt, alloc, seed, messages, means),
+        Err(fault) => {
+            drop(seed);
+            Err(fault)
+        }
+    }
 }
 
 /// What the threads of the end gave, its reader and its messages; and whether the system made all of them.
 type Ran<N> = (ReadOutcome<N>, SendOutcome<N>, bool);
 
 /// Runs the end over its socket.
-fn run_end<N, R>(
+fn send_by<N, R>(
     rt: &R,
     alloc: Global,
-    end: &End<N>,
-    pass: Pass<N>,
-    hand: Hand<N>,
+    seed: Seed,
     messages: &Messages,
-    stream: TcpStream,
-) -> Result<Ran<N>, PairFault>
+    means: Means,
+) -> Result<Sent, PairFault>
 where
     N: Name + Send + Sync,
     R: Threads + Wait + Sync,
+    requires { IsNamed seed N.name N.parts N.ring }
 {
-    let (gate, told) = Gate::pair(alloc)?;
+    let (shared, mut reading, writer) = open_shared::<N>(seed);
+    let Some(pass) = reading.split() else {
+        drop(writer);
+        drop(reading);
+        drop(shared);
+        return Err(PairFault::Options);
+    };
     let beginning = Beginning {
         role: Role::Sender,
         credit: 0,
         keep: messages.keep(),
     };
-    let reader = Reader {
-        alloc,
+    let hand = Hand {
         pass,
-        stream,
-        beginning,
-        gate: told,
+        receipts: messages.receipts(alloc),
     };
-    Ok(run_threads(rt, end, reader, hand, messages, &gate))
+    let (end, reader, gate) = means.into_end(alloc, shared, reading, writer, beginning);
+    let ran = run_threads(rt, &end, reader, hand, messages, &gate);
+    drop(gate);
+    finish(alloc, end, messages, ran)
 }
 
 /// What the end has done, once its threads have ended.
@@ -115,10 +115,16 @@ fn finish<N: Name>(
 ) -> Result<Sent, PairFault> {
     let (shared, (writer, written)) = end.into_parts();
     let ((reading, read), (hand, sent), is_made) = ran;
-    let done = outcome(is_made, read, written, sent)?;
     let Hand { pass, receipts } = hand;
-    let closed = end_sender(alloc, shared, reading, pass, writer)?;
-    sent_of(messages, &closed, &receipts, &done)
+    let closed = take_apart(shared, both(alloc, reading, pass), writer);
+    match outcome(is_made, read, written, sent) {
+        Ok(done) => sent_by(messages, closed, receipts, done),
+        Err(fault) => {
+            drop(closed);
+            drop(receipts);
+            Err(fault)
+        }
+    }
 }
 
 /// What the messages came to, unless a thread failed, or was not made.
@@ -134,6 +140,23 @@ fn outcome(
     read.map_err(PairFault::Read)?;
     written.map_err(PairFault::Write)?;
     sent.map_err(PairFault::Send)
+}
+
+/// What is told of the end, where it was taken apart.
+fn sent_by(
+    messages: &Messages,
+    closed: Result<Closed, PairFault>,
+    receipts: Option<Vec<Receipt>>,
+    done: Done,
+) -> Result<Sent, PairFault> {
+    match closed {
+        Ok(closed) => {
+            let sent = sent_of(messages, &closed, &receipts, &done);
+            drop(closed);
+            sent
+        }
+        Err(fault) => Err(fault),
+    }
 }
 
 /// What is told of the closed connection, where the receipts stand in its journal and its ids are numbered.
@@ -208,15 +231,22 @@ where
     (done, is_written)
 }
 
-fn end_sender<N: Name>(
+/// The two passes of the end.
+fn both<N: Name>(
     alloc: Global,
-    shared: Shared<N>,
     reading: Pass<N>,
     pass: Pass<N>,
-    writer: WriterEnd<N>,
-) -> Result<Closed, PairFault> {
-    let mut passes = Vec::new(alloc);
-    put(&mut passes, reading)?;
-    put(&mut passes, pass)?;
-    take_apart(shared, passes, writer)
+) -> Result<Vec<Pass<N>>, PairFault> {
+    match Vec::with_capacity(alloc, 2) {
+        Ok(mut passes) => {
+            passes.push_reserved(reading);
+            passes.push_reserved(pass);
+            Ok(passes)
+        }
+        Err(_) => {
+            drop(reading);
+            drop(pass);
+            Err(PairFault::NoMemory)
+        }
+    }
 }

@@ -390,13 +390,28 @@ fn learn_run<N: Name, R: Wait>(
     make_room(&end.shared, &mut guard, messages.keep);
     let mut accepted = 0u64;
     for _ in 0..count {
-        let given;
-        (guard, given) = call(rt, end, guard, hand, &Op::Learn { link: LINK })?;
-        if is_accepted(&given) {
-            accepted = accepted.saturating_add(1);
-        }
+        let more;
+        (guard, more) = learn_one(rt, end, guard, hand)?;
+        accepted = accepted.saturating_add(more);
     }
     Ok(accepted)
+}
+
+/// Learns of one message: one where it was accepted, or none.
+fn learn_one<'b, N: Name, R: Wait>(
+    rt: &R,
+    end: &'b End<N>,
+    guard: Guard<'b, N>,
+    hand: &mut Hand<N>,
+) -> Result<(Guard<'b, N>, u64), Refusal> {
+    match call(rt, end, guard, hand, &Op::Learn { link: LINK }) {
+        Ok((guard, given)) => {
+            let accepted = if is_accepted(&given) { 1 } else { 0 };
+            drop(given);
+            Ok((guard, accepted))
+        }
+        Err(refusal) => Err(refusal),
+    }
 }
 
 fn call<'b, N: Name, R: Wait>(

@@ -3,7 +3,7 @@
 use crate::end::End;
 use crate::fault::PairFault;
 use amqp_shared::{Bytes, Name, Shared, WriterEnd};
-use std::alloc::{AllocError, Global};
+use std::alloc::Global;
 use std::io;
 use std::io::{ErrorKind, IoSlice, Write};
 use std::net::{Shutdown, TcpStream};
@@ -30,17 +30,20 @@ struct Long {
 
 /// What is written together: the octets of short units, copied one behind the other, and long ones between them.
 #[derive(Drop)]
-struct Batch {
+pub struct Batch {
     copied: Vec<u8>,
     longs: Vec<Long>,
 }
 
 impl Batch {
-    fn new(alloc: Global) -> Result<Batch, AllocError> {
-        Ok(Batch {
-            copied: Vec::with_capacity(alloc, BATCH)?,
-            longs: Vec::with_capacity(alloc, LONGS)?,
-        })
+    pub fn new(alloc: Global) -> Result<Batch, PairFault> {
+        let (Ok(copied), Ok(longs)) = (
+            Vec::with_capacity(alloc, BATCH),
+            Vec::with_capacity(alloc, LONGS),
+        ) else {
+            return Err(PairFault::NoMemory);
+        };
+        Ok(Batch { copied, longs })
     }
 
     fn is_full(&self) -> bool {
@@ -205,25 +208,18 @@ pub struct Outlet<N: Name> {
 
 impl<N: Name> Outlet<N> {
     /// With what an end puts out at its beginning still to be written.
-    pub fn new(
-        alloc: Global,
-        end: WriterEnd<N>,
-        stream: TcpStream,
-    ) -> Result<Outlet<N>, PairFault> {
-        let Ok(batch) = Batch::new(alloc) else {
-            return Err(PairFault::NoMemory);
-        };
+    pub fn new(end: WriterEnd<N>, stream: TcpStream, batch: Batch) -> Outlet<N> {
         let outgoing = Outgoing {
             end,
             stream,
             batch,
             fault: None,
         };
-        Ok(Outlet {
+        Outlet {
             outgoing: Mutex::new(outgoing),
             asked: Mutex::new(Asked::Units),
             changed: Condvar::new(),
-        })
+        }
     }
 
     /// Writes all that was put out, many units at once where they wait. Who calls it has given the session's lock back. A failed write shuts the socket, so that the reader ends

@@ -1,127 +1,115 @@
-//! Two ends that speak with each other, where one growth of memory is refused: nothing has changed then, and the same call gives its own answer. Two
-//! pairs go the same way: one of both at least has ample memory, and both come to the same.
+//! Two ends that speak with each other, where one growth of memory is refused: nothing has changed then, and the same call gives its own answer.
 
-mod acts;
-mod calls;
-
-use acts::Act;
-use amqp_rules::config::Config;
-use amqp_world::settings::Settings;
+use crate::acts::{Act, Attach, Payload, Start, State};
+use crate::calls::{
+    ACCEPTED, AHEAD, ATTACHED, BEGUN, DONE, EMPTY, GONE, LINK, OFFERED, READY, REFUSED, RESUMING,
+    TAKEN,
+};
+use crate::steps::{Do, Steps, go};
+use amqp_frames::Role;
 use amqp_world::side::Side;
-use amqp_world::world::World;
-use calls::{Do, Steps, count_right, is_same};
-use std::alloc::Global;
 
-const SETTINGS: Settings = Settings {
-    session: Config {
-        first_id: 0,
-        window: 2048,
-        journal_limit: 1000,
-    },
-    max_frame: 65536,
+const START: Start = Start {
+    link: 0,
+    tag: 1,
+    format: 0,
+    settled: false,
+    payload: Payload::These(b"payload"),
+    more: false,
 };
 
-/// Both begin, and A is to send on link 0.
-const BEGUN: Steps = &[
-    (Do::Own(Side::A, Act::Begin), 0),
-    (Do::Own(Side::B, Act::Begin), 0),
-    (Do::Hear(Side::A), 0),
-    (Do::Hear(Side::B), 0),
-    (Do::Hear(Side::B), 3000),
-    (Do::Own(Side::A, Act::Attach(true)), 100),
-    (Do::Hear(Side::B), 200),
-    (Do::Own(Side::B, Act::Attach(false)), 100),
-    (Do::Hear(Side::A), 300),
-    (Do::Own(Side::A, Act::Start(1, false)), 1014),
-    (Do::Own(Side::B, Act::Grant), 0),
-    (Do::Hear(Side::A), 0),
+const SENDER: Attach = Attach {
+    name: "q",
+    role: Role::Sender,
+    snd: 2,
+    rcv: 0,
+    count: 0,
+};
+
+/// Three deliveries may begin.
+const GRANT: Act = Act::Grant {
+    link: 0,
+    credit: 3,
+    drain: false,
+    echo: false,
+};
+
+const CARRY: Act = Act::Carry {
+    link: 0,
+    payload: Payload::These(b"the rest"),
+    more: false,
+};
+
+/// Accepts and settles the first two deliveries.
+const ACCEPT: Act = Act::Dispose {
+    role: Role::Receiver,
+    first: 0,
+    last: 1,
+    settled: true,
+    state: State::Accepted,
+};
+
+/// Both begin, and A is to send on a link. One delivery goes whole and one in two parts; B takes both, and A learns of them. A third waits when A detaches the
+/// link and ends.
+const STEPS: Steps = &[
+    (Side::A, Do::Own(Act::Begin), (DONE, 0)),
+    (Side::B, Do::Own(Act::Begin), (DONE, 0)),
+    (Side::A, Do::Hear, (DONE, 0)),
+    (Side::B, Do::Hear, (DONE, 0)),
+    (Side::B, Do::Hear, (EMPTY, 0)),
+    (Side::A, Do::Own(Act::Attach(SENDER)), (LINK, 0)),
+    (Side::B, Do::Hear, (OFFERED, 0)),
+    (
+        Side::B,
+        Do::Own(Act::Attach(Attach {
+            role: Role::Receiver,
+            ..SENDER
+        })),
+        (LINK, 0),
+    ),
+    (Side::A, Do::Hear, (ATTACHED, 0)),
+    (Side::A, Do::Own(Act::Start(START)), (REFUSED, 14)),
+    (Side::B, Do::Own(GRANT), (DONE, 0)),
+    (Side::A, Do::Hear, (DONE, 0)),
+    (Side::A, Do::Own(Act::Start(START)), (BEGUN, 0)),
+    (
+        Side::A,
+        Do::Own(Act::Start(Start {
+            tag: 2,
+            more: true,
+            ..START
+        })),
+        (BEGUN, 1),
+    ),
+    (Side::A, Do::Own(CARRY), (DONE, 0)),
+    (Side::B, Do::Hear, (READY, 0)),
+    (Side::B, Do::Own(ACCEPT), (AHEAD, 0)),
+    (Side::B, Do::Hear, (DONE, 0)),
+    (Side::B, Do::Hear, (READY, 1)),
+    (Side::B, Do::Own(Act::Take(0)), (TAKEN, 0)),
+    (Side::B, Do::Own(Act::Take(0)), (TAKEN, 1)),
+    (Side::B, Do::Own(ACCEPT), (DONE, 0)),
+    (Side::B, Do::Own(Act::Suspend(0)), (RESUMING, 0)),
+    (Side::A, Do::Hear, (DONE, 0)),
+    (Side::A, Do::Own(Act::Learn(0)), (ACCEPTED, 0)),
+    (Side::A, Do::Own(Act::Learn(0)), (ACCEPTED, 1)),
+    (
+        Side::A,
+        Do::Own(Act::Start(Start { tag: 3, ..START })),
+        (BEGUN, 2),
+    ),
+    (Side::A, Do::Own(Act::Detach(0)), (DONE, 0)),
+    (Side::B, Do::Hear, (READY, 2)),
+    (Side::B, Do::Hear, (GONE, 0)),
+    (Side::A, Do::Own(Act::End), (DONE, 0)),
+    (Side::B, Do::Hear, (DONE, 0)),
+    (Side::A, Do::Hear, (DONE, 0)),
+    (Side::A, Do::Hear, (DONE, 0)),
+    (Side::A, Do::Hear, (EMPTY, 0)),
+    (Side::B, Do::Hear, (EMPTY, 0)),
 ];
-
-/// One delivery goes whole and one in two parts; B takes both, and A learns of them.
-const PASSED: Steps = &[
-    (Do::Own(Side::A, Act::Start(1, false)), 500),
-    (Do::Own(Side::A, Act::Start(2, true)), 501),
-    (Do::Own(Side::A, Act::Carry), 0),
-    (Do::Hear(Side::B), 600),
-    (Do::Own(Side::B, Act::Accept(1)), 2000),
-    (Do::Hear(Side::B), 0),
-    (Do::Hear(Side::B), 601),
-    (Do::Own(Side::B, Act::Take), 700),
-    (Do::Own(Side::B, Act::Take), 701),
-    (Do::Own(Side::B, Act::Accept(1)), 0),
-    (Do::Own(Side::B, Act::Suspend), 2001),
-    (Do::Hear(Side::A), 0),
-    (Do::Own(Side::A, Act::Learn), 800),
-    (Do::Own(Side::A, Act::Learn), 801),
-];
-
-/// A third delivery waits when A detaches its link and ends.
-const ENDED: Steps = &[
-    (Do::Own(Side::A, Act::Start(3, false)), 502),
-    (Do::Own(Side::A, Act::Detach), 0),
-    (Do::Hear(Side::B), 602),
-    (Do::Hear(Side::B), 400),
-    (Do::Own(Side::A, Act::End), 0),
-    (Do::Hear(Side::B), 0),
-    (Do::Hear(Side::A), 0),
-    (Do::Hear(Side::A), 0),
-    (Do::Hear(Side::A), 3000),
-    (Do::Hear(Side::B), 3000),
-];
-
-/// Two ends, made again where that was refused memory.
-fn two_ends(alloc: Global) -> Option<World> {
-    if !SETTINGS.session.is_within_limits() {
-        return None;
-    }
-    match World::new(alloc, &SETTINGS, &SETTINGS) {
-        Ok(world) => Some(world),
-        Err(_) => World::new(alloc, &SETTINGS, &SETTINGS).ok(),
-    }
-}
-
-/// How many steps are answered as they are to be, before the first that is not.
-fn goes(alloc: Global, world: &mut World) -> usize {
-    let mut count = 0usize;
-    for steps in [BEGUN, PASSED, ENDED] {
-        count = count.wrapping_add(count_right(alloc, world, steps));
-    }
-    count
-}
-
-fn both_go(alloc: Global, one: &mut World, other: &mut World) -> Option<usize> {
-    let count = goes(alloc, one);
-    if goes(alloc, other) == count && is_same(one, other) {
-        Some(count)
-    } else {
-        None
-    }
-}
-
-fn goes_with(alloc: Global, one: &mut World) -> Option<usize> {
-    match two_ends(alloc) {
-        Some(mut other) => {
-            let count = both_go(alloc, one, &mut other);
-            drop(other);
-            count
-        }
-        None => None,
-    }
-}
-
-/// How many steps each of two pairs is answered right, if both come to the same.
-fn go(alloc: Global) -> Option<usize> {
-    match two_ends(alloc) {
-        Some(mut one) => {
-            let count = goes_with(alloc, &mut one);
-            drop(one);
-            count
-        }
-        None => None,
-    }
-}
 
 #[test]
 fn every_growth_refused_of_two_ends(rt: HostRuntime) {
-    assert!(rt; go(rt.alloc()) == Some(36));
+    assert!(rt; go(rt.alloc(), 0, STEPS));
 }

@@ -6,16 +6,21 @@
 //! | `random` | whatever both do, and whenever they hear: what is taken is what was sent, and what is learnt is what was said |
 //! | `rejoining` | a link that is put aside while a delivery is under way, and brought back |
 //! | `growth` | growths of memory that are refused |
-//! | `acting` | the operations of these, that the dice choose |
-//! | `lists` | what both journals say of deliveries |
-//! | `calls` | calls, answered by yes or no |
+//! | `acts` | the operations of these |
+//! | `calls` | calls, each answered by numbers |
+//! | `choosing` | the operations that the dice choose |
 //! | `dice` | the same numbers in each run |
+//! | `lists` | what both journals say of deliveries |
+//! | `notes` | what came about of the dice |
+//! | `steps` | tables of calls with their answers, which two pairs go through |
 #![tactic(auto)]
 
 #[cfg(test)]
-mod acting;
+mod acts;
 #[cfg(test)]
 mod calls;
+#[cfg(test)]
+mod choosing;
 #[cfg(test)]
 mod dice;
 #[cfg(test)]
@@ -23,8 +28,12 @@ mod growth;
 #[cfg(test)]
 mod lists;
 #[cfg(test)]
+mod notes;
+#[cfg(test)]
 mod passing;
 #[cfg(test)]
 mod random;
 #[cfg(test)]
 mod rejoining;
+#[cfg(test)]
+mod steps;

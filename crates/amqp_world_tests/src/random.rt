@@ -1,11 +1,10 @@
 //! Two ends that do what the dice say, and hear each other when the dice say so.
 
-use crate::acting::{FIRST, accept_all, turn};
-use crate::calls::{Notes, Tally, does, hears};
-use crate::lists::{count, count_taken, has_complete, journal, judge, source};
-use amqp_frames::Role;
+use crate::acts::Act;
+use crate::choosing::{FIRST, accept_all, turn};
+use crate::lists::{complete, count, count_taken, judge, source};
+use crate::notes::{Notes, Tally, does, hears};
 use amqp_rules::config::Config;
-use amqp_rules::op::Op;
 use amqp_rules::status::LinkPhase;
 use amqp_world::settings::Settings;
 use amqp_world::side::Side;
@@ -20,51 +19,45 @@ const TURNS: u32 = 1000;
 const LAST: u32 = 40;
 
 /// An end with a small window and the shortest frames.
-fn settings(window: u32) -> Settings {
-    Settings {
-        session: Config {
-            first_id: FIRST,
-            window,
-            journal_limit: 100000,
-        },
-        max_frame: 512,
-    }
-}
+const SETTINGS: Settings = Settings {
+    session: Config {
+        first_id: FIRST,
+        window: 1,
+        journal_limit: 100000,
+    },
+    max_frame: 512,
+};
 
 /// What all pairs made of each other.
 fn play_all(alloc: Global) -> Tally {
-    let mut all = Tally::NONE;
+    let mut tally = Tally::NONE;
     for seed in 0..PAIRS {
-        all = all.and(&play(alloc, seed));
+        tally = play(Notes::new(alloc, seed, tally));
     }
-    all
-}
-
-/// What two ends made of each other; nothing where there was no memory for them.
-fn play(alloc: Global, seed: u32) -> Tally {
-    let mut notes = Notes::new(alloc, seed);
-    let a = settings(notes.dice.below(4).wrapping_add(1));
-    let b = settings(notes.dice.below(4).wrapping_add(1));
-    if !a.session.is_within_limits() || !b.session.is_within_limits() {
-        return Tally::NONE;
-    }
-    match World::new(alloc, &a, &b) {
-        Ok(world) => play_on(world, notes),
-        Err(_) => Tally::NONE,
-    }
-}
-
-fn play_on(mut world: World, mut notes: Notes) -> Tally {
-    let tally = play_with(&mut world, &mut notes);
-    drop(world);
     tally
+}
+
+/// What two ends made of each other, beside what others did; nothing where there was no memory for them.
+fn play(notes: Notes) -> Tally {
+    let mut notes = notes;
+    let (mut a, mut b) = (SETTINGS, SETTINGS);
+    a.session.window = notes.dice.below(4).wrapping_add(1);
+    b.session.window = notes.dice.below(4).wrapping_add(1);
+    if !a.session.is_within_limits() || !b.session.is_within_limits() {
+        return notes.tally;
+    }
+    if let Ok(mut world) = World::new(notes.alloc, &a, &b) {
+        play_with(&mut world, &mut notes);
+        drop(world);
+    }
+    notes.tally
 }
 
 /// Both begin, and take turns; then both hear and take all, and learn what the other says of it. One ends its session, of which the other may hear
 /// while it goes on.
-fn play_with(world: &mut World, notes: &mut Notes) -> Tally {
-    does(world, notes, Side::A, Op::Begin);
-    does(world, notes, Side::B, Op::Begin);
+fn play_with(world: &mut World, notes: &mut Notes) {
+    does(world, notes, Side::A, Act::Begin);
+    does(world, notes, Side::B, Act::Begin);
     turns(world, notes, TURNS);
     judge_both(world, notes);
     hear_all(world, notes);
@@ -74,12 +67,11 @@ fn play_with(world: &mut World, notes: &mut Notes) -> Tally {
     learn_all(world, notes, Side::A);
     learn_all(world, notes, Side::B);
     let side = notes.side();
-    does(world, notes, side, Op::End { error: None });
+    does(world, notes, side, Act::End);
     turns(world, notes, LAST);
     judge_both(world, notes);
-    count(&mut notes.tally, journal(world, Side::A));
-    count(&mut notes.tally, journal(world, Side::B));
-    notes.tally
+    count(&mut notes.tally, world.side(Side::A).journal());
+    count(&mut notes.tally, world.side(Side::B).journal());
 }
 
 fn turns(world: &mut World, notes: &mut Notes, count: u32) {
@@ -89,7 +81,7 @@ fn turns(world: &mut World, notes: &mut Notes, count: u32) {
 }
 
 fn judge_both(world: &World, notes: &mut Notes) {
-    let (a, b) = (journal(world, Side::A), journal(world, Side::B));
+    let (a, b) = (world.side(Side::A).journal(), world.side(Side::B).journal());
     judge(&mut notes.tally, a, b);
     judge(&mut notes.tally, b, a);
 }
@@ -107,11 +99,10 @@ fn hear_all(world: &mut World, notes: &mut Notes) {
 
 /// The end takes all that waits on each of its links, and accepts it; then all was taken that the other sent complete.
 fn take_all(world: &mut World, notes: &mut Notes, side: Side) {
-    for link in 0..=notes.newest(side) {
+    for link in 0..notes.newest(side).wrapping_add(1) {
         if is_attached(world, side, link) {
-            exhaust(world, notes, side, link, Role::Receiver);
-            let right = has_all(world, side, link);
-            notes.tally.judge(right);
+            exhaust(world, notes, side, Act::Take(link));
+            notes.tally.judge(has_all(world, side, link));
         }
     }
     accept_all(world, notes, side);
@@ -119,31 +110,28 @@ fn take_all(world: &mut World, notes: &mut Notes, side: Side) {
 
 /// The end learns all that was told on each of its links.
 fn learn_all(world: &mut World, notes: &mut Notes, side: Side) {
-    for link in 0..=notes.newest(side) {
-        exhaust(world, notes, side, link, Role::Sender);
+    for link in 0..notes.newest(side).wrapping_add(1) {
+        exhaust(world, notes, side, Act::Learn(link));
     }
 }
 
-/// Takes what waits on the link, or learns what was told, until there is no more.
-fn exhaust(world: &mut World, notes: &mut Notes, side: Side, link: u32, role: Role) {
+/// Does it until it is refused.
+fn exhaust(world: &mut World, notes: &mut Notes, side: Side, act: Act) {
     for _ in 0..u32::MAX {
-        let op = match role {
-            Role::Receiver => Op::Take { link },
-            Role::Sender => Op::Learn { link },
-        };
-        if !does(world, notes, side, op) {
+        if !does(world, notes, side, act) {
             return;
         }
     }
 }
 
-/// Where the other end has not left the link.
+/// All was taken that was sent complete, where the other end has not left the link.
 fn has_all(world: &World, side: Side, link: u32) -> bool {
-    let (mine, theirs) = (journal(world, side), journal(world, side.other()));
+    let mine = world.side(side).journal();
+    let theirs = world.side(side.other()).journal();
     match source(mine, theirs, link) {
         Some(there) => {
             !is_attached(world, side.other(), there)
-                || !has_complete(theirs, there, count_taken(mine, link))
+                || complete(theirs, there, count_taken(mine, link)).is_none()
         }
         None => false,
     }
@@ -159,7 +147,5 @@ fn is_attached(world: &World, side: Side, link: u32) -> bool {
 /// No frame is a violation, what is taken is what was sent, and what is learnt is what was said; and all that is looked for came about.
 #[test]
 fn whatever_both_do(rt: HostRuntime) {
-    let all = play_all(rt.alloc());
-    assert!(rt; all.wrong == 0);
-    assert!(rt; all.has_each());
+    assert!(rt; play_all(rt.alloc()).is_right());
 }

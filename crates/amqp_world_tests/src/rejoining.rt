@@ -1,16 +1,16 @@
 //! Two sessions whose frames the test carries: B puts a link aside while a delivery of A's is under way. A brings it back with that delivery, of which B
 //! knows nothing, so that A may send it again (part 2, 2.6.13).
 
-use amqp_frames::Role;
+use crate::acts::{Act, Payload, Start, op, rejoined};
+use amqp_frames::{Frame, Role};
 use amqp_journal::entry::Entry;
 use amqp_journal::logged::Logged;
 use amqp_rules::config::Config;
-use amqp_rules::op::{Op, Rejoin};
-use amqp_rules::reply::{Given, Resumed, Suspended};
-use amqp_types::{Boxed, Tag, Text};
+use amqp_rules::op::Op;
+use amqp_rules::reply::{Given, Sent, Suspended};
 use amqp_waiting::{Brought, SuspendedItem, Verdict};
-use bytes::Bytes;
-use std::alloc::{AllocError, Global};
+use amqp_world::side::Side;
+use std::alloc::Global;
 
 const CONFIG: Config = Config {
     first_id: 4294967295,
@@ -27,195 +27,201 @@ struct Ends {
     by_b: usize,
 }
 
-/// What came of it.
-#[derive(Clone, Copy, PartialEq, Eq)]
-struct Course {
-    /// What A was given with the link has its delivery alone.
-    parted: bool,
-    /// What B was given has none, since B did not hear it.
-    aside: bool,
-    /// Both attached the link again, and heard it.
-    rejoined: bool,
-    /// What became of A's delivery.
-    resumed: Option<Verdict>,
+/// What is done with two ends.
+#[derive(Clone, Copy)]
+enum Do {
+    Own(Side, Act),
+    /// Both hear all, what they answer included.
+    Exchange,
+    /// A brings back the link with what it was given when it was put aside.
+    Back,
 }
 
-/// Each frame with a body that the other sent is heard, and none is a violation.
-fn hears(mine: &mut Logged, theirs: &[Entry]) -> bool {
-    let mut right = true;
-    for entry in theirs {
-        for sent in entry.reply.sent.as_slice() {
-            if sent.frame.body.is_some() {
-                right &= mine.receive(&sent.frame).is_ok();
-            }
+const GRANT: Act = Act::Grant {
+    link: 0,
+    credit: 2,
+    drain: false,
+    echo: false,
+};
+
+const START: Act = Act::Start(Start {
+    link: 0,
+    tag: 1,
+    format: 0,
+    settled: false,
+    payload: Payload::These(b""),
+    more: false,
+});
+
+/// The link, brought in with nothing, on which A sends and B receives; A's delivery under way; and B puts the link aside.
+const ASIDE: &[Do] = &[
+    Do::Own(Side::A, Act::Begin),
+    Do::Own(Side::B, Act::Begin),
+    Do::Exchange,
+    Do::Own(Side::A, Act::Rejoin(Role::Sender)),
+    Do::Own(Side::B, Act::Rejoin(Role::Receiver)),
+    Do::Exchange,
+    Do::Own(Side::B, GRANT),
+    Do::Exchange,
+    Do::Own(Side::A, START),
+    Do::Own(Side::B, Act::Suspend(0)),
+    Do::Exchange,
+];
+
+/// B brings the link back with nothing, behind A, which then resumes its delivery.
+const RESUMED: &[Do] = &[
+    Do::Back,
+    Do::Own(Side::B, Act::Rejoin(Role::Receiver)),
+    Do::Exchange,
+    Do::Own(Side::A, Act::Resume(1, 1)),
+];
+
+/// Each of these frames that has a body is heard, and none is a violation.
+fn hears(mine: &mut Logged, frames: &[Sent]) -> bool {
+    for sent in frames {
+        if sent.frame.body.is_some() && !receives(mine, &sent.frame) {
+            return false;
         }
     }
-    right
+    true
 }
 
-/// Both hear all, what they answer included.
-fn exchange(ends: &mut Ends) -> bool {
-    let mut right = true;
-    for _ in 0..4 {
-        let said = ends.b.journal().get(ends.by_a..).unwrap_or(&[]);
-        ends.by_a = ends.b.journal().len();
-        right &= hears(&mut ends.a, said);
-        let said = ends.a.journal().get(ends.by_b..).unwrap_or(&[]);
-        ends.by_b = ends.a.journal().len();
-        right &= hears(&mut ends.b, said);
-    }
-    right
-}
-
-/// Does the operation, and lets it go.
-fn does(end: &mut Logged, op: Op) -> bool {
-    let done = end.apply(&op).is_ok();
-    drop(op);
-    done
-}
-
-fn rejoin(alloc: Global, role: Role, items: Brought) -> Result<Op, AllocError> {
-    let rejoin = Rejoin {
-        name: Text::new(alloc, "q")?,
-        role,
-        snd: 2,
-        rcv: 0,
-        source: None,
-        target: None,
-        count: 0,
-        max_message: 0,
-        items,
-    };
-    Ok(Op::Rejoin(Boxed::new(alloc, rejoin)?))
-}
-
-/// A sends on the link that is brought in with nothing, and B receives.
-fn attaches(alloc: Global, end: &mut Logged, role: Role, items: Brought) -> bool {
-    match rejoin(alloc, role, items) {
-        Ok(op) => does(end, op),
+fn receives(mine: &mut Logged, frame: &Frame) -> bool {
+    match mine.receive(frame) {
+        Ok(given) => {
+            drop(given);
+            true
+        }
         Err(_) => false,
     }
 }
 
-fn grants(end: &mut Logged) -> bool {
-    does(
-        end,
-        Op::Grant {
-            link: 0,
-            credit: 2,
-            drain: false,
-            echo: false,
-        },
-    )
+/// The same of all frames that the other sent from this entry on.
+fn hears_from(mine: &mut Logged, theirs: &Logged, place: usize) -> bool {
+    for entry in theirs.journal().get(place..).unwrap_or(&[]) {
+        if !hears(mine, entry.reply.sent.as_slice()) {
+            return false;
+        }
+    }
+    true
 }
 
-fn starts(end: &mut Logged) -> bool {
-    match Tag::new(&[1]) {
-        Some(tag) => does(
-            end,
-            Op::Start {
-                link: 0,
-                tag,
-                format: 0,
-                settled: false,
-                payload: Bytes::new(),
-                more: false,
-            },
-        ),
-        None => false,
+fn exchange(ends: &mut Ends) -> bool {
+    for _ in 0..4 {
+        let (by_a, by_b) = (ends.by_a, ends.by_b);
+        ends.by_a = ends.b.journal().len();
+        if !hears_from(&mut ends.a, &ends.b, by_a) {
+            return false;
+        }
+        ends.by_b = ends.a.journal().len();
+        if !hears_from(&mut ends.b, &ends.a, by_b) {
+            return false;
+        }
+    }
+    true
+}
+
+/// Does the operation, and lets it go.
+fn does(ends: &mut Ends, side: Side, op: Op) -> bool {
+    let answer = match side {
+        Side::A => ends.a.apply(&op),
+        Side::B => ends.b.apply(&op),
+    };
+    drop(op);
+    match answer {
+        Ok(given) => {
+            drop(given);
+            true
+        }
+        Err(_) => false,
     }
 }
 
-/// The items of the link that B put aside, as the newest entry of the journal that gives any has them.
+/// The link that was put aside, as the newest entry of the journal that gives one has it.
 fn aside_in(entries: &[Entry]) -> Option<&Suspended> {
-    entries.iter().rev().find_map(|entry| match &entry.reply.given {
-        Given::Suspended(aside) => Some(aside.get()),
-        Given::Parted(_, aside) => Some(aside.get()),
-        _ => None,
-    })
+    let mut newest = None;
+    for entry in entries {
+        match &entry.reply.given {
+            Given::Suspended(aside) => newest = Some(aside.get()),
+            Given::Parted(_, aside) => newest = Some(aside.get()),
+            _ => {}
+        }
+    }
+    newest
 }
 
-fn has_tag(items: &[SuspendedItem]) -> bool {
+/// Whether these are the one delivery of A's.
+fn is_one(items: &[SuspendedItem]) -> bool {
     match items {
         [item] => item.tag.octets() == [1].as_slice() && item.state.is_none(),
         _ => false,
     }
 }
 
-/// The link, with A's delivery under way.
-fn sends(alloc: Global, ends: &mut Ends) -> bool {
-    ends.a.opened(65536).is_ok()
-        && ends.b.opened(65536).is_ok()
-        && does(&mut ends.a, Op::Begin)
-        && does(&mut ends.b, Op::Begin)
-        && exchange(ends)
-        && attaches(alloc, &mut ends.a, Role::Sender, Brought::none(alloc))
-        && attaches(alloc, &mut ends.b, Role::Receiver, Brought::none(alloc))
-        && exchange(ends)
-        && grants(&mut ends.b)
-        && exchange(ends)
-        && starts(&mut ends.a)
+/// What A was given with the link has its delivery alone, and what B was given has none, since B did not hear it.
+fn are_parted(ends: &Ends) -> bool {
+    match (aside_in(ends.a.journal()), aside_in(ends.b.journal())) {
+        (Some(a), Some(b)) => is_one(a.items.as_slice()) && b.items.as_slice().is_empty(),
+        _ => false,
+    }
 }
 
-/// A brings the link back with what it was given, and B with nothing.
-fn rejoins(alloc: Global, ends: &mut Ends) -> Result<bool, AllocError> {
-    let Some(aside) = aside_in(ends.a.journal()) else {
-        return Ok(false);
-    };
-    let items = Brought::new(alloc, aside.items.clone()?)?;
-    let a = attaches(alloc, &mut ends.a, Role::Sender, items);
-    let b = attaches(alloc, &mut ends.b, Role::Receiver, Brought::none(alloc));
-    Ok(a && b && exchange(ends))
-}
-
-fn resumes(end: &mut Logged) -> Option<Verdict> {
-    let tag = Tag::new(&[1])?;
-    match end.apply(&Op::Resume {
-        link: 1,
-        tag,
-        settled: false,
-    }) {
-        Ok(given) => verdict_in(given),
+/// The link is brought back with what was given when it was put aside.
+fn brought_back(alloc: Global, entries: &[Entry]) -> Option<Op> {
+    let items = aside_in(entries)?.items.clone().ok()?;
+    match Brought::new(alloc, items) {
+        Ok(items) => rejoined(alloc, Role::Sender, items),
         Err(_) => None,
     }
 }
 
-fn verdict_in(given: Given) -> Option<Verdict> {
-    let verdict = match &given {
-        Given::Resumed(resumed) => verdict_of(resumed.get()),
-        _ => None,
+fn step(alloc: Global, ends: &mut Ends, what: Do) -> bool {
+    let (side, op) = match what {
+        Do::Own(side, act) => (side, op(alloc, act)),
+        Do::Exchange => return exchange(ends),
+        Do::Back => (Side::A, brought_back(alloc, ends.a.journal())),
     };
-    drop(given);
-    verdict
-}
-
-/// Of one that took no id.
-fn verdict_of(resumed: &Resumed) -> Option<Verdict> {
-    match resumed.id {
-        None => Some(resumed.verdict),
-        Some(_) => None,
+    match op {
+        Some(op) => does(ends, side, op),
+        None => false,
     }
 }
 
-fn go(alloc: Global, ends: &mut Ends) -> Option<Course> {
-    if !sends(alloc, ends) || !does(&mut ends.b, Op::Suspend { link: 0 }) || !exchange(ends) {
-        return None;
+/// Whether each step is done.
+fn go(alloc: Global, ends: &mut Ends, steps: &[Do]) -> bool {
+    for what in steps {
+        if !step(alloc, ends, *what) {
+            return false;
+        }
     }
-    let parted = aside_in(ends.a.journal()).is_some_and(|aside| has_tag(aside.items.as_slice()));
-    let aside = aside_in(ends.b.journal()).is_some_and(|aside| aside.items.as_slice().is_empty());
-    let rejoined = rejoins(alloc, ends).unwrap_or(false);
-    let resumed = resumes(&mut ends.a);
-    Some(Course {
-        parted,
-        aside,
-        rejoined,
-        resumed,
-    })
+    true
 }
 
-fn run(alloc: Global) -> Option<Course> {
+/// What was resumed last is absent, and took no id.
+fn is_absent(entries: &[Entry]) -> bool {
+    let Some(entry) = entries.last() else {
+        return false;
+    };
+    match &entry.reply.given {
+        Given::Resumed(resumed) => {
+            resumed.get().verdict == Verdict::Absent && resumed.get().id.is_none()
+        }
+        _ => false,
+    }
+}
+
+fn is_right(alloc: Global, ends: &mut Ends) -> bool {
+    ends.a.opened(65536).is_ok()
+        && ends.b.opened(65536).is_ok()
+        && go(alloc, ends, ASIDE)
+        && are_parted(ends)
+        && go(alloc, ends, RESUMED)
+        && is_absent(ends.a.journal())
+}
+
+fn run(alloc: Global) -> bool {
     if !CONFIG.is_within_limits() {
-        return None;
+        return false;
     }
     let mut ends = Ends {
         a: Logged::new(alloc, &CONFIG),
@@ -223,19 +229,13 @@ fn run(alloc: Global) -> Option<Course> {
         by_a: 0,
         by_b: 0,
     };
-    let course = go(alloc, &mut ends);
+    let right = is_right(alloc, &mut ends);
     drop(ends);
-    course
+    right
 }
 
 /// What B never heard is absent, and no frame is a violation.
 #[test]
 fn what_was_never_heard_is_absent(rt: HostRuntime) {
-    let want = Course {
-        parted: true,
-        aside: true,
-        rejoined: true,
-        resumed: Some(Verdict::Absent),
-    };
-    assert!(rt; run(rt.alloc()) == Some(want));
+    assert!(rt; run(rt.alloc()));
 }

@@ -1,4 +1,4 @@
-use Rattle.amqp_example.proofs.shared.run.Given as goal
+use Rattle.amqp_example.proofs.shared.share.Given as goal
 
 abbrev pub ghosts-talk-N-Ledger : goal.ghosts-talk-N-Ledger
 ghosts-talk-N-Ledger g a = record { name = a.seed.name; parts = a.seed.parts }
