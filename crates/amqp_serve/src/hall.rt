@@ -1,7 +1,6 @@
 //! What the threads of a server share: messages by address, and the peers that are dealt to each.
 use crate::queues::{Message, Queues};
 use crate::visitor::{Unlearnt, Visitor};
-use amqp_conn::Text;
 use amqp_trace::Look;
 use mio::net::{TcpListener, TcpStream};
 use mio::{Poll, Waker};
@@ -32,7 +31,7 @@ pub struct Job {
 }
 
 /// What a server has done.
-#[derive(Clone, Copy, Debug, PartialEq, Eq)]
+#[derive(Clone, Copy)]
 pub struct Totals {
     /// How many connections have ended.
     pub ended: u64,
@@ -47,44 +46,13 @@ pub struct Totals {
 /// The messages of all threads, and what these have done.
 #[derive(Drop)]
 pub struct Store {
-    queues: Queues,
-    totals: Totals,
+    pub queues: Queues,
+    pub totals: Totals,
     /// Why a thread has ended before its time.
-    failed: Option<io::Error>,
+    pub failed: Option<io::Error>,
 }
 
 impl Store {
-    fn new(alloc: Global, limit: usize) -> Store {
-        Store {
-            queues: Queues::new(alloc, limit),
-            totals: Totals {
-                ended: 0,
-                faults: 0,
-                came: 0,
-                went: 0,
-            },
-            failed: None,
-        }
-    }
-
-    pub fn totals(&self) -> Totals {
-        self.totals
-    }
-
-    /// How many messages are in the queues.
-    pub fn left(&self) -> usize {
-        self.queues.len()
-    }
-
-    pub fn failed(&self) -> Option<io::Error> {
-        self.failed
-    }
-
-    /// The place of the queue with this address.
-    pub fn place(&mut self, address: &Text) -> Result<usize, AllocError> {
-        self.queues.place(address)
-    }
-
     /// Puts a message that came into the queue at this place: whether there was room.
     pub fn put(&mut self, place: usize, message: Message) -> bool {
         let is_in = self.queues.put(place, message);
@@ -94,22 +62,7 @@ impl Store {
         is_in
     }
 
-    /// The first message of the queue at this place, if it has no more than so many octets.
-    pub fn next(&mut self, place: usize, longest: usize) -> Option<Message> {
-        self.queues.next(place, longest)
-    }
-
-    /// Such a message is first in the queue at this place.
-    pub fn waits(&self, place: usize, longest: usize) -> bool {
-        self.queues.waits(place, longest)
-    }
-
-    /// Puts a message before the others of the queue at this place; for want of memory it is lost.
-    pub fn put_back(&mut self, place: usize, message: Message) {
-        let _ = self.queues.put_back(place, message);
-    }
-
-    /// What comes back goes to its queue, and what is done with is counted.
+    /// What comes back goes to its queue, or is lost for want of memory, and what is done with is counted.
     pub fn take_back(&mut self, visitor: &mut Visitor) {
         self.totals.went = self.totals.went.saturating_add(visitor.done);
         visitor.done = 0;
@@ -118,7 +71,7 @@ impl Store {
                 break;
             };
             let Unlearnt { place, message, .. } = one;
-            self.put_back(place, message);
+            let _: bool = self.queues.put_back(place, message);
         }
     }
 
@@ -164,24 +117,18 @@ impl Desk {
         let _ = self.peers.push_back(peer);
         self.wake();
     }
-
-    /// Its thread goes: the streams of peers that are left are closed.
-    fn leave(&mut self) {
-        self.waker = None;
-        self.peers.clear();
-    }
 }
 
 /// What the threads of a server share. Each has a place, from 0 on.
 #[derive(Drop)]
 pub struct Hall {
-    terms: Terms,
+    pub terms: Terms,
     /// Where peers connect, until a thread has it.
     listener: Mutex<Option<TcpListener>>,
-    store: Mutex<Store>,
+    pub store: Mutex<Store>,
     desks: Vec<Mutex<Desk>>,
-    /// Who has it tells.
-    voice: Mutex<()>,
+    /// Who has it tells: lines of one thread stand together.
+    pub voice: Mutex<()>,
 }
 
 impl Hall {
@@ -199,22 +146,23 @@ impl Hall {
             drop(listener);
             return Err(error);
         }
+        let store = Store {
+            queues: Queues::new(alloc, limit),
+            totals: Totals {
+                ended: 0,
+                faults: 0,
+                came: 0,
+                went: 0,
+            },
+            failed: None,
+        };
         Ok(Hall {
             terms,
             listener: Mutex::new(Some(listener)),
-            store: Mutex::new(Store::new(alloc, limit)),
+            store: Mutex::new(store),
             desks,
             voice: Mutex::new(()),
         })
-    }
-
-    pub fn terms(&self) -> Terms {
-        self.terms
-    }
-
-    /// The listener, for the thread that asks first.
-    pub fn take_listener<R: Wait>(&self, rt: &R) -> Option<TcpListener> {
-        self.listener.lock(rt).take()
     }
 
     /// How many places there are.
@@ -222,30 +170,24 @@ impl Hall {
         self.desks.len()
     }
 
-    pub fn store(&self) -> &Mutex<Store> {
-        &self.store
-    }
-
-    /// Who has it tells: lines of one thread stand together.
-    pub fn voice(&self) -> &Mutex<()> {
-        &self.voice
-    }
-
-    /// The thread at this place is there, and sleeps where this wakes it.
-    pub fn enter<R: Wait>(&self, rt: &R, place: usize, waker: Waker) {
+    /// The thread at this place is there, and sleeps where this wakes it. The one that comes first is given the listener.
+    pub fn enter<R: Wait>(&self, rt: &R, place: usize, waker: Waker) -> Option<TcpListener> {
         match self.desks.get(place) {
             Some(desk) => desk.lock(rt).waker = Some(waker),
             None => drop(waker),
         }
+        self.listener.lock(rt).take()
     }
 
-    /// The thread at this place goes; by a fault, or since it is over. The others are to look.
+    /// The thread at this place goes; by a fault, or since it is over. The streams of peers that are left for it are closed, and the others are to look.
     pub fn leave<R: Wait>(&self, rt: &R, place: usize, fault: Option<io::Error>) {
         if fault.is_some() {
             self.store.lock(rt).failed = fault;
         }
         if let Some(desk) = self.desks.get(place) {
-            desk.lock(rt).leave();
+            let mut desk = desk.lock(rt);
+            desk.waker = None;
+            desk.peers.clear();
         }
         self.wake_others(rt, place);
     }
@@ -264,57 +206,43 @@ impl Hall {
 
     /// The threads at other places look what there is to do.
     pub fn wake_others<R: Wait>(&self, rt: &R, place: usize) {
-        for other in 0..self.desks.len() {
+        for (other, desk) in self.desks.iter().enumerate() {
             if other != place {
-                self.wake(rt, other);
+                desk.lock(rt).wake();
             }
         }
     }
 
-    fn wake<R: Wait>(&self, rt: &R, place: usize) {
-        if let Some(desk) = self.desks.get(place) {
-            desk.lock(rt).wake();
-        }
-    }
-
-    /// Gives a peer to one of the threads that are there, each in its turn. For want of memory its stream is closed.
+    /// Gives a peer to one of the threads that are there, each in its turn. Where none is, or for want of memory, its stream is closed.
     pub fn deal<R: Wait>(&self, rt: &R, peer: Peer) {
-        match self.place_for(rt, peer.number) {
-            Some(place) => self.hand(rt, place, peer),
-            None => drop(peer),
-        }
-    }
-
-    /// The place of the thread whose turn it is, of those that are there.
-    fn place_for<R: Wait>(&self, rt: &R, number: u64) -> Option<usize> {
-        let count = self.desks.len();
-        for step in 0..count {
-            let place = (number as usize).wrapping_add(step) % count;
-            if self.is_there(rt, place) {
-                return Some(place);
-            }
-        }
-        None
-    }
-
-    fn is_there<R: Wait>(&self, rt: &R, place: usize) -> bool {
-        match self.desks.get(place) {
-            Some(desk) => desk.lock(rt).waker.is_some(),
-            None => false,
-        }
-    }
-
-    fn hand<R: Wait>(&self, rt: &R, place: usize, peer: Peer) {
-        match self.desks.get(place) {
+        match self.desk_for(rt, peer.number) {
             Some(desk) => desk.lock(rt).take(peer),
             None => drop(peer),
         }
+    }
+
+    /// The desk of the thread whose turn it is, of those that are there.
+    fn desk_for<R: Wait>(&self, rt: &R, number: u64) -> Option<&Mutex<Desk>> {
+        let count = self.desks.len();
+        for step in 0..count {
+            let desk = self
+                .desks
+                .get((number as usize).wrapping_add(step) % count)?;
+            if is_there(rt, desk) {
+                return Some(desk);
+            }
+        }
+        None
     }
 
     /// The next peer that was given to the thread at this place.
     pub fn next_peer<R: Wait>(&self, rt: &R, place: usize) -> Option<Peer> {
         self.desks.get(place)?.lock(rt).peers.pop_front()
     }
+}
+
+fn is_there<R: Wait>(rt: &R, desk: &Mutex<Desk>) -> bool {
+    desk.lock(rt).waker.is_some()
 }
 
 fn add_desks(alloc: Global, desks: &mut Vec<Mutex<Desk>>, count: u32) -> Result<(), AllocError> {

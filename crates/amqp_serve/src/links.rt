@@ -1,33 +1,8 @@
 //! Links as their peers attach them.
-use amqp_conn::{Boxed, Conn, Link, LinkEnd, Op, Performative, Role, Text, Value, ops};
+use amqp_conn::{Conn, Link, LinkEnd, Op, Role, Text, Value, ops};
 use amqp_messages::{Source, Target};
 use amqp_performatives::copying::copy_value;
 use std::alloc::AllocError;
-
-/// The peer has begun its session.
-pub fn has_begun(conn: &Conn) -> bool {
-    conn.logged().endpoint().windows().next_in.is_some()
-}
-
-/// The frame that was heard last is the peer's end of its session.
-pub fn has_ended(conn: &Conn) -> bool {
-    match conn.heard() {
-        Some(frame) => is_end(&frame.body),
-        None => false,
-    }
-}
-
-fn is_end(body: &Option<Performative>) -> bool {
-    matches!(body, Some(Performative::End(_)))
-}
-
-/// The longest message that the peer takes on a link, in octets.
-pub fn longest_on(conn: &Conn, link: u32) -> usize {
-    match conn.logged().endpoint().link_of(link) {
-        Some(found) if found.longest_theirs() > 0 => found.longest_theirs() as usize,
-        _ => usize::MAX,
-    }
-}
 
 /// A link of a connection, with the address that its peer asked for.
 #[derive(Drop)]
@@ -44,59 +19,41 @@ pub struct Linked {
     pub is_gone: bool,
 }
 
-/// The attach that answers the peer's, with its name, its source and its target (part 2, 2.6.3), and the link.
-pub fn answer_to(conn: &Conn, link: u32) -> Result<Option<(Op, Linked)>, AllocError> {
-    let Some(found) = conn.logged().endpoint().link_of(link) else {
-        return Ok(None);
-    };
-    match found.theirs() {
-        Some(theirs) => answer_like(found, link, theirs),
-        None => Ok(None),
-    }
+/// The link and its peer's end, where the peer has attached it.
+pub fn attached(conn: &Conn, link: u32) -> Option<(&Link, &LinkEnd)> {
+    let found = conn.logged().endpoint().link_of(link)?;
+    Some((found, found.theirs()?))
 }
 
-fn answer_like(
-    found: &Link,
-    link: u32,
-    theirs: &LinkEnd,
-) -> Result<Option<(Op, Linked)>, AllocError> {
+/// Notes the link among those of its connection: whether there was memory.
+pub fn enter(links: &mut Vec<Linked>, link: u32, found: &Link, theirs: &LinkEnd) -> bool {
+    let Ok(address) = address_of(found, theirs) else {
+        return false;
+    };
     let linked = Linked {
         link,
         role: found.role(),
-        address: address_of(found, theirs)?,
+        address,
         place: None,
         used: 0,
         is_gone: false,
     };
-    match attach_like(found.name(), found.role(), theirs) {
-        Ok(op) => Ok(Some((op, linked))),
-        Err(error) => {
-            drop(linked);
-            Err(error)
-        }
-    }
+    links.push(linked).is_ok()
 }
 
-fn attach_like(name: &Text, role: Role, theirs: &LinkEnd) -> Result<Op, AllocError> {
-    let (source, target) = termini_of(theirs)?;
-    match name.clone() {
-        Ok(name) => Ok(ops::attach(name, role, source, target)),
-        Err(error) => Err(error),
-    }
-}
-
-/// Copies of source and target.
-fn termini_of(end: &LinkEnd) -> Result<(Option<Boxed<Value>>, Option<Boxed<Value>>), AllocError> {
-    let source = copy_value(&end.source)?;
-    let target = copy_value(&end.target)?;
-    Ok((source, target))
+/// The attach that answers the peer's, with its name, its source and its target (part 2, 2.6.3).
+pub fn attach_like(found: &Link, theirs: &LinkEnd) -> Result<Op, AllocError> {
+    let name = found.name().clone()?;
+    let source = copy_value(&theirs.source)?;
+    let target = copy_value(&theirs.target)?;
+    Ok(ops::attach(name, found.role(), source, target))
 }
 
 /// Where messages go to that we receive, and where they come from that we send; the link's name where the peer tells no address.
 fn address_of(found: &Link, theirs: &LinkEnd) -> Result<Text, AllocError> {
     let address = match found.role() {
-        Role::Receiver => target_address(&theirs.target),
-        Role::Sender => source_address(&theirs.source),
+        Role::Receiver => target_address(theirs),
+        Role::Sender => source_address(theirs),
     };
     match address {
         Some(Value::Str(address)) => address.clone(),
@@ -104,10 +61,10 @@ fn address_of(found: &Link, theirs: &LinkEnd) -> Result<Text, AllocError> {
     }
 }
 
-fn source_address(source: &Option<Boxed<Value>>) -> Option<&Value> {
-    Source::read(source.as_ref()?.get())?.address
+fn source_address(theirs: &LinkEnd) -> Option<&Value> {
+    Source::read(theirs.source.as_ref()?.get())?.address
 }
 
-fn target_address(target: &Option<Boxed<Value>>) -> Option<&Value> {
-    Target::read(target.as_ref()?.get())?.address
+fn target_address(theirs: &LinkEnd) -> Option<&Value> {
+    Target::read(theirs.target.as_ref()?.get())?.address
 }

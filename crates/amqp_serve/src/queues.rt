@@ -42,27 +42,15 @@ impl Queues {
 
     /// The place of the queue with this address, which is made where there is none. O(n) for n queues.
     pub fn place(&mut self, address: &Text) -> Result<usize, AllocError> {
-        match self.find(address) {
-            Some(place) => Ok(place),
-            None => self.add(address),
-        }
-    }
-
-    fn find(&self, address: &Text) -> Option<usize> {
-        for place in 0..self.queues.len() {
-            if self
-                .queues
-                .get(place)
-                .is_some_and(|queue: &Queue| -> bool { queue.address == *address })
-            {
-                return Some(place);
+        for (place, queue) in self.queues.iter().enumerate() {
+            if queue.address == *address {
+                return Ok(place);
             }
         }
-        None
+        self.add(address)
     }
 
     fn add(&mut self, address: &Text) -> Result<usize, AllocError> {
-        self.queues.reserve(1)?;
         let address = address.clone()?;
         let place = self.queues.len();
         self.queues.push(Queue {
@@ -78,36 +66,38 @@ impl Queues {
             drop(message);
             return false;
         }
-        let is_in = self.push(place, message, false);
-        if is_in {
-            self.len = self.len.saturating_add(1);
-        }
-        is_in
+        self.push(place, message, false)
     }
 
     /// Puts a message before the others, whatever the limit is: whether there was memory.
     pub fn put_back(&mut self, place: usize, message: Message) -> bool {
-        let is_in = self.push(place, message, true);
-        if is_in {
-            self.len = self.len.saturating_add(1);
-        }
-        is_in
+        self.push(place, message, true)
     }
 
     fn push(&mut self, place: usize, message: Message, is_first: bool) -> bool {
-        match self.queues.get_mut(place) {
-            Some(queue) => pushed(&mut queue.messages, message, is_first),
-            None => {
-                drop(message);
-                false
-            }
+        let Some(queue) = self.queues.get_mut(place) else {
+            drop(message);
+            return false;
+        };
+        let pushed = if is_first {
+            queue.messages.push_front(message)
+        } else {
+            queue.messages.push_back(message)
+        };
+        if pushed.is_err() {
+            return false;
         }
+        self.len = self.len.saturating_add(1);
+        true
     }
 
     /// A message is first that has no more than so many octets.
     pub fn waits(&self, place: usize, longest: usize) -> bool {
         match self.queues.get(place) {
-            Some(queue) => is_within(queue.messages.front(), longest),
+            Some(queue) => match queue.messages.front() {
+                Some(message) => message.payload.len() <= longest,
+                None => false,
+            },
             None => false,
         }
     }
@@ -117,29 +107,7 @@ impl Queues {
         if !self.waits(place, longest) {
             return None;
         }
-        let next = match self.queues.get_mut(place) {
-            Some(queue) => queue.messages.pop_front(),
-            None => None,
-        };
-        if next.is_some() {
-            self.len = self.len.saturating_sub(1);
-        }
-        next
+        self.len = self.len.saturating_sub(1);
+        self.queues.get_mut(place)?.messages.pop_front()
     }
-}
-
-fn is_within(message: Option<&Message>, longest: usize) -> bool {
-    match message {
-        Some(message) => message.payload.len() <= longest,
-        None => false,
-    }
-}
-
-fn pushed(messages: &mut VecDeque<Message>, message: Message, is_first: bool) -> bool {
-    let done = if is_first {
-        messages.push_front(message)
-    } else {
-        messages.push_back(message)
-    };
-    done.is_ok()
 }

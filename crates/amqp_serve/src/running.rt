@@ -10,12 +10,9 @@ use std::net::{IpAddr, Net, SocketAddr};
 use std::rt::Clock;
 use std::sync::Wait;
 use std::thread::Threads;
-use std::time::{Duration, Instant};
+use std::time::Instant;
 use std::{io, thread};
 use thiserror::Error;
-
-/// How long a turn waits at most, in milliseconds.
-const TURN: u64 = 250;
 
 /// How long it goes on at most behind the last message, in seconds.
 const LAST: u64 = 10;
@@ -125,13 +122,13 @@ fn tell_served<R: Wait, W: Write>(rt: &R, hall: &Hall, writer: &mut W) -> Result
 }
 
 fn done_by<R: Wait>(rt: &R, hall: &Hall) -> (Option<io::Error>, Totals, usize) {
-    let store = hall.store().lock(rt);
-    (store.failed(), store.totals(), store.left())
+    let store = hall.store.lock(rt);
+    (store.failed, store.totals, store.queues.len())
 }
 
 /// What each thread begins with.
 fn jobs_of<R: Net>(rt: &R, hall: &Hall) -> io::Result<Vec<Job>> {
-    let mut jobs = Vec::new(hall.terms().alloc);
+    let mut jobs = Vec::new(hall.terms.alloc);
     match add_jobs(rt, &mut jobs, hall.len()) {
         Ok(()) => Ok(jobs),
         Err(error) => {
@@ -143,12 +140,17 @@ fn jobs_of<R: Net>(rt: &R, hall: &Hall) -> io::Result<Vec<Job>> {
 
 fn add_jobs<R: Net>(rt: &R, jobs: &mut Vec<Job>, count: usize) -> io::Result<()> {
     for place in 0..count {
-        let poll = Poll::new(rt)?;
-        if jobs.push(Job { place, poll }).is_err() {
-            return Err(io::Error::from(AllocError));
-        }
+        add_job(rt, jobs, place)?;
     }
     Ok(())
+}
+
+fn add_job<R: Net>(rt: &R, jobs: &mut Vec<Job>, place: usize) -> io::Result<()> {
+    let poll = Poll::new(rt)?;
+    match jobs.push(Job { place, poll }) {
+        Ok(()) => Ok(()),
+        Err(_) => Err(io::Error::from(AllocError)),
+    }
 }
 
 /// All threads, each at its place. Where the system makes none, they run one after the other: the first listens, and goes on until all is done. Where memory is
@@ -164,8 +166,8 @@ where
 
 /// The thread at its place, until as many messages went as are asked for.
 fn run_place<R: Clock + Eprint + Wait>(rt: &R, hall: &Hall, job: Job) {
-    let place = job.place;
-    let fault = match Server::new(rt, hall, job) {
+    let Job { place, poll } = job;
+    let fault = match Server::new(hall.terms, place, poll) {
         Ok(mut server) => {
             let turned = turn_on(rt, hall, &mut server);
             drop(server);
@@ -179,11 +181,12 @@ fn run_place<R: Clock + Eprint + Wait>(rt: &R, hall: &Hall, job: Job) {
 /// Turns until as many messages went as are asked for, closes each connection, and turns to the end.
 fn turn_on<R: Clock + Eprint + Wait>(rt: &R, hall: &Hall, server: &mut Server) -> io::Result<()> {
     let begun = Instant::now(rt)?;
+    server.begin(rt, hall)?;
     for _ in 0..u64::MAX {
         if hall.is_over(rt) {
             break;
         }
-        turn(rt, hall, server, begun)?;
+        server.turn(rt, hall, begun)?;
     }
     server.close();
     turn_to_end(rt, hall, server, begun)
@@ -201,17 +204,7 @@ fn turn_to_end<R: Clock + Eprint + Wait>(
         if server.is_empty() || begun.elapsed(rt)?.as_secs() >= until {
             break;
         }
-        turn(rt, hall, server, begun)?;
+        server.turn(rt, hall, begun)?;
     }
     Ok(())
-}
-
-fn turn<R: Clock + Eprint + Wait>(
-    rt: &R,
-    hall: &Hall,
-    server: &mut Server,
-    begun: Instant,
-) -> io::Result<()> {
-    let now = begun.elapsed(rt)?.as_secs().saturating_mul(1000);
-    server.turn(rt, hall, Duration::from_millis(TURN), now)
 }

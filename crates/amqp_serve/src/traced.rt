@@ -6,7 +6,7 @@ use std::alloc::Global;
 /// What is told of one connection, each line behind its number.
 #[derive(Drop)]
 pub struct Trace {
-    number: u64,
+    pub number: u64,
     heard: Teller,
     sent: Teller,
 }
@@ -33,10 +33,5 @@ impl Trace {
                 self.sent.cut(rt);
             }
         }
-    }
-
-    /// The connection's number.
-    pub fn number(&self) -> u64 {
-        self.number
     }
 }

@@ -2,10 +2,12 @@
 ghost use Rattle.std.specs.Prelude.{◌≡◌};
 ghost use Rattle.amqp_ready.specs.Lending.{kept};
 
-use crate::links::{Linked, answer_to, has_begun, has_ended};
+use crate::links::{Linked, attach_like, attached, enter};
 use crate::queues::Message;
 use crate::traced::Trace;
-use amqp_conn::{Conn, DeliveryState, Given, Learned, Left, Op, Refusal, Role, Taken};
+use amqp_conn::{
+    Conn, DeliveryState, Given, Learned, Left, Op, Performative, Refusal, Role, Taken,
+};
 use amqp_ready::{Handler, Lent, Next, Recorded};
 use std::alloc::Global;
 use std::collections::VecDeque;
@@ -33,27 +35,18 @@ pub struct Unlearnt {
     pub message: Message,
 }
 
-/// What an outcome means for a message.
-#[derive(Clone, Copy, PartialEq, Eq)]
-pub enum Fate {
-    /// It is done with.
-    Over,
-    /// It goes back to its queue.
-    Back,
-}
-
 /// What the peer told of a delivery.
 #[derive(Clone, Copy)]
 pub struct Told {
     pub id: u32,
-    pub fate: Fate,
+    /// Its message goes back to its queue; else it is done with.
+    pub is_back: bool,
     pub is_settled: bool,
 }
 
 /// What is known of a connection, and what is to be done for it by the server.
 #[derive(Drop)]
 pub struct Visitor {
-    alloc: Global,
     credit: u32,
     is_begun: bool,
     pub links: Vec<Linked>,
@@ -91,10 +84,17 @@ fn heard_of(conn: &Conn, given: &Given) -> Heard {
     }
 }
 
+/// The frame that was heard last is the peer's end of its session.
+fn has_ended(conn: &Conn) -> bool {
+    match conn.heard() {
+        Some(frame) => matches!(&frame.body, Some(Performative::End(_))),
+        None => false,
+    }
+}
+
 impl Visitor {
     pub fn new(alloc: Global, credit: u32, trace: Option<Trace>) -> Visitor {
         Visitor {
-            alloc,
             credit,
             is_begun: false,
             links: Vec::new(alloc),
@@ -119,8 +119,8 @@ impl Visitor {
         match heard {
             Heard::Offered(link) => self.answer(conn, link),
             Heard::Ready(link) => self.take_one(conn, link),
-            Heard::Gone(link) => self.leave(conn, link),
-            Heard::Ended => self.leave_all(conn),
+            Heard::Gone(link) => self.leave(conn, Some(link)),
+            Heard::Ended => self.leave(conn, None),
             Heard::Other => self.begin(conn),
         }
     }
@@ -129,37 +129,33 @@ impl Visitor {
     fn begin(&mut self, conn: &mut Lent) -> Result<(), Refusal>
         ensures { kept conn.new.conn ≡ kept conn.old.conn }
     {
-        if !self.is_begun && has_begun(conn.conn()) {
-            self.is_begun = true;
-            return conn.perform(Op::Begin);
+        let windows = conn.conn().logged().endpoint().windows();
+        if self.is_begun || windows.next_in.is_none() {
+            return Ok(());
         }
-        Ok(())
+        self.is_begun = true;
+        conn.perform(Op::Begin)
     }
 
     /// Answers the attach of a link, and grants credit where we receive.
     fn answer(&mut self, conn: &mut Lent, link: u32) -> Result<(), Refusal>
         ensures { kept conn.new.conn ≡ kept conn.old.conn }
     {
-        match answer_to(conn.conn(), link) {
-            Ok(Some((op, linked))) => self.attach(conn, op, linked),
-            Ok(None) => Ok(()),
-            Err(_) => Err(Refusal::NoMemory),
-        }
-    }
-
-    fn attach(&mut self, conn: &mut Lent, op: Op, linked: Linked) -> Result<(), Refusal>
-        ensures { kept conn.new.conn ≡ kept conn.old.conn }
-    {
-        let (link, role) = (linked.link, linked.role);
-        if self.links.push(linked).is_err() {
-            drop(op);
+        let Some((found, theirs)) = attached(conn.conn(), link) else {
+            return Ok(());
+        };
+        let role = found.role();
+        if !enter(&mut self.links, link, found, theirs) {
             return Err(Refusal::NoMemory);
         }
-        conn.perform(op)?;
-        if role == Role::Sender {
-            return Ok(());
+        match attach_like(found, theirs) {
+            Ok(op) => conn.perform(op)?,
+            Err(_) => return Err(Refusal::NoMemory),
         }
-        conn.perform(grant(link, self.credit))
+        match role {
+            Role::Sender => Ok(()),
+            Role::Receiver => conn.perform(grant(link, self.credit)),
+        }
     }
 
     /// Takes a delivery that is ready.
@@ -192,27 +188,8 @@ impl Visitor {
         }
     }
 
-    /// A link is gone. What came before that is had; what was sent on it and is not told of goes back.
-    fn leave(&mut self, conn: &mut Lent, link: u32) -> Result<(), Refusal>
-        ensures { kept conn.new.conn ≡ kept conn.old.conn }
-    {
-        self.learn_left(conn)?;
-        self.mark_gone(Some(link));
-        self.return_sent(link)
-    }
-
-    /// All links are gone, as `leave`.
-    fn leave_all(&mut self, conn: &mut Lent) -> Result<(), Refusal>
-        ensures { kept conn.new.conn ≡ kept conn.old.conn }
-    {
-        self.learn_left(conn)?;
-        self.mark_gone(None);
-        self.give_up();
-        Ok(())
-    }
-
-    /// What links left that are gone.
-    fn learn_left(&mut self, conn: &mut Lent) -> Result<(), Refusal>
+    /// A link is gone, or all are where it is none. What came before that is had; what was sent on it and is not told of goes back.
+    fn leave(&mut self, conn: &mut Lent, link: Option<u32>) -> Result<(), Refusal>
         ensures { kept conn.new.conn ≡ kept conn.old.conn }
     {
         for _ in 0..u64::MAX {
@@ -222,29 +199,30 @@ impl Visitor {
                 Err(_) => return Err(Refusal::NoMemory),
             }
         }
-        Ok(())
+        self.mark_gone(link);
+        if self.give_up(link) || link.is_none() {
+            Ok(())
+        } else {
+            Err(Refusal::NoMemory)
+        }
     }
 
     /// An outcome is learnt. A delivery that came settled is kept; another one its peer sends again.
     pub fn note_left(&mut self, left: Left) {
-        match left {
-            Left::Outcome(name, learned) => {
-                drop(name);
-                let told = told_of(learned.get());
-                drop(learned);
-                if let Some(told) = told {
-                    let _: bool = self.end(told);
+        match &left {
+            Left::Outcome(_, learned) => {
+                if let Some(told) = told_of(learned.get()) {
+                    self.end(told);
                 }
             }
-            Left::Delivery(name, taken) => {
-                drop(name);
+            Left::Delivery(_, taken) => {
                 if taken.get().settled {
                     // Without memory for it, it is lost.
                     let _ = self.keep(taken.get());
                 }
-                drop(taken);
             }
         }
+        drop(left);
     }
 
     /// This link is gone, or each where it is none.
@@ -256,21 +234,23 @@ impl Visitor {
         }
     }
 
-    fn return_sent(&mut self, link: u32) -> Result<(), Refusal> {
+    /// What was sent on this link and is not told of goes back, or all of it where it is none: whether there was memory. Without it, it is lost.
+    pub fn give_up(&mut self, link: Option<u32>) -> bool {
+        let mut is_whole = true;
         for _ in 0..self.sent.len() {
-            let Some(one) = self.sent.pop_front() else {
-                break;
-            };
-            let to = if one.link == link {
-                &mut self.back
-            } else {
-                &mut self.sent
-            };
-            if to.push_back(one).is_err() {
-                return Err(Refusal::NoMemory);
+            if let Some(one) = self.sent.pop_front() {
+                is_whole &= self.sort(one, link);
             }
         }
-        Ok(())
+        is_whole
+    }
+
+    fn sort(&mut self, one: Unlearnt, link: Option<u32>) -> bool {
+        if link.is_none() || link == Some(one.link) {
+            self.back.push_back(one).is_ok()
+        } else {
+            self.sent.push_back(one).is_ok()
+        }
     }
 
     /// Links that are gone are let go.
@@ -279,31 +259,21 @@ impl Visitor {
             .retain(|linked: &Linked| -> bool { !linked.is_gone });
     }
 
-    /// The connection or its session has ended: all that it was sent and did not tell of goes back.
-    pub fn give_up(&mut self) {
-        for _ in 0..self.sent.len() {
-            if let Some(one) = self.sent.pop_front() {
-                // Without memory for it, it is lost.
-                let _ = self.back.push_back(one);
-            }
-        }
-    }
-
-    /// What was sent under the id is done with, or goes back: whether it was there, and had memory.
-    pub fn end(&mut self, told: Told) -> bool {
+    /// What was sent under the id is done with, or goes back, if it is there.
+    pub fn end(&mut self, told: Told) {
         let Some(place) = self.place_of(told.id) else {
-            return false;
+            return;
         };
         let Some(one) = self.sent.remove(place) else {
-            return false;
+            return;
         };
-        if told.fate == Fate::Back {
+        if told.is_back {
             // Without memory for it, it is lost.
-            return self.back.push_back(one).is_ok();
+            let _ = self.back.push_back(one);
+        } else {
+            drop(one);
+            self.done = self.done.saturating_add(1);
         }
-        drop(one);
-        self.done = self.done.saturating_add(1);
-        true
     }
 
     /// What was sent, or is under way, under the id.
@@ -314,19 +284,36 @@ impl Visitor {
     /// O(n) for n that were sent before it and are not learnt.
     fn place_of(&self, id: u32) -> Option<usize> {
         for place in 0..self.sent.len() {
-            if self
-                .sent
-                .get(place)
-                .is_some_and(|one: &Unlearnt| -> bool { one.id == id })
-            {
+            if self.sent.get(place)?.id == id {
                 return Some(place);
             }
         }
         None
     }
+
+    /// A delivery more was taken on a link: the place of its queue.
+    pub fn used(&mut self, link: u32) -> Option<usize> {
+        for linked in self.links.as_mut_slice() {
+            if linked.link == link {
+                linked.used = linked.used.saturating_add(1);
+                return linked.place;
+            }
+        }
+        None
+    }
+
+    /// The link at this place, if we receive on it and half of its credit is used. It is counted anew.
+    pub fn used_up(&mut self, at: usize) -> Option<u32> {
+        let linked = self.links.get_mut(at)?;
+        if linked.is_gone || linked.role == Role::Sender || linked.used <= self.credit / 2 {
+            return None;
+        }
+        linked.used = 0;
+        Some(linked.link)
+    }
 }
 
-/// What the peer told of a delivery, where it is known now what becomes of that.
+/// What the peer told of a delivery, if the newest step gave that.
 pub fn told_in(given: Option<&Given>) -> Option<Told> {
     match given {
         Some(Given::Learned(learned)) => told_of(learned.get()),
@@ -334,23 +321,19 @@ pub fn told_in(given: Option<&Given>) -> Option<Told> {
     }
 }
 
+/// What the peer told of a delivery; none where it is not told yet what becomes of that. A message that was released or modified is sent again (part 3, 3.4).
 fn told_of(learned: &Learned) -> Option<Told> {
-    let fate = fate_of(&learned.state, learned.settled)?;
+    let is_back = match &learned.state {
+        Some(DeliveryState::Accepted | DeliveryState::Rejected(_)) => false,
+        Some(DeliveryState::Released | DeliveryState::Modified { .. }) => true,
+        _ if learned.settled => false,
+        _ => return None,
+    };
     Some(Told {
         id: learned.id,
-        fate,
+        is_back,
         is_settled: learned.settled,
     })
-}
-
-/// A message that was released or modified is sent again (part 3, 3.4). None where what became of it is not told yet.
-fn fate_of(state: &Option<DeliveryState>, is_settled: bool) -> Option<Fate> {
-    match state {
-        Some(DeliveryState::Accepted | DeliveryState::Rejected(_)) => Some(Fate::Over),
-        Some(DeliveryState::Released | DeliveryState::Modified { .. }) => Some(Fate::Back),
-        _ if is_settled => Some(Fate::Over),
-        _ => None,
-    }
 }
 
 pub fn grant(link: u32, credit: u32) -> Op {
