@@ -64,6 +64,7 @@ pub fn run_frames<R: BufRead, W: Write>(
         Ok(octets) => framing.tell_totals(writer, octets),
         Err(fault) => Err(fault),
     };
+    drop(framing);
     let flushed = writer.flush();
     let framed = summed?;
     flushed.map_err(RunFault::Write)?;
