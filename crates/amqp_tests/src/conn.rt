@@ -2,34 +2,56 @@
 //! helper that makes it: a test holds answers alone.
 
 use amqp_conn::*;
-use amqp_rules::op::Op;
 use amqp_types::Text;
 use bytes::Bytes;
-use std::alloc::{AllocError, Global};
+use std::alloc::Global;
 use std::io;
 use std::io::{Read, Write};
-use std::test::Fail;
 
-const HEADER: &str = "414d5150 00010000";
+const HEADER: &[u8] = b"AMQP\x00\x01\x00\x00";
 
 /// The open of a container `a` that takes frames of 65536 octets.
-const OPEN: &str = "0000001a02000000 005310c00d04 a10161 40 7000010000 600000";
+const OPEN: &[u8] =
+    b"\x00\x00\x00\x1a\x02\x00\x00\x00\x00\x53\x10\xc0\x0d\x04\xa1\x01a\x40\x70\x00\x01\x00\x00\x60\x00\x00";
 
-const CLOSE: &str = "0000000c02000000 00531845";
+/// The same behind an octet that was used.
+const BEHIND: &[u8] =
+    b"\x00\x00\x00\x00\x1a\x02\x00\x00\x00\x00\x53\x10\xc0\x0d\x04\xa1\x01a\x40\x70\x00\x01\x00\x00\x60\x00\x00";
+
+const CLOSE: &[u8] = b"\x00\x00\x00\x0c\x02\x00\x00\x00\x00\x53\x18\x45";
 
 /// A begin that answers none.
-const BEGIN: &str = "0000001702000000 005311c00a04 40 43 5205 707fffffff";
+const BEGIN: &[u8] =
+    b"\x00\x00\x00\x17\x02\x00\x00\x00\x00\x53\x11\xc0\x0a\x04\x40\x43\x52\x05\x70\x7f\xff\xff\xff";
 
-/// Header, open and close of a peer.
-const WHOLE: &str =
-    "414d5150 00010000 0000001a02000000 005310c00d04 a10161 40 7000010000 600000 0000000c02000000 00531845";
+/// An empty frame.
+const BEAT: &[u8] = b"\x00\x00\x00\x08\x02\x00\x00\x00";
+
+/// The header of the security layer.
+const OTHER: &[u8] = b"AMQP\x03\x01\x00\x00";
+
+/// Header and open of a peer.
+const OPENED: &[u8] =
+    b"AMQP\x00\x01\x00\x00\x00\x00\x00\x1a\x02\x00\x00\x00\x00\x53\x10\xc0\x0d\x04\xa1\x01a\x40\x70\x00\x01\x00\x00\x60\x00\x00";
+
+/// Header, open and close.
+const WHOLE: &[u8] =
+    b"AMQP\x00\x01\x00\x00\x00\x00\x00\x1a\x02\x00\x00\x00\x00\x53\x10\xc0\x0d\x04\xa1\x01a\x40\x70\x00\x01\x00\x00\x60\x00\x00\x00\x00\x00\x0c\x02\x00\x00\x00\x00\x53\x18\x45";
+
+/// Header, and the open twice.
+const TWICE: &[u8] =
+    b"AMQP\x00\x01\x00\x00\x00\x00\x00\x1a\x02\x00\x00\x00\x00\x53\x10\xc0\x0d\x04\xa1\x01a\x40\x70\x00\x01\x00\x00\x60\x00\x00\x00\x00\x00\x1a\x02\x00\x00\x00\x00\x53\x10\xc0\x0d\x04\xa1\x01a\x40\x70\x00\x01\x00\x00\x60\x00\x00";
+
+/// Header, open, and a close on channel 1.
+const ELSEWHERE: &[u8] =
+    b"AMQP\x00\x01\x00\x00\x00\x00\x00\x1a\x02\x00\x00\x00\x00\x53\x10\xc0\x0d\x04\xa1\x01a\x40\x70\x00\x01\x00\x00\x60\x00\x00\x00\x00\x00\x0c\x02\x00\x00\x01\x00\x53\x18\x45";
 
 /// What is done with a connection.
 #[derive(Clone, Copy)]
 enum Do {
-    Feed(&'static str),
-    /// Octets that are shared, behind one that was used.
-    FeedShared(&'static str),
+    Feed(&'static [u8]),
+    /// Octets that are shared, behind the first.
+    FeedShared(&'static [u8]),
     Beat,
     Close,
     Lost,
@@ -45,61 +67,84 @@ enum Said {
     Refused(u32),
 }
 
-/// The octets that the text writes, past its spaces.
-pub(crate) fn octets(alloc: Global, text: &str) -> Result<Vec<u8>, AllocError> {
-    let mut octets = Vec::new(alloc);
-    let mut high: Option<u8> = None;
-    for letter in text.as_bytes() {
-        let digit = match letter {
-            b'0'..=b'9' => *letter - b'0',
-            b'a'..=b'f' => *letter - b'a' + 10,
-            _ => continue,
-        };
-        match high {
-            None => high = Some(digit),
-            Some(first) => {
-                octets.push(first.wrapping_mul(16).wrapping_add(digit))?;
-                high = None;
-            }
-        }
-    }
-    Ok(octets)
+/// What is done, what that answers, and the first unit that waits then; no octets where none does.
+type Step = (Do, Said, &'static [u8]);
+
+/// Steps of a new connection of the container `a`, and where it stands behind them.
+const RUNS: &[(&[Step], Phase)] = &[
+    (
+        &[
+            (Do::Beat, Said::Refused(1), HEADER),
+            (Do::Feed(HEADER), Said::Used(8, false), OPEN),
+            (Do::Close, Said::Refused(1), b""),
+            (Do::FeedShared(BEHIND), Said::Used(26, true), b""),
+        ],
+        Phase::Running,
+    ),
+    (
+        &[
+            (Do::Feed(HEADER), Said::Used(8, false), HEADER),
+            (Do::Feed(OPEN), Said::Used(26, true), OPEN),
+            (Do::Beat, Said::Done, BEAT),
+            (Do::Close, Said::Done, CLOSE),
+            (Do::Close, Said::Refused(1), b""),
+            (Do::Feed(CLOSE), Said::Used(12, false), b""),
+            (Do::Feed(b"\x00"), Said::Fault(ConnFault::Closed), b""),
+        ],
+        Phase::Closed,
+    ),
+    (
+        &[
+            (Do::Feed(OTHER), Said::Fault(ConnFault::BadHeader), HEADER),
+            (Do::Feed(b"\x00"), Said::Fault(ConnFault::Closed), b""),
+        ],
+        Phase::Closed,
+    ),
+    (
+        &[
+            (Do::Feed(HEADER), Said::Used(8, false), HEADER),
+            (Do::Feed(BEGIN), Said::Fault(ConnFault::OutOfPlace), OPEN),
+        ],
+        Phase::Closed,
+    ),
+    (
+        &[
+            (Do::Feed(HEADER), Said::Used(8, false), HEADER),
+            (Do::Feed(OPEN), Said::Used(26, true), OPEN),
+            (Do::Lost, Said::Done, b""),
+            (Do::Feed(b"\x00"), Said::Fault(ConnFault::Closed), b""),
+            (Do::Beat, Said::Refused(1), b""),
+        ],
+        Phase::Closed,
+    ),
+];
+
+/// A connection of the container `a`.
+pub(crate) fn connection(alloc: Global) -> Result<Conn, StartFault> {
+    start(alloc, "a", 2048)
 }
 
-fn settings(alloc: Global, name: &str, window: u32) -> Result<Config, AllocError> {
-    Ok(Config {
-        container_id: Text::new(alloc, name)?,
+fn start(alloc: Global, name: &str, window: u32) -> Result<Conn, StartFault> {
+    let Ok(container_id) = Text::new(alloc, name) else {
+        return Err(StartFault::NoMemory);
+    };
+    let config = Config {
+        container_id,
         hostname: None,
         max_frame: 65536,
         idle_time_out: None,
         first_id: 0,
         window,
         journal_limit: 1000,
-    })
+    };
+    Conn::new(alloc, config)
 }
 
-/// A connection of the container `a`.
-pub(crate) fn connection(alloc: Global) -> Result<Conn, StartFault> {
-    match settings(alloc, "a", 2048) {
-        Ok(config) => Conn::new(alloc, config),
-        Err(_) => Err(StartFault::NoMemory),
-    }
-}
-
-/// Why there is no connection.
-fn start_fault(alloc: Global, name: &str, window: u32) -> Option<StartFault> {
-    match settings(alloc, name, window) {
-        Ok(config) => Conn::new(alloc, config).err(),
-        Err(_) => Some(StartFault::NoMemory),
-    }
-}
-
-/// Whether the next unit has these octets; `-` says that none waits.
-fn puts_out(alloc: Global, conn: &mut Conn, text: &str) -> Result<bool, AllocError> {
-    let wanted = octets(alloc, text)?;
+/// Whether the next unit has these octets; where there are none, whether no unit waits.
+fn puts_out(conn: &mut Conn, octets: &[u8]) -> bool {
     match conn.pop_unit() {
-        Some(unit) => Ok(unit.bytes.as_slice() == wanted.as_slice()),
-        None => Ok(text == "-"),
+        Some(unit) => unit.bytes.as_slice() == octets,
+        None => octets.is_empty(),
     }
 }
 
@@ -110,23 +155,22 @@ fn fed(conn: &mut Conn, octets: &[u8]) -> Said {
     }
 }
 
-fn fed_shared(conn: &mut Conn, octets: Vec<u8>) -> Result<Said, AllocError> {
-    let shared = Bytes::from_vec(octets)?;
+fn fed_shared(alloc: Global, conn: &mut Conn, octets: &[u8]) -> Said {
+    let Ok(shared) = Bytes::copy_from_slice(alloc, octets) else {
+        return Said::Fault(ConnFault::NoMemory);
+    };
     if shared.len() == 0 {
-        return Ok(Said::Done);
+        return Said::Done;
     }
     match conn.feed_shared(&shared, 1) {
-        Ok(fed) => Ok(Said::Used(fed.used, fed.stepped)),
-        Err(fault) => Ok(Said::Fault(fault)),
+        Ok(fed) => Said::Used(fed.used, fed.stepped),
+        Err(fault) => Said::Fault(fault),
     }
 }
 
 fn beat(conn: &mut Conn) -> Said {
-    match conn.apply(&Op::Beat) {
-        Ok(given) => {
-            drop(given);
-            Said::Done
-        }
+    match conn.perform(Op::Beat) {
+        Ok(()) => Said::Done,
         Err(refusal) => Said::Refused(u32::from(refusal.number())),
     }
 }
@@ -138,123 +182,71 @@ fn close(conn: &mut Conn) -> Said {
     }
 }
 
-fn does(alloc: Global, conn: &mut Conn, what: Do) -> Result<Said, AllocError> {
+fn answer(alloc: Global, conn: &mut Conn, what: Do) -> Said {
     match what {
-        Do::Feed(text) => {
-            let octets = octets(alloc, text)?;
-            Ok(fed(conn, octets.as_slice()))
-        }
-        Do::FeedShared(text) => fed_shared(conn, octets(alloc, text)?),
-        Do::Beat => Ok(beat(conn)),
-        Do::Close => Ok(close(conn)),
+        Do::Feed(octets) => fed(conn, octets),
+        Do::FeedShared(octets) => fed_shared(alloc, conn, octets),
+        Do::Beat => beat(conn),
+        Do::Close => close(conn),
         Do::Lost => {
             conn.lost();
-            Ok(Said::Done)
+            Said::Done
         }
     }
 }
 
-/// Whether each step is answered so, with this unit first of those that wait, and the connection stands there at the end.
-fn goes(
-    alloc: Global,
-    conn: &mut Conn,
-    steps: &[(Do, Said, &str)],
-    end: Phase,
-) -> Result<bool, AllocError> {
-    for (what, said, unit) in steps {
-        if does(alloc, conn, *what)? != *said || !puts_out(alloc, conn, unit)? {
-            return Ok(false);
+/// Whether each step is answered so, with this unit first of those that wait.
+fn all_so(alloc: Global, conn: &mut Conn, steps: &[Step]) -> bool {
+    for (what, due, unit) in steps {
+        if answer(alloc, conn, *what) != *due || !puts_out(conn, unit) {
+            return false;
         }
     }
-    Ok(conn.phase() == end)
+    true
 }
 
-/// The same of a new connection of the container `a`.
-fn goes_so(alloc: Global, steps: &[(Do, Said, &str)], end: Phase) -> bool {
-    match connection(alloc) {
-        Ok(mut conn) => {
-            let went = goes(alloc, &mut conn, steps, end);
-            drop(conn);
-            matches!(went, Ok(true))
-        }
-        Err(_) => false,
+/// The same of a new connection, which stands there behind them.
+fn goes_so(alloc: Global, steps: &[Step], end: Phase) -> bool {
+    let Ok(mut conn) = connection(alloc) else {
+        return false;
+    };
+    let so = all_so(alloc, &mut conn, steps) && conn.phase() == end;
+    drop(conn);
+    so
+}
+
+#[test]
+fn steps_are_answered(rt: HostRuntime) {
+    for (steps, end) in RUNS {
+        assert!(rt; goes_so(rt.alloc(), steps, *end));
     }
 }
 
-#[test]
-fn header_and_open(rt: HostRuntime) -> Result<(), Fail> {
-    let steps = [
-        (Do::Beat, Said::Refused(1), HEADER),
-        (Do::Feed(HEADER), Said::Used(8, false), OPEN),
-        (Do::Close, Said::Refused(1), "-"),
-        (
-            Do::FeedShared("00 0000001a02000000 005310c00d04 a10161 40 7000010000 600000"),
-            Said::Used(26, true),
-            "-",
-        ),
-    ];
-    assert!(rt; goes_so(rt.alloc(), &steps, Phase::Running));
-    Ok(())
+/// The longest name that a container may have in a frame of 512 octets is shorter.
+const LONG: [u8; 600] = [b'a'; 600];
+
+/// Why there is no connection; `None` where there is one.
+fn start_fault(alloc: Global, name: &[u8], window: u32) -> Option<StartFault> {
+    let Ok(name) = std::str::from_utf8(name) else {
+        return None;
+    };
+    start(alloc, name, window).err()
 }
 
 #[test]
-fn close_and_answer(rt: HostRuntime) -> Result<(), Fail> {
-    let steps = [
-        (Do::Feed(HEADER), Said::Used(8, false), HEADER),
-        (Do::Feed(OPEN), Said::Used(26, true), OPEN),
-        (Do::Beat, Said::Done, "0000000802000000"),
-        (Do::Close, Said::Done, CLOSE),
-        (Do::Close, Said::Refused(1), "-"),
-        (Do::Feed(CLOSE), Said::Used(12, false), "-"),
-        (Do::Feed("00"), Said::Fault(ConnFault::Closed), "-"),
-    ];
-    assert!(rt; goes_so(rt.alloc(), &steps, Phase::Closed));
-    Ok(())
-}
-
-#[test]
-fn faults_of_the_peer(rt: HostRuntime) -> Result<(), Fail> {
-    let other = [
-        (
-            Do::Feed("414d5150 03010000"),
-            Said::Fault(ConnFault::BadHeader),
-            HEADER,
-        ),
-        (Do::Feed("00"), Said::Fault(ConnFault::Closed), "-"),
-    ];
-    let early = [
-        (Do::Feed(HEADER), Said::Used(8, false), HEADER),
-        (Do::Feed(BEGIN), Said::Fault(ConnFault::OutOfPlace), OPEN),
-    ];
-    assert!(rt; goes_so(rt.alloc(), &other, Phase::Closed));
-    assert!(rt; goes_so(rt.alloc(), &early, Phase::Closed));
-    Ok(())
-}
-
-#[test]
-fn lost_octets(rt: HostRuntime) -> Result<(), Fail> {
-    let steps = [
-        (Do::Feed(HEADER), Said::Used(8, false), HEADER),
-        (Do::Feed(OPEN), Said::Used(26, true), OPEN),
-        (Do::Lost, Said::Done, "-"),
-        (Do::Feed("00"), Said::Fault(ConnFault::Closed), "-"),
-        (Do::Beat, Said::Refused(1), "-"),
-    ];
-    assert!(rt; goes_so(rt.alloc(), &steps, Phase::Closed));
-    Ok(())
-}
-
-#[test]
-fn settings_out_of_range(rt: HostRuntime) -> Result<(), Fail> {
+fn settings_out_of_range(rt: HostRuntime) {
     let alloc = rt.alloc();
-    let long = [b'a'; 600];
-    assert_eq!(rt; start_fault(alloc, "a", 0), Some(StartFault::BadConfig));
-    assert_eq!(rt;
-        start_fault(alloc, std::str::from_utf8(&long)?, 1),
-        Some(StartFault::BadConfig)
+    let none = start_fault(alloc, b"a", 0);
+    let long = start_fault(alloc, &LONG, 1);
+    let fine = start_fault(alloc, b"a", 1);
+    assert!(rt;
+        (none, long, fine)
+            == (
+                Some(StartFault::BadConfig),
+                Some(StartFault::BadConfig),
+                None
+            )
     );
-    assert_eq!(rt; start_fault(alloc, "a", 1), None);
-    Ok(())
 }
 
 /// Feeds all of the octets, and answers whether no fault was told.
@@ -275,79 +267,73 @@ pub(crate) fn hears(conn: &mut Conn, octets: &[u8]) -> bool {
 
 /// Where a connection stands that has heard the octets in two pieces, and whether no fault was told.
 fn stands(alloc: Global, octets: &[u8], cut: usize) -> Option<(Phase, bool)> {
-    match connection(alloc) {
-        Ok(mut conn) => {
-            let (one, other) = octets.split_at(octets.len().min(cut));
-            let first = hears(&mut conn, one);
-            let second = hears(&mut conn, other);
-            let phase = conn.phase();
-            drop(conn);
-            Some((phase, first && second))
-        }
-        Err(_) => None,
-    }
+    let Ok(mut conn) = connection(alloc) else {
+        return None;
+    };
+    let (one, other) = octets.split_at(octets.len().min(cut));
+    let first = hears(&mut conn, one);
+    let good = hears(&mut conn, other) && first;
+    let phase = conn.phase();
+    drop(conn);
+    Some((phase, good))
 }
 
 #[test]
-fn header_and_open_in_two_pieces(rt: HostRuntime) -> Result<(), Fail> {
-    let alloc = rt.alloc();
-    let whole = octets(
-        alloc,
-        "414d5150 00010000 0000001a02000000 005310c00d04 a10161 40 7000010000 600000",
-    )?;
+fn header_and_open_in_two_pieces(rt: HostRuntime) {
     for cut in 0..35 {
-        assert_eq!(rt;
-            stands(alloc, whole.as_slice(), cut),
-            Some((Phase::Running, true))
-        );
+        assert!(rt; stands(rt.alloc(), OPENED, cut) == Some((Phase::Running, true)));
     }
-    Ok(())
 }
 
-/// Header, open, begin, attach, flow and transfer of a peer, with one octet in turn replaced, and cut short there: all is taken, or a fault closes the connection.
+/// Header, open, begin, attach, flow and transfer of a peer.
+const SESSION: [u8; 126] =
+    *b"AMQP\x00\x01\x00\x00\x00\x00\x00\x1a\x02\x00\x00\x00\x00\x53\x10\xc0\x0d\x04\xa1\x01a\x40\x70\x00\x01\x00\x00\x60\x00\x00\x00\x00\x00\x17\x02\x00\x00\x00\x00\x53\x11\xc0\x0a\x04\x40\x43\x52\x05\x70\x7f\xff\xff\xff\x00\x00\x00\x13\x02\x00\x00\x00\x00\x53\x12\xc0\x06\x03\xa1\x01q\x43\x41\x00\x00\x00\x1e\x02\x00\x00\x00\x00\x53\x13\xc0\x11\x07\x43\x70\x00\x00\x08\x00\x43\x70\x7f\xff\xff\xff\x43\x43\x52\x05\x00\x00\x00\x14\x02\x00\x00\x00\x00\x53\x14\xc0\x07\x06\x43\x40\x40\x40\x40\x41";
+
+/// All is taken, or a fault closes the connection.
+fn is_taken_or_closes(alloc: Global, octets: &[u8], cut: usize) -> bool {
+    match stands(alloc, octets, cut) {
+        Some((phase, good)) => (phase == Phase::Closed) != good,
+        None => false,
+    }
+}
+
+/// What is cut short is awaited.
+fn is_awaited(alloc: Global, octets: &[u8]) -> bool {
+    match stands(alloc, octets, octets.len() / 2) {
+        Some((_, good)) => good,
+        None => false,
+    }
+}
+
+/// The session with one octet in turn replaced, and cut short there.
 #[test]
-fn wrong_octets(rt: HostRuntime) -> Result<(), Fail> {
-    let alloc = rt.alloc();
-    let mut session = octets(
-        alloc,
-        "414d5150 00010000 0000001a02000000 005310c00d04 a10161 40 7000010000 600000
-         0000001702000000 005311c00a04 40 43 5205 707fffffff
-         0000001302000000 005312c00603 a10171 43 41
-         0000001e02000000 005313c01107 43 7000000800 43 707fffffff 43 43 5205
-         0000001402000000 005314c00706 43 40404040 41",
-    )?;
-    for place in 0..session.len() {
+fn wrong_octets(rt: HostRuntime) {
+    let mut session = SESSION;
+    for place in 0..126 {
         let right = session[place];
         session[place] = 0xff;
-        let (phase, good) = stands(alloc, session.as_slice(), place).unwrap_or((
-            Phase::AwaitHeader,
-            false,
-        ));
-        assert_eq!(rt; phase == Phase::Closed, !good);
+        let so = is_taken_or_closes(rt.alloc(), &session, place);
         session[place] = right;
-        // What is cut short is awaited.
-        let (_, awaited) = stands(alloc, &session[..place], place / 2).unwrap_or((
-            Phase::Closed,
-            false,
-        ));
-        assert!(rt; awaited);
+        assert!(rt; so && is_awaited(rt.alloc(), &session[..place]));
     }
-    Ok(())
 }
 
-/// Octets of the peer's, in pieces of this length; after so many calls each one fails.
+/// Octets of the peer's, in pieces of nine.
 #[derive(Drop)]
 struct Fails<'a> {
     octets: &'a [u8],
     calls: u32,
+    /// The first call that fails, and the last.
+    failing: (u32, u32),
 }
 
 impl Read for Fails<'_> {
     fn read(&mut self, buf: &mut [u8]) -> io::Result<usize> {
-        if self.calls == 0 {
+        self.calls = self.calls.saturating_add(1);
+        let (first, last) = self.failing;
+        if first <= self.calls && self.calls <= last {
             return Err(io::Error::other("the line is cut"));
         }
-        self.calls -= 1;
         let (mut piece, rest) = self.octets.split_at(self.octets.len().min(9));
         self.octets = rest;
         piece.read(buf)
@@ -374,144 +360,94 @@ impl Write for Full {
     }
 }
 
-/// How a pump ends over a peer that says this: reads and writes fail after so many.
-fn pumped(
-    alloc: Global,
-    text: &str,
-    turns: u32,
-    reads: u32,
-    writes: u32,
-) -> Result<PumpEnd, PumpFault> {
-    let Ok(octets) = octets(alloc, text) else {
-        return Err(PumpFault::Conn(ConnFault::NoMemory));
+type PumpAnswer = Result<PumpEnd, PumpFault>;
+
+/// What a peer says, how many turns a pump has, after how many reads and writes each one fails, and how the pump ends.
+const PUMPS: &[(&[u8], u32, u32, u32, PumpAnswer)] = &[
+    (HEADER, 1, 9, 9, Ok(PumpEnd::TurnsOver)),
+    (HEADER, 9, 9, 9, Ok(PumpEnd::EndOfInput)),
+    // Six reads of nine octets at most; that the connection is closed is told in the next turn.
+    (WHOLE, 0, 9, 9, Ok(PumpEnd::TurnsOver)),
+    (WHOLE, 1, 9, 9, Ok(PumpEnd::TurnsOver)),
+    (WHOLE, 2, 9, 9, Ok(PumpEnd::TurnsOver)),
+    (WHOLE, 3, 9, 9, Ok(PumpEnd::TurnsOver)),
+    (WHOLE, 4, 9, 9, Ok(PumpEnd::TurnsOver)),
+    (WHOLE, 5, 9, 9, Ok(PumpEnd::TurnsOver)),
+    (WHOLE, 6, 9, 9, Ok(PumpEnd::TurnsOver)),
+    (WHOLE, 7, 9, 9, Ok(PumpEnd::Closed)),
+    (WHOLE, 99, 0, 9, Err(PumpFault::Read)),
+    (WHOLE, 99, 1, 9, Err(PumpFault::Read)),
+    (WHOLE, 99, 2, 9, Err(PumpFault::Read)),
+    (WHOLE, 99, 3, 9, Err(PumpFault::Read)),
+    (WHOLE, 99, 4, 9, Err(PumpFault::Read)),
+    (WHOLE, 99, 5, 9, Err(PumpFault::Read)),
+    // Three units: our header, open and close.
+    (WHOLE, 99, 99, 0, Err(PumpFault::Write)),
+    (WHOLE, 99, 99, 1, Err(PumpFault::Write)),
+    (WHOLE, 99, 99, 2, Err(PumpFault::Write)),
+    // The fault is told behind the last close, and that the close cannot be written before it.
+    (
+        TWICE,
+        99,
+        99,
+        3,
+        Err(PumpFault::Conn(ConnFault::OutOfPlace)),
+    ),
+    (TWICE, 99, 99, 2, Err(PumpFault::Write)),
+    (
+        ELSEWHERE,
+        99,
+        99,
+        3,
+        Err(PumpFault::Conn(ConnFault::BadChannel)),
+    ),
+    (ELSEWHERE, 99, 99, 2, Err(PumpFault::Write)),
+    // Behind another header no close goes out.
+    (OTHER, 99, 99, 1, Err(PumpFault::Conn(ConnFault::BadHeader))),
+];
+
+/// How a pump ends over such devices.
+fn pumped(alloc: Global, octets: &[u8], turns: u32, reads: u32, writes: u32) -> Option<PumpAnswer> {
+    let Ok(mut conn) = connection(alloc) else {
+        return None;
     };
-    match connection(alloc) {
-        Ok(mut conn) => {
-            let end = pump(octets.as_slice(), turns, reads, writes, &mut conn);
-            drop(conn);
-            end
-        }
-        Err(_) => Err(PumpFault::Conn(ConnFault::NoMemory)),
-    }
+    let end = pump(octets, turns, reads, writes, &mut conn);
+    drop(conn);
+    Some(end)
 }
 
-fn pump(
-    octets: &[u8],
-    turns: u32,
-    reads: u32,
-    writes: u32,
-    conn: &mut Conn,
-) -> Result<PumpEnd, PumpFault> {
+fn pump(octets: &[u8], turns: u32, reads: u32, writes: u32, conn: &mut Conn) -> PumpAnswer {
     let mut source = FromStd::new(Fails {
         octets,
-        calls: reads,
+        calls: 0,
+        failing: (reads.saturating_add(1), u32::MAX),
     });
     let mut sink = FromStd::new(Full { calls: writes });
     Pump::new().run(&mut source, &mut sink, conn, turns)
 }
 
 #[test]
-fn pumps_end(rt: HostRuntime) -> Result<(), Fail> {
-    let alloc = rt.alloc();
-    assert_eq!(rt; pumped(alloc, HEADER, 1, 9, 9), Ok(PumpEnd::TurnsOver));
-    assert_eq!(rt; pumped(alloc, HEADER, 9, 9, 9), Ok(PumpEnd::EndOfInput));
-    // Six reads of nine octets at most; that the connection is closed is told in the next turn.
-    for turns in 0..7 {
-        assert_eq!(rt; pumped(alloc, WHOLE, turns, 9, 9), Ok(PumpEnd::TurnsOver));
-    }
-    assert_eq!(rt; pumped(alloc, WHOLE, 7, 9, 9), Ok(PumpEnd::Closed));
-    Ok(())
-}
-
-#[test]
-fn pumps_over_devices_that_fail(rt: HostRuntime) -> Result<(), Fail> {
-    let alloc = rt.alloc();
-    // Six reads of nine octets at most, and three units: our header, open and close.
-    for reads in 0..6 {
-        assert_eq!(rt; pumped(alloc, WHOLE, 99, reads, 9), Err(PumpFault::Read));
-    }
-    for writes in 0..3 {
-        assert_eq!(rt; pumped(alloc, WHOLE, 99, 99, writes), Err(PumpFault::Write));
-    }
-    Ok(())
-}
-
-#[test]
-fn a_pump_hands_on_the_fault_behind_the_last_close(rt: HostRuntime) -> Result<(), Fail> {
-    let alloc = rt.alloc();
-    // An open comes twice: our header, our open and the close go out.
-    let twice =
-        "414d5150 00010000 0000001a02000000 005310c00d04 a10161 40 7000010000 600000 0000001a02000000 005310c00d04 a10161 40 7000010000 600000";
-    assert_eq!(rt;
-        pumped(alloc, twice, 99, 99, 3),
-        Err(PumpFault::Conn(ConnFault::OutOfPlace))
-    );
-    assert_eq!(rt; pumped(alloc, twice, 99, 99, 2), Err(PumpFault::Write));
-    // A close on channel 1.
-    let elsewhere =
-        "414d5150 00010000 0000001a02000000 005310c00d04 a10161 40 7000010000 600000 0000000c02000001 00531845";
-    assert_eq!(rt;
-        pumped(alloc, elsewhere, 99, 99, 3),
-        Err(PumpFault::Conn(ConnFault::BadChannel))
-    );
-    assert_eq!(rt; pumped(alloc, elsewhere, 99, 99, 2), Err(PumpFault::Write));
-    // Another header, behind which no close goes out.
-    let other = "414d5150 03010000";
-    assert_eq!(rt;
-        pumped(alloc, other, 99, 99, 1),
-        Err(PumpFault::Conn(ConnFault::BadHeader))
-    );
-    Ok(())
-}
-
-/// Octets of the peer's, in pieces of nine; one call fails, and those after it go on.
-#[derive(Drop)]
-struct Falters<'a> {
-    octets: &'a [u8],
-    calls: u32,
-    failing: u32,
-}
-
-impl Read for Falters<'_> {
-    fn read(&mut self, buf: &mut [u8]) -> io::Result<usize> {
-        self.calls = self.calls.saturating_add(1);
-        if self.calls == self.failing {
-            return Err(io::Error::other("the line is cut"));
-        }
-        let (mut piece, rest) = self.octets.split_at(self.octets.len().min(9));
-        self.octets = rest;
-        piece.read(buf)
+fn pumps_end(rt: HostRuntime) {
+    for (octets, turns, reads, writes, end) in PUMPS {
+        assert!(rt; pumped(rt.alloc(), octets, *turns, *reads, *writes) == Some(*end));
     }
 }
 
-/// How a pump ends where this read fails, whether its error was kept, and how the pump ends where it is called again.
-fn called_again(
-    alloc: Global,
-    failing: u32,
-) -> (Result<PumpEnd, PumpFault>, bool, Result<PumpEnd, PumpFault>) {
-    let refused = Err(PumpFault::Conn(ConnFault::NoMemory));
-    let Ok(octets) = octets(alloc, WHOLE) else {
-        return (refused, false, refused);
+/// Whether a pump tells a read that fails, keeps its error, and goes on to the end where it is called again.
+fn goes_on(alloc: Global, failing: u32) -> bool {
+    let Ok(mut conn) = connection(alloc) else {
+        return false;
     };
-    match connection(alloc) {
-        Ok(mut conn) => {
-            let answer = call_again(octets.as_slice(), failing, &mut conn);
-            drop(conn);
-            answer
-        }
-        Err(_) => (refused, false, refused),
-    }
+    let so = is_called_again(failing, &mut conn);
+    drop(conn);
+    so
 }
 
-fn call_again(
-    octets: &[u8],
-    failing: u32,
-    conn: &mut Conn,
-) -> (Result<PumpEnd, PumpFault>, bool, Result<PumpEnd, PumpFault>) {
-    let mut source = FromStd::new(Falters {
-        octets,
+fn is_called_again(failing: u32, conn: &mut Conn) -> bool {
+    let mut source = FromStd::new(Fails {
+        octets: WHOLE,
         calls: 0,
-        failing,
+        failing: (failing, failing),
     });
     let mut sink = FromStd::new(Full { calls: 9 });
     let mut pump = Pump::new();
@@ -521,18 +457,14 @@ fn call_again(
         None => false,
     };
     let then = pump.run(&mut source, &mut sink, conn, 99);
-    (first, kept, then)
+    kept && first == Err(PumpFault::Read) && then == Ok(PumpEnd::Closed)
 }
 
 #[test]
-fn a_pump_goes_on_behind_a_read_that_failed(rt: HostRuntime) -> Result<(), Fail> {
+fn a_pump_goes_on_behind_a_read_that_failed(rt: HostRuntime) {
     for failing in 1..7 {
-        let (first, kept, then) = called_again(rt.alloc(), failing);
-        assert_eq!(rt; first, Err(PumpFault::Read));
-        assert!(rt; kept);
-        assert_eq!(rt; then, Ok(PumpEnd::Closed));
+        assert!(rt; goes_on(rt.alloc(), failing));
     }
-    Ok(())
 }
 
 /// Takes five octets at most, and is interrupted before each time; after so many octets it takes none.
@@ -564,15 +496,10 @@ fn takes(room: usize) -> bool {
         interrupted: false,
         room,
     });
-    match Sink::write_all(&mut sink, &[7; 16]) {
-        Ok(()) => true,
-        Err(_) => false,
-    }
+    Sink::write_all(&mut sink, &[7; 16]).is_ok()
 }
 
 #[test]
-fn a_sink_writes_on_behind_short_writes(rt: HostRuntime) -> Result<(), Fail> {
-    assert!(rt; takes(16));
-    assert!(rt; !takes(15));
-    Ok(())
+fn a_sink_writes_on_behind_short_writes(rt: HostRuntime) {
+    assert!(rt; takes(16) && !takes(15));
 }

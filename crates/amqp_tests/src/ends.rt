@@ -1,51 +1,55 @@
 //! What came before an end is had once: whatever ends a link, the session or the connection, and wherever the octets are cut.
 
-use crate::conn::{connection, octets};
+use crate::conn::connection;
 use amqp_conn::*;
 use std::alloc::{AllocError, Global};
-use std::test::Fail;
 
 /// Header, open and begin of the peer.
-const GREETING: &str = "414d5150 00010000
-     0000001a02000000 005310c00d04 a10161 40 7000010000 600000
-     0000001702000000 005311c00a04 40 43 5205 707fffffff";
+const GREETING: &[u8] = b"AMQP\x00\x01\x00\x00\
+    \x00\x00\x00\x1a\x02\x00\x00\x00\x00\x53\x10\xc0\x0d\x04\xa1\x01a\x40\x70\x00\x01\x00\x00\x60\x00\x00\
+    \x00\x00\x00\x17\x02\x00\x00\x00\x00\x53\x11\xc0\x0a\x04\x40\x43\x52\x05\x70\x7f\xff\xff\xff";
 
 /// The peer's attach of `q`, on which it sends, that of `p`, on which we send, and a flow that gives three credits for it.
-const LINKS: &str = "0000001a02000000 005312c00d0a a10171 43 42 404040404040 43
-     0000001402000000 005312c00703 a10170 5201 41
-     0000001f02000000 005313c01207 43 7000000800 43 707fffffff 5201 43 5203";
+const LINKS: &[u8] =
+    b"\x00\x00\x00\x1a\x02\x00\x00\x00\x00\x53\x12\xc0\x0d\x0a\xa1\x01q\x43\x42\x40\x40\x40\x40\x40\x40\x43\
+    \x00\x00\x00\x14\x02\x00\x00\x00\x00\x53\x12\xc0\x07\x03\xa1\x01p\x52\x01\x41\
+    \x00\x00\x00\x1f\x02\x00\x00\x00\x00\x53\x13\xc0\x12\x07\x43\x70\x00\x00\x08\x00\x43\x70\x7f\xff\xff\xff\x52\x01\x43\x52\x03";
 
 /// Five settled deliveries, with the dispositions of ours between them.
-const SAID: &str = "0000001702000000 005314c00905 43 5200 a00100 43 41 78
-     0000001802000000 005315c00b05 41 5200 5200 41 00532445
-     0000001702000000 005314c00905 43 5201 a00101 43 41 78
-     0000001702000000 005314c00905 43 5202 a00102 43 41 78
-     0000001802000000 005315c00b05 41 5201 5201 41 00532445
-     0000001702000000 005314c00905 43 5203 a00103 43 41 78
-     0000001702000000 005314c00905 43 5204 a00104 43 41 78
-     0000001802000000 005315c00b05 41 5202 5202 41 00532445";
+const SAID: &[u8] =
+    b"\x00\x00\x00\x17\x02\x00\x00\x00\x00\x53\x14\xc0\x09\x05\x43\x52\x00\xa0\x01\x00\x43\x41x\
+    \x00\x00\x00\x18\x02\x00\x00\x00\x00\x53\x15\xc0\x0b\x05\x41\x52\x00\x52\x00\x41\x00\x53\x24\x45\
+    \x00\x00\x00\x17\x02\x00\x00\x00\x00\x53\x14\xc0\x09\x05\x43\x52\x01\xa0\x01\x01\x43\x41x\
+    \x00\x00\x00\x17\x02\x00\x00\x00\x00\x53\x14\xc0\x09\x05\x43\x52\x02\xa0\x01\x02\x43\x41x\
+    \x00\x00\x00\x18\x02\x00\x00\x00\x00\x53\x15\xc0\x0b\x05\x41\x52\x01\x52\x01\x41\x00\x53\x24\x45\
+    \x00\x00\x00\x17\x02\x00\x00\x00\x00\x53\x14\xc0\x09\x05\x43\x52\x03\xa0\x01\x03\x43\x41x\
+    \x00\x00\x00\x17\x02\x00\x00\x00\x00\x53\x14\xc0\x09\x05\x43\x52\x04\xa0\x01\x04\x43\x41x\
+    \x00\x00\x00\x18\x02\x00\x00\x00\x00\x53\x15\xc0\x0b\x05\x41\x52\x02\x52\x02\x41\x00\x53\x24\x45";
 
-const DETACHES: &str = "0000001002000000 005316c00302 43 41 0000001102000000 005316c00402 5201 41";
+const DETACHES: &[u8] = b"\x00\x00\x00\x10\x02\x00\x00\x00\x00\x53\x16\xc0\x03\x02\x43\x41\
+    \x00\x00\x00\x11\x02\x00\x00\x00\x00\x53\x16\xc0\x04\x02\x52\x01\x41";
 
-const END: &str = "0000000c02000000 00531745";
+const END: &[u8] = b"\x00\x00\x00\x0c\x02\x00\x00\x00\x00\x53\x17\x45";
 
-const CLOSE: &str = "0000000c02000000 00531845";
+const CLOSE: &[u8] = b"\x00\x00\x00\x0c\x02\x00\x00\x00\x00\x53\x18\x45";
 
 /// Detaches, end and close.
-const ALL: &str = "0000001002000000 005316c00302 43 41 0000001102000000 005316c00402 5201 41
-     0000000c02000000 00531745 0000000c02000000 00531845";
+const ALL: &[u8] = b"\x00\x00\x00\x10\x02\x00\x00\x00\x00\x53\x16\xc0\x03\x02\x43\x41\
+    \x00\x00\x00\x11\x02\x00\x00\x00\x00\x53\x16\xc0\x04\x02\x52\x01\x41\
+    \x00\x00\x00\x0c\x02\x00\x00\x00\x00\x53\x17\x45\
+    \x00\x00\x00\x0c\x02\x00\x00\x00\x00\x53\x18\x45";
 
 /// A frame whose data offset is too small.
-const BAD: &str = "0000000c01000000 00531745";
+const BAD: &[u8] = b"\x00\x00\x00\x0c\x01\x00\x00\x00\x00\x53\x17\x45";
 
 /// A detach by a handle that is not attached: we end the session for it.
-const UNATTACHED: &str = "0000001102000000 005316c00402 5209 41";
+const UNATTACHED: &[u8] = b"\x00\x00\x00\x11\x02\x00\x00\x00\x00\x53\x16\xc0\x04\x02\x52\x09\x41";
 
 /// What ends a session of this test.
 #[derive(Clone, Copy)]
 enum Way {
     /// The peer says this.
-    Hears(&'static str),
+    Hears(&'static [u8]),
     /// The octets end, wherever that is.
     Lost,
     /// We end the session.
@@ -110,17 +114,27 @@ impl Tally {
         each_once(&self.taken, self.deliveries) && each_once(&self.learned, self.outcomes)
     }
 
+    /// All came, and was had once.
+    fn is_all(&self) -> bool {
+        self.is_due() && self.deliveries == 5 && self.outcomes == 3
+    }
+
     /// A delivery counts where it is the one that the peer sent with its id.
     fn take(&mut self, taken: &Taken) {
-        let payload: &[u8] = b"x";
-        let is_sent = taken.link == 1 && taken.settled && taken.payload.as_slice() == payload;
+        let is_sent = taken.link == 1
+            && taken.settled
+            && taken.payload.as_slice() == b"x".as_slice();
         if is_sent && u32::from(taken.tag.octets().first().copied().unwrap_or(9)) == taken.id {
             mark(&mut self.taken, taken.id);
         }
     }
 
     fn learn(&mut self, learned: &Learned) {
-        if learned.link == 0 && learned.settled && learned.state == Some(DeliveryState::Accepted) {
+        let is_accepted = match &learned.state {
+            Some(DeliveryState::Accepted) => true,
+            _ => false,
+        };
+        if is_accepted && learned.link == 0 && learned.settled {
             mark(&mut self.learned, learned.id);
         }
     }
@@ -154,40 +168,16 @@ impl Tally {
     }
 }
 
-/// Does the operation, where that can be done.
+/// Does the operation, where that can be done, and counts what it gave.
 fn does(conn: &mut Conn, tally: &mut Tally, op: Op) {
     if conn.perform(op).is_ok() {
-        have(conn, tally);
+        if let Some(given) = conn.given() {
+            tally.have(given);
+        }
     }
 }
 
-/// Counts what the newest step gave.
-fn have(conn: &Conn, tally: &mut Tally) {
-    if let Some(given) = conn.given() {
-        tally.have(given);
-    }
-}
-
-/// Counts the frame of the newest step.
-fn note(conn: &Conn, tally: &mut Tally) {
-    if let Some(frame) = conn.heard() {
-        tally.hear(frame);
-    }
-}
-
-/// Feeds the octets once: how many were used, where that was no fault.
-fn hears_one(conn: &mut Conn, tally: &mut Tally, octets: &[u8]) -> Option<usize> {
-    let (used, stepped) = match conn.feed(octets) {
-        Ok(fed) => (fed.used, fed.stepped),
-        Err(_) => return None,
-    };
-    if stepped {
-        note(conn, tally);
-    }
-    Some(used)
-}
-
-/// Feeds all of the octets, or those before a fault.
+/// Feeds all of the octets, or those before a fault, and counts what the frames bring.
 fn hears(conn: &mut Conn, tally: &mut Tally, octets: &[u8]) {
     let mut rest = octets;
     // No frame is read three times.
@@ -195,10 +185,16 @@ fn hears(conn: &mut Conn, tally: &mut Tally, octets: &[u8]) {
         if rest.is_empty() {
             return;
         }
-        match hears_one(conn, tally, rest) {
-            Some(used) => rest = rest.get(used..).unwrap_or(&[]),
-            None => return,
+        let (used, stepped) = match conn.feed(rest) {
+            Ok(fed) => (fed.used, fed.stepped),
+            Err(_) => return,
+        };
+        if stepped {
+            if let Some(frame) = conn.heard() {
+                tally.hear(frame);
+            }
         }
+        rest = rest.get(used..).unwrap_or(&[]);
     }
 }
 
@@ -226,28 +222,25 @@ fn hears_cut(conn: &mut Conn, tally: &mut Tally, octets: &[u8], dice: &mut u32) 
     }
 }
 
-/// What the peer says of deliveries and outcomes, and with it of the end; where the octets are lost, as many of them as the dice say.
-fn spoken(alloc: Global, way: Way, dice: &mut u32) -> Result<Vec<u8>, AllocError> {
-    let mut said = octets(alloc, SAID)?;
-    match way {
-        Way::Hears(text) => said.extend_from_slice(octets(alloc, text)?.as_slice())?,
-        Way::Lost => said.truncate(roll(dice)),
-        Way::Ends | Way::Detaches | Way::Closes => {}
-    }
+/// What the peer says of deliveries and outcomes, and with it of the end.
+fn spoken(alloc: Global, end: &[u8]) -> Result<Vec<u8>, AllocError> {
+    let mut said = Vec::new(alloc);
+    said.extend_from_slice(SAID)?;
+    said.extend_from_slice(end)?;
     Ok(said)
 }
 
 /// What we do at the end, and what the peer says then.
-fn ends(conn: &mut Conn, tally: &mut Tally, way: Way) -> &'static str {
+fn ends(conn: &mut Conn, tally: &mut Tally, way: Way) -> &'static [u8] {
     match way {
-        Way::Hears(_) => "",
+        Way::Hears(_) => b"",
         Way::Lost => {
             conn.lost();
-            ""
+            b""
         }
         Way::Ends => {
             does(conn, tally, ops::end());
-            ""
+            b""
         }
         Way::Detaches => {
             does(conn, tally, ops::detach(1));
@@ -260,98 +253,86 @@ fn ends(conn: &mut Conn, tally: &mut Tally, way: Way) -> &'static str {
     }
 }
 
-/// Pops the first of what is left.
-fn pops(conn: &mut Conn, tally: &mut Tally) -> bool {
-    match conn.pop_left() {
-        Ok(Some(left)) => {
-            tally.leave(left);
-            true
-        }
-        Ok(None) => false,
-        Err(_) => false,
-    }
-}
-
 /// Pops all that is left: there is no more than was heard.
 fn pops_all(conn: &mut Conn, tally: &mut Tally) {
     for _ in 0..99 {
-        if !pops(conn, tally) {
-            return;
+        match conn.pop_left() {
+            Ok(Some(left)) => tally.leave(left),
+            Ok(None) => return,
+            Err(_) => return,
         }
     }
 }
 
-fn attaches(alloc: Global, conn: &mut Conn, name: &str, role: Role) -> Result<(), AllocError> {
-    let name = Text::new(alloc, name)?;
-    does(conn, &mut NONE, ops::attach(name, role, None, None));
-    Ok(())
+fn attaches(alloc: Global, conn: &mut Conn, name: &str, role: Role) {
+    if let Ok(name) = Text::new(alloc, name) {
+        let _ = conn.perform(ops::attach(name, role, None, None));
+    }
 }
 
 /// Starts a delivery of this tag on link 0.
-fn starts(alloc: Global, conn: &mut Conn, tag: u8) -> Result<(), AllocError> {
+fn starts(alloc: Global, conn: &mut Conn, tag: u8) {
+    let Ok(payload) = Bytes::copy_from_slice(alloc, b"y") else {
+        return;
+    };
     if let Some(tag) = Tag::new(&[tag]) {
-        let payload = Bytes::copy_from_slice(alloc, b"y")?;
-        does(conn, &mut NONE, ops::start(0, tag, payload));
+        let _ = conn.perform(ops::start(0, tag, payload));
     }
-    Ok(())
-}
-
-/// Hears what this text spells, before anything is counted.
-fn hears_text(alloc: Global, conn: &mut Conn, text: &str) -> Result<(), AllocError> {
-    let octets = octets(alloc, text)?;
-    hears(conn, &mut NONE, octets.as_slice());
-    drop(octets);
-    Ok(())
 }
 
 /// Begins, attaches `p` as link 0 and `q` as link 1, grants five deliveries, and starts three.
-fn sets_up(alloc: Global, conn: &mut Conn) -> Result<(), AllocError> {
-    hears_text(alloc, conn, GREETING)?;
-    does(conn, &mut NONE, ops::begin());
-    attaches(alloc, conn, "p", Role::Sender)?;
-    hears_text(alloc, conn, LINKS)?;
-    attaches(alloc, conn, "q", Role::Receiver)?;
-    does(conn, &mut NONE, ops::grant(1, 5));
+fn sets_up(alloc: Global, conn: &mut Conn) {
+    hears(conn, &mut NONE, GREETING);
+    let _ = conn.perform(ops::begin());
+    attaches(alloc, conn, "p", Role::Sender);
+    hears(conn, &mut NONE, LINKS);
+    attaches(alloc, conn, "q", Role::Receiver);
+    let _ = conn.perform(ops::grant(1, 5));
     for tag in 0..3 {
-        starts(alloc, conn, tag)?;
+        starts(alloc, conn, tag);
     }
-    Ok(())
+}
+
+/// The octets that come, and those of the end, cut as the dice say; where they are lost, as many of them as the dice say.
+fn comes(conn: &mut Conn, tally: &mut Tally, said: &[u8], way: Way, dice: &mut u32) {
+    let count = match way {
+        Way::Lost => roll(dice),
+        _ => said.len(),
+    };
+    let (come, _) = said.split_at(said.len().min(count));
+    hears_cut(conn, tally, come, dice);
+    let answer = ends(conn, tally, way);
+    hears_cut(conn, tally, answer, dice);
 }
 
 /// What is had where the octets are cut as the dice say.
-fn lives(alloc: Global, conn: &mut Conn, way: Way, dice: u32) -> Result<Tally, AllocError> {
+fn lives(alloc: Global, conn: &mut Conn, way: Way, dice: u32) -> Option<Tally> {
     let mut tally = NONE;
     let mut dice = dice;
-    sets_up(alloc, conn)?;
-    let said = spoken(alloc, way, &mut dice)?;
-    hears_cut(conn, &mut tally, said.as_slice(), &mut dice);
-    drop(said);
-    let answer = octets(alloc, ends(conn, &mut tally, way))?;
-    hears_cut(conn, &mut tally, answer.as_slice(), &mut dice);
-    drop(answer);
+    let end = match way {
+        Way::Hears(end) => end,
+        _ => b"",
+    };
+    let Ok(said) = spoken(alloc, end) else {
+        return None;
+    };
+    sets_up(alloc, conn);
+    comes(conn, &mut tally, said.as_slice(), way, &mut dice);
     pops_all(conn, &mut tally);
-    Ok(tally)
+    Some(tally)
 }
 
 /// How much is left where all comes in one piece, and what is had then.
-fn lives_at_once(
-    alloc: Global,
-    conn: &mut Conn,
-    end: &'static str,
-) -> Result<(usize, Tally), AllocError> {
+fn lives_at_once(alloc: Global, conn: &mut Conn, end: &[u8]) -> Option<(usize, Tally)> {
     let mut tally = NONE;
-    sets_up(alloc, conn)?;
-    let said = spoken(alloc, Way::Hears(end), &mut 0)?;
+    let Ok(said) = spoken(alloc, end) else {
+        return None;
+    };
+    sets_up(alloc, conn);
     hears(conn, &mut tally, said.as_slice());
-    drop(said);
-    let left = conn.left_len()?;
+    let left = conn.left_len().unwrap_or(0);
     pops_all(conn, &mut tally);
-    Ok((left, tally))
-}
-
-/// All came, and was had once.
-fn is_all(tally: &Tally) -> bool {
-    tally.is_due() && tally.deliveries == 5 && tally.outcomes == 3
+    Some((left, tally))
 }
 
 /// Whether all that came was had once, where the octets are cut as the dice say.
@@ -362,44 +343,41 @@ fn is_had(alloc: Global, way: Way, dice: u32) -> bool {
     let tally = lives(alloc, &mut conn, way, dice);
     drop(conn);
     match (tally, way) {
-        (Ok(tally), Way::Lost) => tally.is_due(),
-        (Ok(tally), _) => is_all(&tally),
-        (Err(_), _) => false,
+        (Some(tally), Way::Lost) => tally.is_due(),
+        (Some(tally), _) => tally.is_all(),
+        (None, _) => false,
     }
 }
 
 /// Whether all was had once, by `pop_left` alone, where it came in one piece with this end.
-fn is_left(alloc: Global, end: &'static str) -> bool {
+fn is_left(alloc: Global, end: &[u8]) -> bool {
     let Ok(mut conn) = connection(alloc) else {
         return false;
     };
     let told = lives_at_once(alloc, &mut conn, end);
     drop(conn);
     match told {
-        Ok((left, tally)) => left == 8 && is_all(&tally),
-        Err(_) => false,
+        Some((left, tally)) => left == 8 && tally.is_all(),
+        None => false,
     }
 }
 
 #[test]
-fn messages_come_with_a_close(rt: HostRuntime) -> Result<(), Fail> {
+fn messages_come_with_a_close(rt: HostRuntime) {
     assert!(rt; is_left(rt.alloc(), CLOSE));
-    Ok(())
 }
 
 #[test]
-fn the_last_outcome_comes_with_detach_end_and_close(rt: HostRuntime) -> Result<(), Fail> {
+fn the_last_outcome_comes_with_detach_end_and_close(rt: HostRuntime) {
     assert!(rt; is_left(rt.alloc(), ALL));
-    Ok(())
 }
 
 /// Two hundred sessions: nothing that was ready or told is missing or doubled.
 #[test]
-fn sessions_that_end_in_each_way(rt: HostRuntime) -> Result<(), Fail> {
+fn sessions_that_end_in_each_way(rt: HostRuntime) {
     for number in 0..200u32 {
         // Squares, so that those which end in one way differ in their first roll.
         let dice = number.wrapping_mul(number).wrapping_mul(0x9e37_79b9);
         assert!(rt; is_had(rt.alloc(), way_of(number), dice));
     }
-    Ok(())
 }

@@ -1,37 +1,57 @@
 //! What the peer said: its open, its close, and the errors of its frames, at each end that a connection, a session or a link may have.
 
-use crate::conn::{connection, hears, octets};
+use crate::conn::{connection, hears};
 use amqp_conn::*;
-use std::alloc::{AllocError, Global};
-use std::test::Fail;
+use std::alloc::Global;
 
-const HEADER: &str = "414d5150 00010000";
+const HEADER: Do = Do::Feed(b"AMQP\x00\x01\x00\x00");
 
 /// The open of a container `b` at `host`: frames of at most 1000 octets, channels up to 9, a time-out of 30 seconds, and a map of properties.
-const OPEN: &str =
-    "0000003102000000 005310c0240a a10162 a104686f7374 70000003e8 600009 7000007530 40404040 c10702a30170a10171";
+const OPEN: Do = Do::Feed(
+    b"\x00\x00\x00\x31\x02\x00\x00\x00\x00\x53\x10\xc0\x24\x0a\xa1\x01b\xa1\x04host\x70\x00\x00\x03\xe8\x60\x00\x09\x70\x00\x00\x75\x30\
+    \x40\x40\x40\x40\xc1\x07\x02\xa3\x01p\xa1\x01q",
+);
+
+/// Another open on channel 1, and a close there.
+const OPEN_ELSEWHERE: Do = Do::Feed(
+    b"\x00\x00\x00\x1a\x02\x00\x00\x01\x00\x53\x10\xc0\x0d\x04\xa1\x01a\x40\x70\x00\x01\x00\x00\x60\x00\x00",
+);
+
+const CLOSE_ELSEWHERE: Do = Do::Feed(b"\x00\x00\x00\x0c\x02\x00\x00\x01\x00\x53\x18\x45");
 
 /// A begin that answers none.
-const BEGIN: &str = "0000001702000000 005311c00a04 40 43 5205 707fffffff";
+const BEGIN: Do = Do::Feed(
+    b"\x00\x00\x00\x17\x02\x00\x00\x00\x00\x53\x11\xc0\x0a\x04\x40\x43\x52\x05\x70\x7f\xff\xff\xff",
+);
 
 /// The attach of a sender, `q`, on handle 0, and one delivery of it, which is unsettled.
-const ATTACH: &str = "0000001a02000000 005312c00d0a a10171 43 42 404040404040 43";
+const ATTACH: Do = Do::Feed(
+    b"\x00\x00\x00\x1a\x02\x00\x00\x00\x00\x53\x12\xc0\x0d\x0a\xa1\x01q\x43\x42\x40\x40\x40\x40\x40\x40\x43",
+);
 
-const TRANSFER: &str = "0000001602000000 005314c00805 43 43 a00101 43 42 61";
+const TRANSFER: Do = Do::Feed(
+    b"\x00\x00\x00\x16\x02\x00\x00\x00\x00\x53\x14\xc0\x08\x05\x43\x43\xa0\x01\x01\x43\x42a",
+);
 
 /// A close, an end and a detach that closes handle 0, each with the error `x`, described as `by`.
-const CLOSE: &str = "0000001b02000000 005318c00e01 00531dc00802 a30178 a1026279";
+const CLOSE: Do = Do::Feed(
+    b"\x00\x00\x00\x1b\x02\x00\x00\x00\x00\x53\x18\xc0\x0e\x01\x00\x53\x1d\xc0\x08\x02\xa3\x01x\xa1\x02by",
+);
 
-const PLAIN: &str = "0000000c02000000 00531845";
+const PLAIN: Do = Do::Feed(b"\x00\x00\x00\x0c\x02\x00\x00\x00\x00\x53\x18\x45");
 
-const END: &str = "0000001b02000000 005317c00e01 00531dc00802 a30178 a1026279";
+const END: Do = Do::Feed(
+    b"\x00\x00\x00\x1b\x02\x00\x00\x00\x00\x53\x17\xc0\x0e\x01\x00\x53\x1d\xc0\x08\x02\xa3\x01x\xa1\x02by",
+);
 
-const DETACH: &str = "0000001d02000000 005316c01003 43 41 00531dc00802 a30178 a1026279";
+const DETACH: Do = Do::Feed(
+    b"\x00\x00\x00\x1d\x02\x00\x00\x00\x00\x53\x16\xc0\x10\x03\x43\x41\x00\x53\x1d\xc0\x08\x02\xa3\x01x\xa1\x02by",
+);
 
 /// What is done with a connection.
 #[derive(Clone, Copy)]
 enum Do {
-    Feed(&'static str),
+    Feed(&'static [u8]),
     Begin,
     /// Attaches `q` as its receiver, and grants one delivery.
     Attach,
@@ -61,8 +81,127 @@ struct Shown {
     phase: Phase,
 }
 
-/// The peer of the open above.
-const PEER: Option<Peer> = Some((Some(1000), Some(9), Some(30000), true));
+const RUNNING: Shown = Shown {
+    peer: Some((Some(1000), Some(9), Some(30000), true)),
+    closed: false,
+    ended_by: false,
+    heard: false,
+    detached: false,
+    ended: 0,
+    phase: Phase::Running,
+};
+
+const LOST: Shown = Shown {
+    phase: Phase::Closed,
+    ..RUNNING
+};
+
+/// A close that told why.
+const CLOSED: Shown = Shown {
+    closed: true,
+    ended_by: true,
+    ..LOST
+};
+
+/// What is done with a new connection, and what it shows then.
+const RUNS: &[(&[Do], Shown)] = &[
+    // The open is kept.
+    (
+        &[HEADER],
+        Shown {
+            peer: None,
+            phase: Phase::AwaitOpen,
+            ..RUNNING
+        },
+    ),
+    (&[HEADER, OPEN], RUNNING),
+    (&[HEADER, OPEN, Do::Forget, Do::Lost], LOST),
+    // So is the close.
+    (&[HEADER, OPEN, CLOSE, PLAIN], CLOSED),
+    (&[HEADER, OPEN, Do::Close, CLOSE], CLOSED),
+    (
+        &[HEADER, OPEN, PLAIN, CLOSE],
+        Shown {
+            ended_by: false,
+            ..CLOSED
+        },
+    ),
+    // A frame that is a fault is not.
+    (&[HEADER, OPEN_ELSEWHERE], Shown { peer: None, ..LOST }),
+    (&[HEADER, OPEN, CLOSE_ELSEWHERE], LOST),
+    // An end and a detach tell why; what a detach told is kept with its entry.
+    (
+        &[HEADER, OPEN, BEGIN, Do::Begin, ATTACH, Do::Attach, TRANSFER],
+        RUNNING,
+    ),
+    (
+        &[
+            HEADER,
+            OPEN,
+            BEGIN,
+            Do::Begin,
+            ATTACH,
+            Do::Attach,
+            TRANSFER,
+            DETACH,
+        ],
+        Shown {
+            heard: true,
+            ended: 1,
+            detached: true,
+            ..RUNNING
+        },
+    ),
+    (
+        &[
+            HEADER,
+            OPEN,
+            BEGIN,
+            Do::Begin,
+            ATTACH,
+            Do::Attach,
+            TRANSFER,
+            DETACH,
+            Do::Beat,
+        ],
+        Shown {
+            detached: true,
+            ..RUNNING
+        },
+    ),
+    (
+        &[
+            HEADER,
+            OPEN,
+            BEGIN,
+            Do::Begin,
+            ATTACH,
+            Do::Attach,
+            TRANSFER,
+            DETACH,
+            Do::Beat,
+            Do::Forget,
+        ],
+        RUNNING,
+    ),
+    (
+        &[
+            HEADER,
+            OPEN,
+            BEGIN,
+            Do::Begin,
+            ATTACH,
+            Do::Attach,
+            TRANSFER,
+            END,
+        ],
+        Shown {
+            heard: true,
+            ended: 1,
+            ..RUNNING
+        },
+    ),
+];
 
 fn is_named(text: &Text, name: &str) -> bool {
     text.as_str() == name
@@ -113,23 +252,16 @@ fn show(conn: &Conn) -> Shown {
     }
 }
 
-fn receives(alloc: Global, conn: &mut Conn) -> Result<(), AllocError> {
-    let name = Text::new(alloc, "q")?;
-    let _ = conn.perform(ops::attach(name, Role::Receiver, None, None));
-    let _ = conn.perform(ops::grant(0, 1));
-    Ok(())
-}
-
-fn does(alloc: Global, conn: &mut Conn, what: Do) -> Result<(), AllocError> {
+/// A refusal and a fault are shown by what is missing then, and by the phase.
+fn does(alloc: Global, conn: &mut Conn, what: Do) {
     match what {
-        // A fault is shown by the phase.
-        Do::Feed(text) => {
-            let _ = hears(conn, octets(alloc, text)?.as_slice());
+        Do::Feed(octets) => {
+            let _ = hears(conn, octets);
         }
         Do::Begin => {
             let _ = conn.perform(Op::Begin);
         }
-        Do::Attach => receives(alloc, conn)?,
+        Do::Attach => receives(alloc, conn),
         Do::Beat => {
             let _ = conn.perform(Op::Beat);
         }
@@ -139,149 +271,31 @@ fn does(alloc: Global, conn: &mut Conn, what: Do) -> Result<(), AllocError> {
         Do::Lost => conn.lost(),
         Do::Forget => conn.forget(),
     }
-    Ok(())
 }
 
-fn all_done(alloc: Global, conn: &mut Conn, steps: &[Do]) -> Result<Shown, AllocError> {
-    for what in steps {
-        does(alloc, conn, *what)?;
+fn receives(alloc: Global, conn: &mut Conn) {
+    if let Ok(name) = Text::new(alloc, "q") {
+        let _ = conn.perform(ops::attach(name, Role::Receiver, None, None));
+        let _ = conn.perform(ops::grant(0, 1));
     }
-    Ok(show(conn))
 }
 
 /// Whether a new connection shows this after these steps.
-fn shows(alloc: Global, steps: &[Do], due: Shown) -> bool {
+fn shows(alloc: Global, steps: &[Do], due: &Shown) -> bool {
     let Ok(mut conn) = connection(alloc) else {
         return false;
     };
-    let shown = all_done(alloc, &mut conn, steps);
+    for what in steps {
+        does(alloc, &mut conn, *what);
+    }
+    let shown = show(&conn);
     drop(conn);
-    matches!(shown, Ok(shown) if shown == due)
-}
-
-const RUNNING: Shown = Shown {
-    peer: PEER,
-    closed: false,
-    ended_by: false,
-    heard: false,
-    detached: false,
-    ended: 0,
-    phase: Phase::Running,
-};
-
-const CLOSED: Shown = Shown {
-    peer: PEER,
-    closed: true,
-    ended_by: true,
-    heard: false,
-    detached: false,
-    ended: 0,
-    phase: Phase::Closed,
-};
-
-#[test]
-fn the_open_is_kept(rt: HostRuntime) -> Result<(), Fail> {
-    let alloc = rt.alloc();
-    let before = Shown {
-        peer: None,
-        phase: Phase::AwaitOpen,
-        ..RUNNING
-    };
-    let lost = Shown {
-        phase: Phase::Closed,
-        ..RUNNING
-    };
-    let ends = [Do::Feed(HEADER), Do::Feed(OPEN), Do::Forget, Do::Lost];
-    assert!(rt; shows(alloc, &ends[..1], before));
-    assert!(rt; shows(alloc, &ends[..2], RUNNING));
-    assert!(rt; shows(alloc, &ends, lost));
-    Ok(())
+    shown == *due
 }
 
 #[test]
-fn the_close_is_kept(rt: HostRuntime) -> Result<(), Fail> {
-    let alloc = rt.alloc();
-    let bare = Shown {
-        ended_by: false,
-        ..CLOSED
-    };
-    let heard = [
-        Do::Feed(HEADER),
-        Do::Feed(OPEN),
-        Do::Feed(CLOSE),
-        Do::Feed(PLAIN),
-    ];
-    let agreed = [Do::Feed(HEADER), Do::Feed(OPEN), Do::Close, Do::Feed(CLOSE)];
-    let plain = [
-        Do::Feed(HEADER),
-        Do::Feed(OPEN),
-        Do::Feed(PLAIN),
-        Do::Feed(CLOSE),
-    ];
-    assert!(rt; shows(alloc, &heard, CLOSED));
-    assert!(rt; shows(alloc, &agreed, CLOSED));
-    assert!(rt; shows(alloc, &plain, bare));
-    Ok(())
-}
-
-#[test]
-fn faults_keep_nothing(rt: HostRuntime) -> Result<(), Fail> {
-    let alloc = rt.alloc();
-    let open = [
-        Do::Feed(HEADER),
-        Do::Feed("0000001a02000001 005310c00d04 a10161 40 7000010000 600000"),
-    ];
-    let close = [
-        Do::Feed(HEADER),
-        Do::Feed(OPEN),
-        Do::Feed("0000000c02000001 00531845"),
-    ];
-    let closed = Shown {
-        phase: Phase::Closed,
-        ..RUNNING
-    };
-    let none = Shown {
-        peer: None,
-        ..closed
-    };
-    assert!(rt; shows(alloc, &open, none));
-    assert!(rt; shows(alloc, &close, closed));
-    Ok(())
-}
-
-#[test]
-fn ends_and_detaches_tell_why(rt: HostRuntime) -> Result<(), Fail> {
-    let alloc = rt.alloc();
-    let mut steps = [
-        Do::Feed(HEADER),
-        Do::Feed(OPEN),
-        Do::Feed(BEGIN),
-        Do::Begin,
-        Do::Feed(ATTACH),
-        Do::Attach,
-        Do::Feed(TRANSFER),
-        Do::Feed(DETACH),
-        Do::Beat,
-        Do::Forget,
-    ];
-    let told = Shown {
-        heard: true,
-        ended: 1,
-        ..RUNNING
-    };
-    let detached = Shown {
-        detached: true,
-        ..told
-    };
-    let kept = Shown {
-        detached: true,
-        ..RUNNING
-    };
-    assert!(rt; shows(alloc, &steps[..7], RUNNING));
-    assert!(rt; shows(alloc, &steps[..8], detached));
-    assert!(rt; shows(alloc, &steps[..9], kept));
-    assert!(rt; shows(alloc, &steps, RUNNING));
-    steps[7] = Do::Feed(END);
-    assert!(rt; shows(alloc, &steps[..8], told));
-    Ok(())
+fn what_the_peer_said_is_shown(rt: HostRuntime) {
+    for (steps, due) in RUNS {
+        assert!(rt; shows(rt.alloc(), steps, due));
+    }
 }

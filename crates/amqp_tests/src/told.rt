@@ -1,15 +1,15 @@
 //! What both attaches tell of a link stays with it, also where the journal forgets: handles, settle modes, greatest messages, sources and targets.
 
-use crate::conn::{connection, hears, octets};
+use crate::conn::{connection, hears};
 use amqp_conn::*;
 use std::alloc::{AllocError, Global};
-use std::test::Fail;
 
 /// The header, an open, a begin, and the attach of a sender `q` on handle 3: settled, second, from `a` to `b`, messages of at most 7 octets.
-const HEARD: &str = "414d5150 00010000
-    0000001a02000000 005310c00d04 a10162 40 7000010000 600000
-    0000001702000000 005311c00a04 40 43 5205 707fffffff
-    0000002f02000000 005312c0220b a10171 5203 42 5001 5001 005328c00401a10161 005329c00401a10162 40 40 43 5307";
+const HEARD: &[u8] = b"AMQP\x00\x01\x00\x00\
+    \x00\x00\x00\x1a\x02\x00\x00\x00\x00\x53\x10\xc0\x0d\x04\xa1\x01b\x40\x70\x00\x01\x00\x00\x60\x00\x00\
+    \x00\x00\x00\x17\x02\x00\x00\x00\x00\x53\x11\xc0\x0a\x04\x40\x43\x52\x05\x70\x7f\xff\xff\xff\
+    \x00\x00\x00\x2f\x02\x00\x00\x00\x00\x53\x12\xc0\x22\x0b\xa1\x01q\x52\x03\x42\x50\x01\x50\x01\x00\x53\x28\xc0\x04\x01\xa1\x01a\
+    \x00\x53\x29\xc0\x04\x01\xa1\x01b\x40\x40\x43\x53\x07";
 
 /// What a link tells of an end.
 #[derive(Clone, Copy, PartialEq, Eq)]
@@ -20,6 +20,21 @@ struct Told {
     /// Its source is what was told, and its target is.
     termini: (bool, bool),
 }
+
+/// What our attach tells, and what the peer's does.
+const OURS: Told = Told {
+    handle: 0,
+    modes: (2, 0),
+    max_message: 0,
+    termini: (true, true),
+};
+
+const THEIRS: Told = Told {
+    handle: 3,
+    modes: (1, 1),
+    max_message: 7,
+    termini: (true, true),
+};
 
 /// A source or a target, by its code, of this address alone.
 fn is_terminus(value: &Option<Boxed<Value>>, code: u64, address: &str) -> bool {
@@ -92,6 +107,15 @@ fn told_by(link: &Link) -> (Option<Told>, Option<Told>) {
     (ours, theirs)
 }
 
+/// Whether this is what the connection's first link tells, and it has no other.
+fn tells(conn: &Conn, due: (Option<Told>, Option<Told>)) -> bool {
+    let endpoint = conn.logged().endpoint();
+    match endpoint.link_of(0) {
+        Some(link) => told_by(link) == due && endpoint.link_of(1).is_none(),
+        None => false,
+    }
+}
+
 /// A link of ours for `q`, as its receiver, from the symbol `c`.
 fn attach(alloc: Global) -> Result<Op, AllocError> {
     let name = Text::new(alloc, "q")?;
@@ -99,55 +123,31 @@ fn attach(alloc: Global) -> Result<Op, AllocError> {
     Ok(ops::attach(name, Role::Receiver, Some(source), None))
 }
 
-/// The peer's octets, each of which is used.
-fn is_heard(alloc: Global, conn: &mut Conn) -> Result<bool, AllocError> {
-    let octets = octets(alloc, HEARD)?;
-    let answer = hears(conn, octets.as_slice());
-    drop(octets);
-    Ok(answer)
+fn attaches(alloc: Global, conn: &mut Conn) -> bool {
+    match attach(alloc) {
+        Ok(op) => conn.perform(op).is_ok(),
+        Err(_) => false,
+    }
 }
 
-/// What the connection shows of its first link; and again once it has attached that link and forgotten all entries.
-fn shown(alloc: Global, conn: &mut Conn) -> Result<[(Option<Told>, Option<Told>); 2], AllocError> {
-    let none = (None, None);
-    let mut shown = [none; 2];
-    if !is_heard(alloc, conn)? || conn.perform(Op::Begin).is_err() {
-        return Ok(shown);
+/// What is told once the peer's attach was heard; and again once the connection has attached that link and forgotten all entries.
+fn is_told(alloc: Global, conn: &mut Conn) -> bool {
+    if !hears(conn, HEARD) || conn.perform(Op::Begin).is_err() {
+        return false;
     }
-    shown[0] = conn.logged().endpoint().link_of(0).map_or(none, told_by);
-    let attach = attach(alloc)?;
-    if conn.perform(attach).is_ok() {
-        conn.forget();
-        shown[1] = conn.logged().endpoint().link_of(0).map_or(none, told_by);
+    if !tells(conn, (None, Some(THEIRS))) || !attaches(alloc, conn) {
+        return false;
     }
-    Ok(shown)
+    conn.forget();
+    tells(conn, (Some(OURS), Some(THEIRS)))
 }
 
 #[test]
-fn what_attaches_told_stays(rt: HostRuntime) -> Result<(), Fail> {
+fn what_attaches_told_stays(rt: HostRuntime) {
     let Ok(mut conn) = connection(rt.alloc()) else {
-        return Err(Fail::new("no connection"));
+        panic!(rt; "no connection");
     };
-    let shown = shown(rt.alloc(), &mut conn);
-    let none = conn.logged().endpoint().link_of(1).is_none();
+    let told = is_told(rt.alloc(), &mut conn);
     drop(conn);
-    let Ok(shown) = shown else {
-        return Err(Fail::new("no memory"));
-    };
-    let ours = Some(Told {
-        handle: 0,
-        modes: (2, 0),
-        max_message: 0,
-        termini: (true, true),
-    });
-    let theirs = Some(Told {
-        handle: 3,
-        modes: (1, 1),
-        max_message: 7,
-        termini: (true, true),
-    });
-    assert!(rt; none);
-    assert!(rt; shown[0] == (None, theirs));
-    assert!(rt; shown[1] == (ours, theirs));
-    Ok(())
+    assert!(rt; told);
 }
