@@ -1,7 +1,0 @@
-use Rattle.amqp_shared_tests.proofs.shared.writers.a_writer_is_told_of_a_close.Given as goal
-
-abbrev pub ghosts-told_of_close-N-Ledger : goal.ghosts-told_of_close-N-Ledger
-ghosts-told_of_close-N-Ledger g a = record { name = a.seed.name; parts = a.seed.parts }
-
-abbrev pub ghosts-told_of_close-N-Name : goal.ghosts-told_of_close-N-Name
-ghosts-told_of_close-N-Name g a = record { ring = a.seed.ring }
