@@ -6,9 +6,8 @@
 //! | `session`, `aside` | a session with its journal; links that are put aside and rejoined |
 //! | `conn` | a connection, and a pump over one |
 //! | `reading` | what takes no memory |
-//! | `steps`, `act`, `said`, `octets` | how a session goes through a table of steps, and what tables are written with |
+//! | `steps`, `said`, `octets` | how a session or a connection goes through a table of steps, and what tables are written with |
 
-mod act;
 mod aside;
 mod conn;
 mod octets;

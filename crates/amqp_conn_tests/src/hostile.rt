@@ -3,8 +3,7 @@
 //!
 //! | module | what it has |
 //! |---|---|
-//! | `text` | how tables are written: parts of a text, octets in hexadecimal |
-//! | `frames` | the frames of the peer's, by name |
+//! | `frames` | the frames of the peer's and operations of ours, by name |
 //! | `peer` | a connection that goes through a script, with each answer judged |
 //! | `violations` | each violation and each fault, with the condition that goes out |
 //! | `sessions` | whole sessions, cut short and with octets replaced |
@@ -16,5 +15,4 @@ mod devices;
 mod frames;
 mod peer;
 mod sessions;
-mod text;
 mod violations;

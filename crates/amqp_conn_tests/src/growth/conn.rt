@@ -1,86 +1,19 @@
 //! A connection: what it is fed, cut and shared, what it does, and how it ends. What is not read of a frame no reader shows; the same octets, fed again,
 //! and those that come after them, then have to make what they make with ample memory.
 
-use crate::growth::act::{Act, State, error, made};
+use crate::act::{Act, Settings, State, connection, error, made};
+use crate::device::{AMPLE, Reads, Writes};
 use crate::growth::octets::*;
-use crate::growth::said::{Said, Shown, left_of, refused, said_of, show};
-use crate::growth::steps::is_same_unit;
+use crate::growth::said::{Said, Shown, gave, left, show, unit};
+use crate::growth::steps::{Do, Steps, Subject, Way, go_both};
 use amqp_conn::*;
-use std::alloc::{AllocError, Global};
-use std::io;
-use std::io::Write;
+use std::alloc::Global;
 
-/// What is done with a connection.
+/// Octets that are fed: in pieces of this length, or shared.
 #[derive(Clone, Copy)]
-enum Do {
-    /// In pieces of this length.
-    Feed(&'static [u8], usize),
-    FeedShared(&'static [u8]),
-    Own(Act),
-    /// With an error, or without.
-    Close(bool),
-    /// How many links of the role would be put aside.
-    Aside(Role),
-    /// How many things are left.
-    LeftLen,
-    /// Pops the first of what is left.
-    Left,
-    Lost,
-    Forget,
-}
-
-fn config(alloc: Global, journal_limit: u32) -> Result<Config, AllocError> {
-    let container_id = Text::new(alloc, "a")?;
-    let hostname = Some(Text::new(alloc, "host")?);
-    Ok(Config {
-        container_id,
-        hostname,
-        max_frame: 65536,
-        idle_time_out: Some(1000),
-        first_id: 0,
-        window: 2048,
-        journal_limit,
-    })
-}
-
-fn connected(alloc: Global, limit: u32) -> Result<Conn, StartFault> {
-    match config(alloc, limit) {
-        Ok(config) => Conn::new(alloc, config),
-        Err(_) => Err(StartFault::NoMemory),
-    }
-}
-
-/// A connection whose journal takes so many steps, made again where a growth was refused.
-fn connection(alloc: Global, limit: u32) -> Option<Conn> {
-    match connected(alloc, limit) {
-        Ok(conn) => Some(conn),
-        Err(StartFault::NoMemory) => connected(alloc, limit).ok(),
-        Err(StartFault::BadConfig) => None,
-    }
-}
-
-/// What the readers of a connection show.
-#[derive(Clone, Copy, PartialEq, Eq)]
-struct ConnShown {
-    phase: Phase,
-    peer: bool,
-    parting: bool,
-    ended_by: bool,
-    heard: bool,
-    ended: usize,
-    shown: Shown,
-}
-
-fn show_all(conn: &Conn) -> ConnShown {
-    ConnShown {
-        phase: conn.phase(),
-        peer: conn.peer().is_some(),
-        parting: conn.parting().is_some(),
-        ended_by: conn.ended_by().is_some(),
-        heard: conn.heard().is_some(),
-        ended: conn.ended().len(),
-        shown: show(conn.logged()),
-    }
+enum Octets<'a> {
+    Cut(&'a [u8], usize),
+    Shared(&'a Bytes),
 }
 
 /// What one feed answers: how many octets it used, whether that was a step, and whether one that answers a violation; or the number of a fault.
@@ -116,75 +49,52 @@ fn one_of(answer: Result<Fed, ConnFault>) -> One {
     }
 }
 
+/// One feed of the octets from a place on.
+fn feeds(conn: &mut Conn, octets: Octets<'_>, from: usize) -> One {
+    match octets {
+        Octets::Cut(octets, size) => {
+            let rest = octets.get(from..).unwrap_or(&[]);
+            let (piece, _) = rest.split_at(rest.len().min(size));
+            one_of(conn.feed(piece))
+        }
+        Octets::Shared(shared) if from <= shared.len() => one_of(conn.feed_shared(shared, from)),
+        Octets::Shared(_) => one_of(Err(ConnFault::Closed)),
+    }
+}
+
 /// One feed, made again where it was refused memory and changed nothing.
-fn feeds_one(conn: &mut Conn, piece: &[u8]) -> One {
-    let before = show_all(conn);
-    let one = one_of(conn.feed(piece));
-    if one.fault == WANTING && show_all(conn) == before {
-        return one_of(conn.feed(piece));
+fn feeds_twice(conn: &mut Conn, octets: Octets<'_>, from: usize) -> One {
+    let before = conn.shown();
+    let one = feeds(conn, octets, from);
+    if one.fault == WANTING && conn.shown() == before {
+        return feeds(conn, octets, from);
     }
     one
 }
 
-fn shares_one(conn: &mut Conn, shared: &Bytes, from: usize) -> One {
-    if shared.len() < from {
-        return one_of(Err(ConnFault::Closed));
-    }
-    let before = show_all(conn);
-    let one = one_of(conn.feed_shared(shared, from));
-    if one.fault == WANTING && show_all(conn) == before {
-        return one_of(conn.feed_shared(shared, from));
-    }
-    one
-}
-
-fn faulty(fault: u32) -> Said {
-    if fault == WANTING {
-        Said::Wanting
-    } else {
-        Said::Faulty(fault)
-    }
-}
-
-/// Feeds all of the octets.
-fn feeds(conn: &mut Conn, octets: &[u8], size: usize) -> Said {
-    let mut used = 0usize;
-    let mut steps = 0u32;
-    let mut violations = 0u32;
+/// Feeds so many octets, which are all.
+fn feeds_all(conn: &mut Conn, octets: Octets<'_>, len: usize) -> Said {
+    let mut all = One {
+        used: 0,
+        steps: 0,
+        violations: 0,
+        fault: 0,
+    };
     for _ in 0..999 {
-        let rest = octets.get(used..).unwrap_or(&[]);
-        if rest.is_empty() {
+        if all.used >= len || all.fault != 0 {
             break;
         }
-        let (piece, _) = rest.split_at(rest.len().min(size));
-        let one = feeds_one(conn, piece);
-        if one.fault != 0 {
-            return faulty(one.fault);
-        }
-        used = used.wrapping_add(one.used);
-        steps = steps.wrapping_add(one.steps);
-        violations = violations.wrapping_add(one.violations);
+        let one = feeds_twice(conn, octets, all.used);
+        all.used = all.used.wrapping_add(one.used);
+        all.steps = all.steps.wrapping_add(one.steps);
+        all.violations = all.violations.wrapping_add(one.violations);
+        all.fault = one.fault;
     }
-    Said::Fed(used, steps, violations)
-}
-
-fn shares(conn: &mut Conn, shared: &Bytes) -> Said {
-    let mut used = 0usize;
-    let mut steps = 0u32;
-    let mut violations = 0u32;
-    for _ in 0..999 {
-        if used == shared.len() {
-            break;
-        }
-        let one = shares_one(conn, shared, used);
-        if one.fault != 0 {
-            return faulty(one.fault);
-        }
-        used = used.wrapping_add(one.used);
-        steps = steps.wrapping_add(one.steps);
-        violations = violations.wrapping_add(one.violations);
+    match all.fault {
+        0 => Said::Fed(all.used, all.steps, all.violations),
+        WANTING => Said::Wanting,
+        fault => Said::Faulty(fault),
     }
-    Said::Fed(used, steps, violations)
 }
 
 fn feeds_shared(alloc: Global, conn: &mut Conn, octets: &[u8]) -> Said {
@@ -193,31 +103,41 @@ fn feeds_shared(alloc: Global, conn: &mut Conn, octets: &[u8]) -> Said {
         Err(_) => Bytes::copy_from_slice(alloc, octets),
     };
     match shared {
-        Ok(shared) => shares(conn, &shared),
+        Ok(shared) => feeds_all(conn, Octets::Shared(&shared), octets.len()),
         Err(_) => Said::Wanting,
     }
 }
 
-fn applies(conn: &mut Conn, op: Op) -> Said {
-    let done = conn.apply(&op);
-    drop(op);
-    match done {
-        Ok(given) => {
-            let said = said_of(&given);
-            drop(given);
-            said
-        }
-        Err(refusal) => refused(refusal),
+/// How a pump ends, run again where memory was refused, and what it wrote.
+fn pumps(conn: &mut Conn, octets: &'static [u8]) -> Said {
+    let mut source = FromStd::new(Reads {
+        octets,
+        plan: AMPLE,
+        calls: 0,
+    });
+    let mut sink = FromStd::new(Writes::new(AMPLE));
+    let mut pump = Pump::new();
+    let end = match pump.run(&mut source, &mut sink, conn, 99) {
+        Err(PumpFault::Conn(ConnFault::NoMemory)) => pump.run(&mut source, &mut sink, conn, 99),
+        end => end,
+    };
+    let writes = sink.into_inner();
+    match end {
+        Ok(PumpEnd::Closed) => Said::Pumped(writes.count, writes.sum),
+        _ => Said::Wanting,
     }
 }
 
 fn does(alloc: Global, conn: &mut Conn, act: Act) -> Said {
-    match made(alloc, act) {
-        Some(op) => applies(conn, op),
-        None => Said::Wanting,
-    }
+    let Some(op) = made(alloc, act) else {
+        return Said::Wanting;
+    };
+    let done = conn.apply(&op);
+    drop(op);
+    gave(done)
 }
 
+/// An error, made again where a growth was refused.
 fn told(alloc: Global) -> Option<Boxed<AmqpError>> {
     match error(alloc) {
         Ok(error) => Some(error),
@@ -241,148 +161,92 @@ fn puts_aside(conn: &Conn, role: Role) -> Said {
     }
 }
 
-fn counts(conn: &mut Conn) -> Said {
-    match conn.left_len() {
-        Ok(count) => Said::Count(count),
-        Err(_) => Said::Wanting,
-    }
-}
-
 fn pops(conn: &mut Conn) -> Said {
     match conn.pop_left() {
-        Ok(Some(left)) => {
-            let said = left_of(&left);
-            drop(left);
-            said
-        }
-        Ok(None) => Said::Nothing,
+        Ok(popped) => left(popped),
         Err(_) => Said::Wanting,
     }
 }
 
-fn loses(conn: &mut Conn) -> Said {
-    conn.lost();
-    Said::Nothing
-}
-
-fn forgets(conn: &mut Conn) -> Said {
-    conn.forget();
-    Said::Nothing
-}
-
-fn once(alloc: Global, conn: &mut Conn, what: Do) -> Said {
-    match what {
-        Do::Feed(octets, size) => feeds(conn, octets, size),
-        Do::FeedShared(octets) => feeds_shared(alloc, conn, octets),
-        Do::Own(act) => does(alloc, conn, act),
-        Do::Close(tells) => closes(alloc, conn, tells),
-        Do::Aside(role) => puts_aside(conn, role),
-        Do::LeftLen => counts(conn),
-        Do::Left => pops(conn),
-        Do::Lost => loses(conn),
-        Do::Forget => forgets(conn),
-    }
-}
-
-/// A feed makes its own second calls; each other call is made again.
-fn may_want(what: Do, due: Said) -> bool {
-    !matches!(what, Do::Feed(_, _) | Do::FeedShared(_)) && !matches!(due, Said::Refused(_))
-}
-
-/// What is answered; where that is want of memory and the readers show what they did before, what is answered then.
-fn twice(alloc: Global, conn: &mut Conn, what: Do, due: Said) -> Said {
-    let before = show_all(conn);
-    match once(alloc, conn, what) {
-        Said::Wanting if may_want(what, due) && show_all(conn) == before => {
-            once(alloc, conn, what)
-        }
-        said => said,
-    }
-}
-
-/// Steps, each with its answer.
-type Steps = &'static [(Do, Said)];
-
-/// The place of the first step that is not answered so.
-fn stops_in(alloc: Global, conn: &mut Conn, steps: Steps) -> Option<usize> {
-    for (place, (what, due)) in steps.iter().enumerate() {
-        if twice(alloc, conn, *what, *due) != *due {
-            return Some(place);
+impl Subject for Conn {
+    fn once(&mut self, alloc: Global, what: Do, _way: Way) -> Said {
+        match what {
+            Do::Feed(octets, size) => feeds_all(self, Octets::Cut(octets, size), octets.len()),
+            Do::FeedShared(octets) => feeds_shared(alloc, self, octets),
+            Do::Pump(octets) => pumps(self, octets),
+            Do::Own(act) => does(alloc, self, act),
+            Do::Close(tells) => closes(alloc, self, tells),
+            Do::Aside(role) => puts_aside(self, role),
+            Do::LeftLen => match self.left_len() {
+                Ok(count) => Said::Count(count),
+                Err(_) => Said::Wanting,
+            },
+            Do::Left => pops(self),
+            Do::Unit => unit(self.pop_unit()),
+            Do::Lost => {
+                self.lost();
+                Said::Nothing
+            }
+            Do::Forget => {
+                self.forget();
+                Said::Nothing
+            }
+            _ => Said::Wanting,
         }
     }
-    None
-}
 
-/// The number of the first list with such a step, and its place there.
-fn stops(alloc: Global, conn: &mut Conn, lists: &[Steps]) -> Option<(usize, usize)> {
-    for (number, steps) in lists.iter().enumerate() {
-        if let Some(place) = stops_in(alloc, conn, steps) {
-            return Some((number, place));
-        }
+    fn shown(&self) -> Shown {
+        let mut shown = show(self.logged());
+        shown.phase = Some(self.phase());
+        shown.heard = [
+            self.peer().is_some(),
+            self.parting().is_some(),
+            self.ended_by().is_some(),
+            self.heard().is_some(),
+        ];
+        shown.ended = self.ended().len();
+        shown
     }
-    None
-}
 
-/// Whether both put out the same units.
-fn put_out_the_same(one: &mut Conn, other: &mut Conn) -> bool {
-    for _ in 0..one.logged().put_out() {
-        if !is_same_unit(one.pop_unit(), other.pop_unit()) {
-            return false;
-        }
+    fn session(&self) -> &Logged {
+        self.logged()
     }
-    true
-}
 
-fn is_same(one: &mut Conn, other: &mut Conn) -> bool {
-    one.logged().journal() == other.logged().journal()
-        && show_all(one) == show_all(other)
-        && put_out_the_same(one, other)
-}
-
-/// Where the steps are not answered so by one of two connections, which make the same of it: one of them at least has ample memory.
-fn go_both(
-    alloc: Global,
-    one: &mut Conn,
-    other: &mut Conn,
-    lists: &[Steps],
-) -> Option<(usize, usize)> {
-    let stop = stops(alloc, one, lists);
-    if stop.is_some() {
-        return stop;
-    }
-    let stop = stops(alloc, other, lists);
-    if stop.is_some() {
-        return stop;
-    }
-    if is_same(one, other) {
-        None
-    } else {
-        Some((99, 0))
+    fn next_unit(&mut self) -> Option<Unit> {
+        self.pop_unit()
     }
 }
 
-/// The same of two new connections, whose journals take so many steps.
-fn goes_within(alloc: Global, limit: u32, lists: &[Steps]) -> Option<(usize, usize)> {
-    let Some(mut one) = connection(alloc, limit) else {
-        return Some((99, 1));
+fn settings(journal_limit: u32) -> Settings {
+    Settings {
+        host: Some("host"),
+        idle_time_out: Some(1000),
+        window: 2048,
+        journal_limit,
+    }
+}
+
+/// Whether two new connections go so, whose journals take so many steps.
+fn goes(alloc: Global, limit: u32, lists: &[Steps]) -> bool {
+    let Some(mut one) = connection(alloc, settings(limit)) else {
+        return false;
     };
-    let answer = goes_with(alloc, limit, &mut one, lists);
+    let answer = goes_beside(alloc, limit, &mut one, lists);
     drop(one);
     answer
 }
 
-fn goes_with(alloc: Global, limit: u32, one: &mut Conn, lists: &[Steps]) -> Option<(usize, usize)> {
-    let Some(mut other) = connection(alloc, limit) else {
-        return Some((99, 2));
+fn goes_beside(alloc: Global, limit: u32, one: &mut Conn, lists: &[Steps]) -> bool {
+    let Some(mut other) = connection(alloc, settings(limit)) else {
+        return false;
     };
-    let answer = go_both(alloc, one, &mut other, lists);
+    let answer = go_both(alloc, one, &mut other, lists, Way::Lent);
     drop(other);
     answer
 }
 
-fn goes(alloc: Global, lists: &[Steps]) -> bool {
-    goes_within(alloc, 1000, lists) == None
-}
+/// The most steps that the journal takes, where none is to be missed.
+const AMPLY: u32 = 1000;
 
 /// The peer's greeting, in pieces of seven octets.
 const CUT: &[(Do, Said)] = &[
@@ -404,7 +268,7 @@ const SHARED: &[(Do, Said)] = &[
 /// We send two deliveries, and are to receive.
 const SENT: &[(Do, Said)] = &[
     (Do::Own(Act::Attach(Role::Receiver, "q")), Said::Link(1)),
-    (Do::Own(Act::Grant(1, 5)), Said::Nothing),
+    (Do::Own(Act::Grant(1, 5, true)), Said::Nothing),
     (Do::Own(Act::Start(0, 1, false, false)), Said::Delivery(0)),
     (Do::Own(Act::Start(0, 2, false, true)), Said::Delivery(1)),
     (Do::Own(Act::Carry(0, false)), Said::Nothing),
@@ -436,7 +300,7 @@ const OPERATED: &[(Do, Said)] = &[
         Do::Own(Act::Dispose(Role::Sender, 0, 0, false, State::Rejected)),
         Said::Nothing,
     ),
-    (Do::Own(Act::Refresh), Said::Nothing),
+    (Do::Own(Act::Refresh(true)), Said::Nothing),
     (Do::FeedShared(DRAIN), Said::Fed(33, 1, 0)),
     (Do::Own(Act::Drained(0)), Said::Nothing),
     (Do::Own(Act::Suspend(0)), Said::Suspended(1)),
@@ -523,14 +387,33 @@ const EARLY: &[(Do, Said)] = &[
     (Do::Feed(BEGIN, 99), Said::Faulty(3)),
 ];
 
+/// A whole session: our header, open and close go out.
+const PUMP: &[(Do, Said)] = &[(Do::Pump(PUMPED), Said::Pumped(56, 1951669066))];
+
+/// How many steps the journal takes, and what is done.
+const FAULTS: &[(u32, &[Steps])] = &[
+    (AMPLY, &[CUT, BAD_FRAME]),
+    (AMPLY, &[CUT, SECOND_OPEN]),
+    (AMPLY, &[CUT, OTHER_CHANNEL]),
+    (AMPLY, &[OTHER_HEADER]),
+    (AMPLY, &[EARLY]),
+    (2, &[FULL]),
+];
+
 #[test]
 fn every_growth_refused_of_a_connection_that_we_close(rt: HostRuntime) {
-    assert!(rt; goes(rt.alloc(), &[CUT, SENT, SAID, DONE, CLOSED, COUNTED]));
+    assert!(rt; goes(rt.alloc(), AMPLY, &[CUT, SENT, SAID, DONE, CLOSED, COUNTED]));
 }
 
 #[test]
 fn every_growth_refused_of_a_connection_that_is_lost(rt: HostRuntime) {
-    assert!(rt; goes(rt.alloc(), &[CUT, SENT, SAID_SHARED, DONE, LOST, COUNTED]));
+    assert!(rt;
+        goes(
+            rt.alloc(),
+            AMPLY,
+            &[CUT, SENT, SAID_SHARED, DONE, LOST, COUNTED]
+        )
+    );
 }
 
 #[test]
@@ -538,6 +421,7 @@ fn every_growth_refused_of_a_connection_that_the_peer_closes(rt: HostRuntime) {
     assert!(rt;
         goes(
             rt.alloc(),
+            AMPLY,
             &[SHARED, SENT, SAID_SHARED, DONE, PARTED, POPPED]
         )
     );
@@ -545,91 +429,22 @@ fn every_growth_refused_of_a_connection_that_the_peer_closes(rt: HostRuntime) {
 
 #[test]
 fn every_growth_refused_of_operations_of_a_connection(rt: HostRuntime) {
-    assert!(rt; goes(rt.alloc(), &[CUT, OPERATED]));
+    assert!(rt; goes(rt.alloc(), AMPLY, &[CUT, OPERATED]));
 }
 
 #[test]
 fn every_growth_refused_of_violations(rt: HostRuntime) {
-    assert!(rt; goes(rt.alloc(), &[CUT, VIOLATED]));
+    assert!(rt; goes(rt.alloc(), AMPLY, &[CUT, VIOLATED]));
 }
 
 #[test]
 fn every_growth_refused_of_faults(rt: HostRuntime) {
-    for last in [BAD_FRAME, SECOND_OPEN, OTHER_CHANNEL] {
-        assert!(rt; goes(rt.alloc(), &[CUT, last]));
-    }
-    for last in [OTHER_HEADER, EARLY] {
-        assert!(rt; goes(rt.alloc(), &[last]));
-    }
-    assert!(rt; goes_within(rt.alloc(), 2, &[FULL]) == None);
-}
-
-/// Takes all octets, and keeps their count and a sum of them.
-#[derive(Drop)]
-struct Summed {
-    count: usize,
-    sum: u32,
-}
-
-impl Write for Summed {
-    fn write(&mut self, buf: &[u8]) -> io::Result<usize> {
-        for octet in buf {
-            self.sum = self.sum.wrapping_mul(31).wrapping_add(u32::from(*octet));
-        }
-        self.count = self.count.wrapping_add(buf.len());
-        Ok(buf.len())
-    }
-
-    fn flush(&mut self) -> io::Result<()> {
-        Ok(())
-    }
-}
-
-/// How a pump ends, run again where memory was refused, and what it wrote.
-fn pumped(conn: &mut Conn) -> (Result<PumpEnd, PumpFault>, usize, u32) {
-    let mut source = FromStd::new(PUMPED);
-    let mut sink = FromStd::new(Summed { count: 0, sum: 7 });
-    let mut pump = Pump::new();
-    let end = match pump.run(&mut source, &mut sink, conn, 99) {
-        Err(PumpFault::Conn(ConnFault::NoMemory)) => pump.run(&mut source, &mut sink, conn, 99),
-        end => end,
-    };
-    let summed = sink.into_inner();
-    (end, summed.count, summed.sum)
-}
-
-fn pump_both(one: &mut Conn, other: &mut Conn) -> bool {
-    let first = pumped(one);
-    let is_closed = match first.0 {
-        Ok(PumpEnd::Closed) => true,
-        _ => false,
-    };
-    is_closed && pumped(other) == first && is_same(one, other)
-}
-
-fn pumps_with(alloc: Global, one: &mut Conn) -> bool {
-    match connection(alloc, 1000) {
-        Some(mut other) => {
-            let is_so = pump_both(one, &mut other);
-            drop(other);
-            is_so
-        }
-        None => false,
-    }
-}
-
-fn pumps(alloc: Global) -> bool {
-    match connection(alloc, 1000) {
-        Some(mut one) => {
-            let is_so = pumps_with(alloc, &mut one);
-            drop(one);
-            is_so
-        }
-        None => false,
+    for (limit, lists) in FAULTS {
+        assert!(rt; goes(rt.alloc(), *limit, lists));
     }
 }
 
 #[test]
 fn every_growth_refused_of_a_pump(rt: HostRuntime) {
-    assert!(rt; pumps(rt.alloc()));
+    assert!(rt; goes(rt.alloc(), AMPLY, &[PUMP]));
 }

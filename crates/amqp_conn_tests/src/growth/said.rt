@@ -22,8 +22,12 @@ pub(crate) enum Said {
     Suspended(usize),
     Parted(u32, usize),
     Resumed(Verdict),
+    /// The unit of this number.
+    Unit(u64),
     /// So many octets were fed with so many steps, of which so many answer a violation.
     Fed(usize, u32, u32),
+    /// The connection ended as agreed; so many octets were written, with this sum.
+    Pumped(usize, u32),
     /// So many are there.
     Count(usize),
     /// By its number.
@@ -37,7 +41,7 @@ pub(crate) enum Said {
 }
 
 /// What a step gave.
-pub(crate) fn said_of(given: &Given) -> Said {
+fn said_of(given: &Given) -> Said {
     match given {
         Given::Nothing => Said::Nothing,
         Given::Link(link) => Said::Link(*link),
@@ -62,11 +66,54 @@ fn learned_of(learned: &Learned) -> Said {
     Said::Learned(learned.id, learned.settled)
 }
 
+/// What an operation gave.
+pub(crate) fn gave(done: Result<Given, Refusal>) -> Said {
+    match done {
+        Ok(given) => {
+            let said = said_of(&given);
+            drop(given);
+            said
+        }
+        Err(refusal) => refused(refusal),
+    }
+}
+
+/// What a frame gave.
+pub(crate) fn heard(done: Result<Given, Violation>) -> Said {
+    match done {
+        Ok(given) => {
+            let said = said_of(&given);
+            drop(given);
+            said
+        }
+        Err(violation) => match violation.kind {
+            ViolationKind::NoMemory => Said::Wanting,
+            kind => Said::Violated(u32::from(kind.number())),
+        },
+    }
+}
+
+/// What the newest entry gave.
+pub(crate) fn newest_gave(logged: &Logged) -> Said {
+    match logged.journal().last() {
+        Some(entry) => said_of(&entry.reply.given),
+        None => Said::Nothing,
+    }
+}
+
 /// What a link left.
-pub(crate) fn left_of(left: &Left) -> Said {
-    match left {
-        Left::Delivery(_, taken) => taken_of(taken.get()),
-        Left::Outcome(_, learned) => learned_of(learned.get()),
+pub(crate) fn left(popped: Option<Left>) -> Said {
+    match &popped {
+        Some(Left::Delivery(_, taken)) => taken_of(taken.get()),
+        Some(Left::Outcome(_, learned)) => learned_of(learned.get()),
+        None => Said::Nothing,
+    }
+}
+
+pub(crate) fn unit(popped: Option<Unit>) -> Said {
+    match &popped {
+        Some(unit) => Said::Unit(unit.number),
+        None => Said::Nothing,
     }
 }
 
@@ -77,27 +124,18 @@ pub(crate) fn refused(refusal: Refusal) -> Said {
     }
 }
 
-pub(crate) fn violated(violation: Violation) -> Said {
-    match violation.kind {
-        ViolationKind::NoMemory => Said::Wanting,
-        _ => Said::Violated(u32::from(violation.kind.number())),
-    }
-}
-
 /// An unsettled delivery: its id, its link, the first octet of its tag, whether it is of a receiver that settles second, and what either end told of it.
-#[derive(Clone, Copy, PartialEq, Eq)]
-struct HeldView {
-    id: u32,
-    link: u32,
-    tag: u8,
-    second: bool,
-    ours: u8,
-    theirs: u8,
-}
+type Held = Option<(u32, u32, u8, bool, [u8; 2])>;
 
-/// What the readers of a session show.
+/// What the readers of a session or a connection show.
 #[derive(Clone, Copy, PartialEq, Eq)]
 pub(crate) struct Shown {
+    /// Of a connection.
+    pub(crate) phase: Option<Phase>,
+    /// Whether there are the peer's open, its close, the error of that, and a frame that the newest step heard.
+    pub(crate) heard: [bool; 4],
+    /// How many deliveries the newest step ended, by the connection.
+    pub(crate) ended: usize,
     steps: u32,
     entries: usize,
     put_out: u64,
@@ -105,12 +143,13 @@ pub(crate) struct Shown {
     left: usize,
     windows: WindowView,
     links: [Option<LinkStatus>; 3],
+    /// How many are held: sent, and received. And the first of them.
     held: [usize; 2],
-    sent: [Option<HeldView>; 4],
-    received: [Option<HeldView>; 4],
+    first: [Held; 8],
+    /// The first that wait on links 0 and 1.
     waiting: [Option<(u8, Verdict)>; 4],
     /// Of the newest entry: how many frames it sent, and how many deliveries it ended.
-    newest: (usize, usize),
+    newest: [usize; 2],
 }
 
 /// The kind of a state.
@@ -130,28 +169,17 @@ fn first(tag: &Tag) -> u8 {
     tag.octets().first().copied().unwrap_or(0)
 }
 
-fn held_at(endpoint: &Endpoint, role: Role, place: usize) -> Option<HeldView> {
+fn held_at(endpoint: &Endpoint, role: Role, place: usize) -> Held {
     match endpoint.unsettled_at(role, place) {
-        Some(item) => Some(HeldView {
-            id: item.id,
-            link: item.link,
-            tag: first(&item.tag),
-            second: item.second,
-            ours: kind(&item.local),
-            theirs: kind(&item.remote),
-        }),
+        Some(item) => Some((
+            item.id,
+            item.link,
+            first(&item.tag),
+            item.second,
+            [kind(&item.local), kind(&item.remote)],
+        )),
         None => None,
     }
-}
-
-/// The first of those that are held.
-fn held_of(endpoint: &Endpoint, role: Role) -> [Option<HeldView>; 4] {
-    [
-        held_at(endpoint, role, 0),
-        held_at(endpoint, role, 1),
-        held_at(endpoint, role, 2),
-        held_at(endpoint, role, 3),
-    ]
 }
 
 fn waiting_at(endpoint: &Endpoint, link: u32, place: usize) -> Option<(u8, Verdict)> {
@@ -161,27 +189,20 @@ fn waiting_at(endpoint: &Endpoint, link: u32, place: usize) -> Option<(u8, Verdi
     }
 }
 
-/// The first that wait on links 0 and 1.
-fn waiting_of(endpoint: &Endpoint) -> [Option<(u8, Verdict)>; 4] {
-    [
-        waiting_at(endpoint, 0, 0),
-        waiting_at(endpoint, 0, 1),
-        waiting_at(endpoint, 1, 0),
-        waiting_at(endpoint, 1, 1),
-    ]
-}
-
-fn newest(logged: &Logged) -> (usize, usize) {
+fn newest(logged: &Logged) -> [usize; 2] {
     match logged.journal().last() {
-        Some(entry) => (entry.reply.sent.len(), entry.reply.ended.len()),
-        None => (0, 0),
+        Some(entry) => [entry.reply.sent.len(), entry.reply.ended.len()],
+        None => [0, 0],
     }
 }
 
-/// What they show.
+/// What the readers of a session show.
 pub(crate) fn show(logged: &Logged) -> Shown {
     let endpoint = logged.endpoint();
     Shown {
+        phase: None,
+        heard: [false; 4],
+        ended: 0,
         steps: logged.steps(),
         entries: logged.journal().len(),
         put_out: logged.put_out(),
@@ -193,9 +214,22 @@ pub(crate) fn show(logged: &Logged) -> Shown {
             endpoint.unsettled_len(Role::Sender),
             endpoint.unsettled_len(Role::Receiver),
         ],
-        sent: held_of(endpoint, Role::Sender),
-        received: held_of(endpoint, Role::Receiver),
-        waiting: waiting_of(endpoint),
+        first: [
+            held_at(endpoint, Role::Sender, 0),
+            held_at(endpoint, Role::Sender, 1),
+            held_at(endpoint, Role::Sender, 2),
+            held_at(endpoint, Role::Sender, 3),
+            held_at(endpoint, Role::Receiver, 0),
+            held_at(endpoint, Role::Receiver, 1),
+            held_at(endpoint, Role::Receiver, 2),
+            held_at(endpoint, Role::Receiver, 3),
+        ],
+        waiting: [
+            waiting_at(endpoint, 0, 0),
+            waiting_at(endpoint, 0, 1),
+            waiting_at(endpoint, 1, 0),
+            waiting_at(endpoint, 1, 1),
+        ],
         newest: newest(logged),
     }
 }

@@ -1,87 +1,109 @@
-//! A session with its journal that goes through steps. Where memory is refused a step is made once more, after a look at what the readers show; a
-//! refusal and a violation are told at once, whatever is refused. Each session goes twice: one growth is refused in one of both, and they are to be the same.
+//! A session with its journal, or a connection, that goes through steps. Where memory is refused a step is made once more, after a look at what the
+//! readers show; a refusal and a violation are told at once, whatever is refused. Each goes twice: one growth is refused in one of both, and they are to be
+//! the same.
 
-use crate::growth::act::{Act, made, read};
-use crate::growth::said::{Said, left_of, refused, said_of, show, violated};
-use amqp_conn::{Boxed, Frame, Given, Logged, Op, Role, Unit};
+use crate::act::{Act, made};
+use crate::growth::said::{Said, Shown, gave, heard, left, newest_gave, refused, show, unit};
+use amqp_conn::{Boxed, Frame, FrameFault, Logged, Role, Unit};
+use amqp_frames::Framer;
 use amqp_rules::config::Config;
 use std::alloc::Global;
 
-pub(crate) const CONFIG: Config = Config {
+const CONFIG: Config = Config {
     first_id: 0,
     window: 2048,
     journal_limit: 1000,
 };
 
-/// What is done with a session.
+/// What is done.
 #[derive(Clone, Copy)]
 pub(crate) enum Do {
+    /// The session's peer takes frames so long.
     Opened(u32),
-    Own(Act),
+    /// A frame, by the session.
     Hear(&'static [u8]),
-    /// Pops the first of what was left.
+    /// In pieces of this length, by the connection.
+    Feed(&'static [u8], usize),
+    FeedShared(&'static [u8]),
+    /// A pump's devices move these octets, and what the connection puts out.
+    Pump(&'static [u8]),
+    Own(Act),
+    /// With an error, or without.
+    Close(bool),
+    /// How many links of the role would be put aside.
+    Aside(Role),
+    /// How many things are left.
+    LeftLen,
+    /// Pops the first of what is left.
     Left,
     /// Pops the first that this link left.
     LeftBy(Role, u32),
+    /// Pops the first unit.
+    Unit,
+    Lost,
     Forget,
 }
 
-/// How operations and frames are handed over.
+/// How operations and frames are handed to a session, and when readers are asked.
 #[derive(Clone, Copy, PartialEq, Eq)]
 pub(crate) enum Way {
-    /// `apply` and `receive`.
+    /// By `apply` and `receive`; before each step.
     Lent,
-    /// `perform` and `hear`.
+    /// By `perform` and `hear`; before each step.
     Moved,
+    /// So, and no reader is asked.
+    Unread,
+    /// So, and all readers are asked twice after each step.
+    Read,
 }
 
-fn gives(given: Given) -> Said {
-    let said = said_of(&given);
-    drop(given);
-    said
-}
+/// What goes through steps.
+pub(crate) trait Subject {
+    /// Makes the step.
+    fn once(&mut self, alloc: Global, what: Do, way: Way) -> Said;
 
-fn applies(logged: &mut Logged, op: Op) -> Said {
-    let done = logged.apply(&op);
-    drop(op);
-    match done {
-        Ok(given) => gives(given),
-        Err(refusal) => refused(refusal),
-    }
-}
+    /// What its readers show.
+    fn shown(&self) -> Shown;
 
-/// What the newest entry gave.
-fn newest(logged: &Logged) -> Said {
-    match logged.journal().last() {
-        Some(entry) => said_of(&entry.reply.given),
-        None => Said::Nothing,
-    }
-}
+    /// Its journal is compared.
+    fn session(&self) -> &Logged;
 
-fn performs(logged: &mut Logged, op: Op) -> Said {
-    match logged.perform(op) {
-        Ok(()) => newest(logged),
-        Err(refusal) => refused(refusal),
-    }
+    /// Pops the first unit that waits to go out.
+    fn next_unit(&mut self) -> Option<Unit>;
 }
 
 fn does(alloc: Global, logged: &mut Logged, act: Act, way: Way) -> Said {
     let Some(op) = made(alloc, act) else {
         return Said::Wanting;
     };
-    match way {
-        Way::Lent => applies(logged, op),
-        Way::Moved => performs(logged, op),
+    if way == Way::Lent {
+        let done = logged.apply(&op);
+        drop(op);
+        return gave(done);
+    }
+    match logged.perform(op) {
+        Ok(()) => newest_gave(logged),
+        Err(refusal) => refused(refusal),
+    }
+}
+
+/// The frame that these octets are, read again where that is refused.
+fn read(alloc: Global, octets: &'static [u8]) -> Option<Frame> {
+    let mut framer = Framer::new(alloc, 65536);
+    let answer = match framer.feed(octets) {
+        Err(FrameFault::NoMemory) => framer.feed(octets),
+        answer => answer,
+    };
+    match answer {
+        Ok((_, frame)) => frame,
+        Err(_) => None,
     }
 }
 
 fn receives(logged: &mut Logged, frame: Frame) -> Said {
     let done = logged.receive(&frame);
     drop(frame);
-    match done {
-        Ok(given) => gives(given),
-        Err(violation) => violated(violation),
-    }
+    heard(done)
 }
 
 /// The frame behind a pointer, read again where that is refused.
@@ -93,91 +115,76 @@ fn boxed(alloc: Global, octets: &'static [u8]) -> Option<Boxed<Frame>> {
     }
 }
 
-fn hears_moved(alloc: Global, logged: &mut Logged, octets: &'static [u8]) -> Said {
-    let Some(frame) = boxed(alloc, octets) else {
-        return Said::Wanting;
-    };
-    match logged.hear(frame) {
-        Ok(given) => gives(given),
-        Err(violation) => violated(violation),
-    }
-}
-
 fn hears(alloc: Global, logged: &mut Logged, octets: &'static [u8], way: Way) -> Said {
-    if way == Way::Moved {
-        return hears_moved(alloc, logged, octets);
+    if way == Way::Lent {
+        return match read(alloc, octets) {
+            Some(frame) => receives(logged, frame),
+            None => Said::Wanting,
+        };
     }
-    match read(alloc, octets) {
-        Some(frame) => receives(logged, frame),
+    match boxed(alloc, octets) {
+        Some(frame) => heard(logged.hear(frame)),
         None => Said::Wanting,
     }
 }
 
-fn opens(logged: &mut Logged, max: u32) -> Said {
-    match logged.opened(max) {
-        Ok(()) => Said::Nothing,
-        Err(refusal) => refused(refusal),
-    }
-}
-
-fn pops(logged: &mut Logged) -> Said {
-    match logged.pop_left() {
-        Some(left) => {
-            let said = left_of(&left);
-            drop(left);
-            said
+impl Subject for Logged {
+    fn once(&mut self, alloc: Global, what: Do, way: Way) -> Said {
+        match what {
+            Do::Opened(max) => match self.opened(max) {
+                Ok(()) => Said::Nothing,
+                Err(refusal) => refused(refusal),
+            },
+            Do::Own(act) => does(alloc, self, act, way),
+            Do::Hear(octets) => hears(alloc, self, octets, way),
+            Do::Left => left(self.pop_left()),
+            Do::LeftBy(role, link) => left(self.pop_left_by(role, link)),
+            Do::Unit => unit(self.pop_unit()),
+            Do::Forget => {
+                self.forget();
+                Said::Nothing
+            }
+            _ => Said::Wanting,
         }
-        None => Said::Nothing,
+    }
+
+    fn shown(&self) -> Shown {
+        show(self)
+    }
+
+    fn session(&self) -> &Logged {
+        self
+    }
+
+    fn next_unit(&mut self) -> Option<Unit> {
+        self.pop_unit()
     }
 }
 
-fn pops_by(logged: &mut Logged, role: Role, link: u32) -> Said {
-    match logged.pop_left_by(role, link) {
-        Some(left) => {
-            let said = left_of(&left);
-            drop(left);
-            said
+/// Want of memory hides no refusal and no violation. A feed and a pump make their own second calls; each other call is made again.
+fn may_want(what: Do, due: Said) -> bool {
+    !matches!(what, Do::Feed(_, _) | Do::FeedShared(_) | Do::Pump(_))
+        && !matches!(due, Said::Refused(_) | Said::Violated(_))
+}
+
+/// The readers show what they did, if they were asked before.
+fn stands<S: Subject>(subject: &S, before: &Option<Shown>) -> bool {
+    match before {
+        Some(before) => subject.shown() == *before,
+        None => true,
+    }
+}
+
+/// What is answered; where that is want of memory and has changed nothing, what is answered then.
+fn twice<S: Subject>(alloc: Global, subject: &mut S, what: Do, due: Said, way: Way) -> Said {
+    let before = match way {
+        Way::Lent | Way::Moved => Some(subject.shown()),
+        Way::Unread | Way::Read => None,
+    };
+    match subject.once(alloc, what, way) {
+        Said::Wanting if may_want(what, due) && stands(subject, &before) => {
+            subject.once(alloc, what, way)
         }
-        None => Said::Nothing,
-    }
-}
-
-fn forgets(logged: &mut Logged) -> Said {
-    logged.forget();
-    Said::Nothing
-}
-
-fn once(alloc: Global, logged: &mut Logged, what: Do, way: Way) -> Said {
-    match what {
-        Do::Opened(max) => opens(logged, max),
-        Do::Own(act) => does(alloc, logged, act, way),
-        Do::Hear(octets) => hears(alloc, logged, octets, way),
-        Do::Left => pops(logged),
-        Do::LeftBy(role, link) => pops_by(logged, role, link),
-        Do::Forget => forgets(logged),
-    }
-}
-
-/// Want of memory hides no refusal and no violation.
-fn may_want(due: Said) -> bool {
-    !matches!(due, Said::Refused(_) | Said::Violated(_))
-}
-
-/// What is answered; where that is want of memory and the readers show what they did before, what is answered then.
-fn twice(alloc: Global, logged: &mut Logged, what: Do, way: Way, due: Said) -> Said {
-    let before = show(logged);
-    match once(alloc, logged, what, way) {
-        Said::Wanting if may_want(due) && show(logged) == before => {
-            once(alloc, logged, what, way)
-        }
-        said => said,
-    }
-}
-
-/// The same, without a look at the readers.
-pub(crate) fn again(alloc: Global, logged: &mut Logged, what: Do, way: Way) -> Said {
-    match once(alloc, logged, what, way) {
-        Said::Wanting => once(alloc, logged, what, way),
         said => said,
     }
 }
@@ -185,27 +192,29 @@ pub(crate) fn again(alloc: Global, logged: &mut Logged, what: Do, way: Way) -> S
 /// Steps, each with its answer.
 pub(crate) type Steps = &'static [(Do, Said)];
 
-/// The place of the first step that is not answered so.
-fn stops_in(alloc: Global, logged: &mut Logged, way: Way, steps: Steps) -> Option<usize> {
-    for (place, (what, due)) in steps.iter().enumerate() {
-        if twice(alloc, logged, *what, way, *due) != *due {
-            return Some(place);
+fn answers<S: Subject>(alloc: Global, subject: &mut S, steps: Steps, way: Way) -> bool {
+    for (what, due) in steps {
+        if twice(alloc, subject, *what, *due, way) != *due {
+            return false;
+        }
+        if way == Way::Read && subject.shown() != subject.shown() {
+            return false;
         }
     }
-    None
+    true
 }
 
-/// The number of the first list with such a step, and its place there.
-fn stops(alloc: Global, logged: &mut Logged, way: Way, lists: &[Steps]) -> Option<(usize, usize)> {
-    for (number, steps) in lists.iter().enumerate() {
-        if let Some(place) = stops_in(alloc, logged, way, steps) {
-            return Some((number, place));
+/// Each step of the lists is answered so.
+fn answers_all<S: Subject>(alloc: Global, subject: &mut S, lists: &[Steps], way: Way) -> bool {
+    for steps in lists {
+        if !answers(alloc, subject, steps, way) {
+            return false;
         }
     }
-    None
+    true
 }
 
-pub(crate) fn is_same_unit(one: Option<Unit>, other: Option<Unit>) -> bool {
+fn is_same_unit(one: Option<Unit>, other: Option<Unit>) -> bool {
     match (&one, &other) {
         (Some(one), Some(other)) => {
             one.number == other.number && one.bytes.as_slice() == other.bytes.as_slice()
@@ -216,51 +225,55 @@ pub(crate) fn is_same_unit(one: Option<Unit>, other: Option<Unit>) -> bool {
 }
 
 /// Whether both put out the same units.
-fn put_out_the_same(one: &mut Logged, other: &mut Logged) -> bool {
-    for _ in 0..one.put_out() {
-        if !is_same_unit(one.pop_unit(), other.pop_unit()) {
+fn put_out_the_same<S: Subject>(one: &mut S, other: &mut S) -> bool {
+    for _ in 0..one.session().put_out() {
+        if !is_same_unit(one.next_unit(), other.next_unit()) {
             return false;
         }
     }
     true
 }
 
-fn is_same(one: &mut Logged, other: &mut Logged) -> bool {
-    one.journal() == other.journal() && show(one) == show(other) && put_out_the_same(one, other)
+/// Whether both answer the steps so, and come to the same: one of them at least has ample memory.
+pub(crate) fn go_both<S: Subject>(
+    alloc: Global,
+    one: &mut S,
+    other: &mut S,
+    lists: &[Steps],
+    way: Way,
+) -> bool {
+    answers_all(alloc, one, lists, way)
+        && answers_all(alloc, other, lists, way)
+        && one.session().journal() == other.session().journal()
+        && one.shown() == other.shown()
+        && put_out_the_same(one, other)
 }
 
-/// Where the steps of a new session are not answered so.
-pub(crate) fn goes(alloc: Global, way: Way, lists: &[Steps]) -> Option<(usize, usize)> {
+/// Whether two new sessions go so.
+pub(crate) fn goes(alloc: Global, lists: &[Steps], way: Way) -> bool {
     if !CONFIG.is_within_limits() {
-        return Some((99, 99));
+        return false;
     }
     let mut one = Logged::new(alloc, &CONFIG);
     let mut other = Logged::new(alloc, &CONFIG);
-    let answer = go_both(alloc, &mut one, &mut other, way, lists);
+    let answer = go_both(alloc, &mut one, &mut other, lists, way);
     drop(other);
     drop(one);
     answer
 }
 
-/// The same of two sessions, which make the same of it: one of them at least has ample memory.
-fn go_both(
-    alloc: Global,
-    one: &mut Logged,
-    other: &mut Logged,
-    way: Way,
-    lists: &[Steps],
-) -> Option<(usize, usize)> {
-    let stop = stops(alloc, one, way, lists);
-    if stop.is_some() {
-        return stop;
+/// Both ways.
+pub(crate) fn goes_each_way(alloc: Global, lists: &[Steps]) -> bool {
+    goes(alloc, lists, Way::Lent) && goes(alloc, lists, Way::Moved)
+}
+
+/// Whether one new session answers the steps so.
+pub(crate) fn goes_alone(alloc: Global, lists: &[Steps], way: Way) -> bool {
+    if !CONFIG.is_within_limits() {
+        return false;
     }
-    let stop = stops(alloc, other, way, lists);
-    if stop.is_some() {
-        return stop;
-    }
-    if is_same(one, other) {
-        None
-    } else {
-        Some((99, 0))
-    }
+    let mut logged = Logged::new(alloc, &CONFIG);
+    let answer = answers_all(alloc, &mut logged, lists, way);
+    drop(logged);
+    answer
 }

@@ -1,36 +1,37 @@
 //! What a peer can make a connection keep is bounded: by our journal, by the longest frame that we take, by how deep values are nested.
 
-use crate::hostile::peer::{Told, WHOLE, connection, does, goes, hears, last_tells};
+use crate::hostile::frames::{
+    HEADER, NARROW, OPEN, OWN_BEGIN, OWN_RECEIVER, OWN_REJOIN, OWN_SENDER,
+};
+use crate::hostile::peer::{
+    BEGUN, NEW, Script, Told, UNHARMED, connection, goes, hears, last_tells,
+};
 use crate::hostile::sessions::is_plain;
-use crate::hostile::text::octets;
 use amqp_conn::{Conn, Phase};
 use std::alloc::Global;
 
-/// Our begin goes out, and the peer's is heard: three steps, with the one of its open.
-const BEGUN: &[u8] = b"header open !b begin";
-
-/// Puts octets behind; where memory is refused they are missing, and the frame is no frame.
-fn put(octets: &mut Vec<u8>, more: &[u8]) {
-    for octet in more {
-        let _ = octets.push(*octet);
-    }
-}
+/// The front of an attach of a receiver with a name of 255 octets.
+const FRONT: &[u8] =
+    b"\x00\x00\x01\x18\x02\x00\x00\x00\x00S\x12\xd0\x00\x00\x01\x08\x00\x00\x00\x03\xa1\xff";
 
 /// The attach of a receiver on this handle, of at most 127, with a name of 255 octets that begins with it.
-fn long_named(alloc: Global, handle: u8) -> Vec<u8> {
-    let mut frame = octets(alloc, b"0000011802000000005312d00000010800000003a1ff");
-    put(&mut frame, &[handle]);
-    put(&mut frame, &[b'n'; 254]);
-    put(&mut frame, &[0x52, handle, 0x41]);
+fn long_named(handle: u8) -> [u8; 280] {
+    let mut frame = [b'n'; 280];
+    for (octet, front) in frame.iter_mut().zip(FRONT) {
+        *octet = *front;
+    }
+    frame[22] = handle;
+    frame[277] = 0x52;
+    frame[278] = handle;
+    frame[279] = 0x41;
     frame
 }
 
-/// Hears so many such attaches.
+/// Hears so many such attaches behind the three steps of the peer's open and of both begins.
 fn floods(alloc: Global, conn: &mut Conn, count: u8) -> Told {
-    let mut told = goes(alloc, conn, BEGUN, 0, WHOLE);
+    let mut told = goes(alloc, conn, BEGUN, UNHARMED, NEW);
     for handle in 0..count {
-        let frame = long_named(alloc, handle);
-        told = hears(conn, frame.as_slice(), told);
+        told = hears(conn, &long_named(handle), told);
     }
     told
 }
@@ -50,8 +51,7 @@ fn has_links(conn: &Conn, count: u32) -> bool {
 fn is_flooded(alloc: Global, conn: &mut Conn, handle: u8) -> Option<Told> {
     let all = floods(alloc, conn, 64);
     let taken = is_plain(all) && has_links(conn, 64) && conn.phase() == Phase::Running;
-    let frame = long_named(alloc, handle);
-    let past = hears(conn, frame.as_slice(), all);
+    let past = hears(conn, &long_named(handle), all);
     if taken && past.good { Some(past) } else { None }
 }
 
@@ -73,6 +73,11 @@ fn ends_session(alloc: Global, conn: &mut Conn) -> bool {
     past.violation == 4 && ends && has_links(conn, 0) && conn.phase() == Phase::Running
 }
 
+/// Puts octets behind; where memory is refused they are missing, and the frame is no frame.
+fn put(octets: &mut Vec<u8>, more: &[u8]) {
+    let _ = octets.extend_from_slice(more);
+}
+
 /// An attach that tells so many tags of four octets, none of which has a state. It has 38 octets, and 7 for each tag.
 fn with_tags(alloc: Global, count: u32) -> Vec<u8> {
     let tags = count.wrapping_mul(7);
@@ -84,19 +89,26 @@ fn with_tags(alloc: Global, count: u32) -> Vec<u8> {
     put(&mut frame, &tags.wrapping_add(4).to_be_bytes());
     put(&mut frame, &count.wrapping_mul(2).to_be_bytes());
     for tag in 0..count {
-        put(&mut frame, b"\xa0\x04");
-        put(&mut frame, &tag.to_be_bytes());
-        put(&mut frame, b"@");
+        let [first, second, third, fourth] = tag.to_be_bytes();
+        put(&mut frame, &[0xa0, 4, first, second, third, fourth, b'@']);
     }
     frame
 }
 
+/// Hears an attach with so many tags.
+fn hears_tags(alloc: Global, conn: &mut Conn, count: u32) -> Told {
+    let begun = goes(alloc, conn, BEGUN, UNHARMED, NEW);
+    let frame = with_tags(alloc, count);
+    hears(conn, frame.as_slice(), begun)
+}
+
+const REJOINED: Script = &[OWN_REJOIN];
+
 /// As many tags are told as a frame has room for. Then we bring the link back with a tag that is not among them: it alone waits there.
 fn takes_tags(alloc: Global, conn: &mut Conn) -> bool {
-    let begun = goes(alloc, conn, BEGUN, 0, WHOLE);
-    let frame = with_tags(alloc, 9356);
-    let taken = is_plain(hears(conn, frame.as_slice(), begun)) && has_links(conn, 1);
-    let joined = does(alloc, conn, b'j') == 0;
+    let heard = hears_tags(alloc, conn, 9356);
+    let taken = is_plain(heard) && has_links(conn, 1);
+    let joined = is_plain(goes(alloc, conn, REJOINED, UNHARMED, heard));
     let first = conn.logged().endpoint().waiting_at(0, 0).is_some();
     let second = conn.logged().endpoint().waiting_at(0, 1).is_some();
     taken && joined && first && !second
@@ -104,9 +116,7 @@ fn takes_tags(alloc: Global, conn: &mut Conn) -> bool {
 
 /// With one tag more the frame is longer than we take.
 fn refuses_tags(alloc: Global, conn: &mut Conn) -> bool {
-    let begun = goes(alloc, conn, BEGUN, 0, WHOLE);
-    let frame = with_tags(alloc, 9357);
-    let told = hears(conn, frame.as_slice(), begun);
+    let told = hears_tags(alloc, conn, 9357);
     let closes = last_tells(conn, 24, b"amqp:connection:framing-error");
     told.good && told.fault == 23 && closes && has_links(conn, 0)
 }
@@ -127,11 +137,15 @@ fn nested(alloc: Global, depth: u8) -> Vec<u8> {
     frame
 }
 
+fn hears_nested(alloc: Global, conn: &mut Conn, depth: u8) -> Told {
+    let begun = goes(alloc, conn, BEGUN, UNHARMED, NEW);
+    let frame = nested(alloc, depth);
+    hears(conn, frame.as_slice(), begun)
+}
+
 /// A field is at most 30 deep, since its frame's performative is at most 32; what is deeper is no performative.
 fn is_nested(alloc: Global, conn: &mut Conn, depth: u8) -> bool {
-    let begun = goes(alloc, conn, BEGUN, 0, WHOLE);
-    let frame = nested(alloc, depth);
-    let told = hears(conn, frame.as_slice(), begun);
+    let told = hears_nested(alloc, conn, depth);
     if depth <= 30 {
         return is_plain(told) && has_links(conn, 1);
     }
@@ -139,24 +153,42 @@ fn is_nested(alloc: Global, conn: &mut Conn, depth: u8) -> bool {
     told.good && told.fault == 25 && closes && has_links(conn, 0)
 }
 
-/// The peer lets us have one handle: our second attach is refused for that.
+/// The peer lets us have one handle, and we attach two links.
+const ONE_HANDLE: Script = &[HEADER, OPEN, OWN_BEGIN, NARROW, OWN_SENDER, OWN_RECEIVER];
+
+/// The second attach is refused for that.
 fn is_narrow(alloc: Global, conn: &mut Conn) -> bool {
-    let told = goes(alloc, conn, b"header open !b narrow !sr", 0, WHOLE);
+    let told = goes(alloc, conn, ONE_HANDLE, UNHARMED, NEW);
     told.good && told.fault == 0 && told.refusals == 1 && told.refusal == 9 && has_links(conn, 1)
 }
 
-/// Whether it is so of a new connection whose journal takes so many steps: what is asked has a number, and the last a depth.
-fn is_so(alloc: Global, limit: u32, what: u8, depth: u8) -> bool {
+/// What is asked of a connection.
+#[derive(Clone, Copy)]
+enum Bound {
+    Journal,
+    Session,
+    Tags,
+    LongerFrame,
+    Handles,
+    Depth(u8),
+}
+
+fn holds(alloc: Global, conn: &mut Conn, bound: Bound) -> bool {
+    match bound {
+        Bound::Journal => fills_journal(alloc, conn),
+        Bound::Session => ends_session(alloc, conn),
+        Bound::Tags => takes_tags(alloc, conn),
+        Bound::LongerFrame => refuses_tags(alloc, conn),
+        Bound::Handles => is_narrow(alloc, conn),
+        Bound::Depth(depth) => is_nested(alloc, conn, depth),
+    }
+}
+
+/// Whether it is so of a new connection whose journal takes so many steps.
+fn is_so(alloc: Global, limit: u32, bound: Bound) -> bool {
     match connection(alloc, limit) {
         Some(mut conn) => {
-            let so = match what {
-                0 => fills_journal(alloc, &mut conn),
-                1 => ends_session(alloc, &mut conn),
-                2 => takes_tags(alloc, &mut conn),
-                3 => refuses_tags(alloc, &mut conn),
-                4 => is_narrow(alloc, &mut conn),
-                _ => is_nested(alloc, &mut conn, depth),
-            };
+            let so = holds(alloc, &mut conn, bound);
             drop(conn);
             so
         }
@@ -164,30 +196,25 @@ fn is_so(alloc: Global, limit: u32, what: u8, depth: u8) -> bool {
     }
 }
 
-#[test]
-fn a_flood_of_attaches_ends_with_the_journal(rt: HostRuntime) {
-    assert!(rt; is_so(rt.alloc(), 67, 0, 0));
-}
+/// How many steps the journal takes, and what is asked then.
+const BOUNDS: &[(u32, Bound)] = &[
+    (67, Bound::Journal),
+    (99, Bound::Session),
+    (99, Bound::Tags),
+    (99, Bound::LongerFrame),
+    (99, Bound::Handles),
+];
 
 #[test]
-fn a_flood_of_attaches_ends_with_the_session(rt: HostRuntime) {
-    assert!(rt; is_so(rt.alloc(), 99, 1, 0));
-}
-
-#[test]
-fn a_map_of_tags_is_as_long_as_a_frame(rt: HostRuntime) {
-    assert!(rt; is_so(rt.alloc(), 99, 2, 0));
-    assert!(rt; is_so(rt.alloc(), 99, 3, 0));
-}
-
-#[test]
-fn a_second_link_has_no_handle(rt: HostRuntime) {
-    assert!(rt; is_so(rt.alloc(), 99, 4, 0));
+fn what_a_peer_makes_us_keep_is_bounded(rt: HostRuntime) {
+    for (limit, bound) in BOUNDS {
+        assert!(rt; is_so(rt.alloc(), *limit, *bound));
+    }
 }
 
 #[test]
 fn values_are_nested_thirty_deep(rt: HostRuntime) {
     for depth in 1..61 {
-        assert!(rt; is_so(rt.alloc(), 99, 5, depth));
+        assert!(rt; is_so(rt.alloc(), 99, Bound::Depth(depth)));
     }
 }

@@ -1,30 +1,40 @@
-//! A connection that goes through a script. Its words are names of frames, which are fed, and operations of ours: `!` and a letter for each.
+//! A connection that goes through a script.
 
-use crate::hostile::frames::frame;
-use crate::hostile::text::{octets, part};
+use crate::act::{Act, Settings, made};
+use crate::hostile::frames::{BEGIN, HEADER, OPEN, OWN_BEGIN};
 use amqp_conn::*;
-use amqp_types::Items;
-use std::alloc::{AllocError, Global};
-
-/// The most words of a script.
-const WORDS: usize = 40;
+use std::alloc::Global;
 
 /// A connection that takes two transfers at a time, and whose journal takes so many steps.
 pub(crate) fn connection(alloc: Global, journal_limit: u32) -> Option<Conn> {
-    let Ok(container_id) = Text::new(alloc, "a") else {
-        return None;
-    };
-    let config = Config {
-        container_id,
-        hostname: None,
-        max_frame: 65536,
+    let settings = Settings {
+        host: None,
         idle_time_out: None,
-        first_id: 0,
         window: 2,
         journal_limit,
     };
-    Conn::new(alloc, config).ok()
+    crate::act::connection(alloc, settings)
 }
+
+/// A step of a script.
+#[derive(Clone, Copy)]
+pub(crate) enum Step {
+    /// These octets are fed.
+    Hears(&'static [u8]),
+    Does(Act),
+}
+
+pub(crate) type Script = &'static [Step];
+
+// How scripts begin.
+pub(crate) const NOTHING: Script = &[];
+
+pub(crate) const HEADED: Script = &[HEADER];
+
+pub(crate) const OPENED: Script = &[HEADER, OPEN];
+
+/// Our begin goes out, and the peer's is heard.
+pub(crate) const BEGUN: Script = &[HEADER, OPEN, OWN_BEGIN, BEGIN];
 
 /// What is done to the octets of a script: those from `end` on never come, and the one at `place` is another.
 #[derive(Clone, Copy)]
@@ -35,7 +45,7 @@ pub(crate) struct Damage {
 }
 
 /// No damage.
-pub(crate) const WHOLE: Damage = Damage {
+pub(crate) const UNHARMED: Damage = Damage {
     end: usize::MAX,
     place: usize::MAX,
     octet: 0,
@@ -58,6 +68,17 @@ pub(crate) struct Told {
     pub(crate) refusal: u32,
 }
 
+/// Nothing was fed yet.
+pub(crate) const NEW: Told = Told {
+    good: true,
+    at: 0,
+    fault: 0,
+    violations: 0,
+    violation: 0,
+    refusals: 0,
+    refusal: 0,
+};
+
 /// What one feed answers, and what it changed.
 #[derive(Clone, Copy)]
 struct One {
@@ -70,31 +91,37 @@ struct One {
     units: u64,
 }
 
-fn feeds(conn: &mut Conn, piece: &[u8]) -> One {
-    let mut one = One {
-        used: 0,
-        fault: 0,
-        violation: 0,
-        before: conn.phase(),
-        after: Phase::Closed,
-        steps: conn.logged().steps(),
-        units: conn.logged().put_out(),
-    };
-    match conn.feed(piece) {
+/// How many octets a feed used, the number of the fault that it told, and that of the violation.
+fn told_by(answer: Result<Fed, ConnFault>) -> (usize, u32, u32) {
+    match answer {
         Ok(fed) => {
-            one.used = fed.used;
-            if let Some(violation) = fed.violation {
-                one.violation = u32::from(violation.kind.number());
-            }
+            let violation = match &fed.violation {
+                Some(violation) => u32::from(violation.kind.number()),
+                None => 0,
+            };
+            let used = fed.used;
             drop(fed);
+            (used, 0, violation)
         }
-        Err(ConnFault::Framing(shown)) => one.fault = shown.number().wrapping_add(20),
-        Err(fault) => one.fault = fault.number(),
+        Err(ConnFault::Framing(shown)) => (0, shown.number().wrapping_add(20), 0),
+        Err(fault) => (0, fault.number(), 0),
     }
-    one.after = conn.phase();
-    one.steps = conn.logged().steps().wrapping_sub(one.steps);
-    one.units = conn.logged().put_out().wrapping_sub(one.units);
-    one
+}
+
+fn feeds(conn: &mut Conn, piece: &[u8]) -> One {
+    let before = conn.phase();
+    let steps = conn.logged().steps();
+    let units = conn.logged().put_out();
+    let (used, fault, violation) = told_by(conn.feed(piece));
+    One {
+        used,
+        fault,
+        violation,
+        before,
+        after: conn.phase(),
+        steps: conn.logged().steps().wrapping_sub(steps),
+        units: conn.logged().put_out().wrapping_sub(units),
+    }
 }
 
 /// Some octets were used, and the phase is the same or a later one.
@@ -156,143 +183,57 @@ pub(crate) fn hears(conn: &mut Conn, octets: &[u8], told: Told) -> Told {
     told
 }
 
-fn attach(alloc: Global, role: Role, max_message: u64) -> Option<Op> {
-    match Text::new(alloc, "q") {
-        Ok(name) => Some(Op::Attach {
-            name,
-            role,
-            snd: 2,
-            rcv: 0,
-            source: None,
-            target: None,
-            count: 0,
-            max_message,
-        }),
-        Err(_) => None,
+/// Does the operation: 0, or the number of its refusal.
+pub(crate) fn does(alloc: Global, conn: &mut Conn, act: Act) -> u32 {
+    match made(alloc, act) {
+        Some(op) => match conn.perform(op) {
+            Ok(()) => 0,
+            Err(refusal) => u32::from(refusal.number()),
+        },
+        None => 28,
     }
 }
 
-fn tag() -> Tag {
-    Tag::new(&[1]).unwrap_or(Tag::empty())
-}
-
-/// The link `q` as its sender, on which tag 1 was put aside.
-fn rejoin(alloc: Global) -> Result<Op, AllocError> {
-    let mut items = Items::new(alloc);
-    items.push(SuspendedItem {
-        tag: tag(),
-        state: None,
-    })?;
-    let aside = Suspended {
-        name: Text::new(alloc, "q")?,
-        role: Role::Sender,
-        items,
-    };
-    let op = ops::rejoin(alloc, &aside, None, None);
-    drop(aside);
-    op
-}
-
-/// An operation that owns no memory.
-fn plain(letter: u8) -> Op {
-    match letter {
-        b'b' => ops::begin(),
-        b'g' => ops::grant(0, 2),
-        b'G' => ops::grant(0, 5),
-        b't' => ops::start(0, tag(), Bytes::from_static(b"hello")),
-        b'k' => ops::take(0),
-        b'a' => ops::accept(0),
-        b'l' => ops::learn(0),
-        b'L' => ops::learn(1),
-        b'f' => Op::Refresh { echo: false },
-        b'm' => ops::resume(1, tag()),
-        _ => Op::Beat,
-    }
-}
-
-fn op(alloc: Global, letter: u8) -> Option<Op> {
-    match letter {
-        b's' => attach(alloc, Role::Sender, 0),
-        b'r' => attach(alloc, Role::Receiver, 0),
-        b'R' => attach(alloc, Role::Receiver, 4),
-        b'j' => rejoin(alloc).ok(),
-        _ => Some(plain(letter)),
-    }
-}
-
-/// Does the operation of this letter: 0, or the number of its refusal.
-pub(crate) fn does(alloc: Global, conn: &mut Conn, letter: u8) -> u32 {
-    let Some(op) = op(alloc, letter) else {
-        return 28;
-    };
-    let done = conn.apply(&op);
-    drop(op);
-    match done {
-        Ok(given) => {
-            drop(given);
-            0
-        }
-        Err(refusal) => u32::from(refusal.number()),
-    }
-}
-
-/// Does the operations. A refusal is one of those that there are, and no want of memory.
-fn acts(alloc: Global, conn: &mut Conn, letters: &[u8], told: Told) -> Told {
+/// Does the operation. A refusal is one of those that there are, and no want of memory.
+fn acts(alloc: Global, conn: &mut Conn, act: Act, told: Told) -> Told {
     let mut told = told;
-    for letter in letters {
-        let refusal = does(alloc, conn, *letter);
-        if refusal != 0 {
-            told.good = told.good && refusal <= 31 && refusal != 28;
-            told.refusal = refusal;
-            told.refusals = told.refusals.wrapping_add(1);
-        }
+    let refusal = does(alloc, conn, act);
+    if refusal != 0 {
+        told.good = told.good && refusal <= 31 && refusal != 28;
+        told.refusal = refusal;
+        told.refusals = told.refusals.wrapping_add(1);
     }
     told
 }
 
-/// Feeds what the damage leaves of a frame.
-fn hears_frame(alloc: Global, conn: &mut Conn, name: &[u8], damage: Damage, told: Told) -> Told {
-    let mut octets = octets(alloc, frame(name));
+/// Feeds what the damage leaves of a frame, which has at most 40 octets.
+fn hears_frame(conn: &mut Conn, frame: &[u8], damage: Damage, told: Told) -> Told {
+    let mut octets = [0u8; 40];
+    for (octet, whole) in octets.iter_mut().zip(frame) {
+        *octet = *whole;
+    }
     if let Some(octet) = octets.get_mut(damage.place.wrapping_sub(told.at)) {
         *octet = damage.octet;
     }
-    let len = octets.len().min(damage.end.wrapping_sub(told.at));
+    let len = frame.len().min(damage.end.wrapping_sub(told.at));
     hears(conn, octets.get(..len).unwrap_or(&[]), told)
 }
 
-/// Nothing is done behind the end.
-fn goes_on(alloc: Global, conn: &mut Conn, word: &[u8], damage: Damage, told: Told) -> Told {
-    match word.split_first() {
-        Some(_) if damage.end <= told.at => told,
-        Some((b'!', letters)) => acts(alloc, conn, letters, told),
-        Some(_) => hears_frame(alloc, conn, word, damage, told),
-        None => told,
-    }
-}
-
-/// Goes through the words of the script from this one on.
+/// Goes on through a script. Nothing is done behind the end.
 pub(crate) fn goes(
     alloc: Global,
     conn: &mut Conn,
-    script: &[u8],
-    first: usize,
+    script: Script,
     damage: Damage,
+    told: Told,
 ) -> Told {
-    let mut told = Told {
-        good: true,
-        at: 0,
-        fault: 0,
-        violations: 0,
-        violation: 0,
-        refusals: 0,
-        refusal: 0,
-    };
-    for place in first..WORDS {
-        let word = part(script, place, b' ');
-        if word.is_empty() {
-            break;
-        }
-        told = goes_on(alloc, conn, word, damage, told);
+    let mut told = told;
+    for step in script {
+        told = match step {
+            _ if damage.end <= told.at => told,
+            Step::Hears(frame) => hears_frame(conn, frame, damage, told),
+            Step::Does(act) => acts(alloc, conn, *act, told),
+        };
     }
     told
 }
@@ -301,7 +242,7 @@ pub(crate) fn goes(
 pub(crate) fn answers(alloc: Global, conn: &mut Conn) -> bool {
     let closed = conn.phase() == Phase::Closed;
     let one = feeds(conn, &[0]);
-    let refusal = does(alloc, conn, b'h');
+    let refusal = does(alloc, conn, Act::Beat);
     is_due(one, 1) && (one.fault == 6) == closed && (!closed || refusal == 1)
 }
 

@@ -1,26 +1,92 @@
 //! Whole sessions, cut short at each octet and with each octet replaced in turn: each answer is one that may be given there, and so are those of further calls.
 
-use crate::hostile::peer::{Damage, Told, WHOLE, answers, connection, does, goes, last_tells};
-use crate::hostile::text::part;
+use crate::act::Act;
+use crate::hostile::frames::*;
+use crate::hostile::peer::{
+    Damage, NEW, Script, Told, UNHARMED, answers, connection, does, goes, last_tells,
+};
 use amqp_conn::{Conn, Phase};
 use std::alloc::Global;
 
+/// The peer sends in three transfers.
+pub(crate) const IN_PARTS: Script = &[
+    HEADER,
+    OPEN,
+    OWN_BEGIN,
+    BEGIN,
+    SENDS,
+    OWN_RECEIVER,
+    OWN_FIVE,
+    ONE,
+    TWO,
+    OWN_REFRESH,
+    THREE,
+    OWN_TAKE,
+    OWN_ACCEPT,
+    SETTLES,
+    DETACH,
+    END,
+    CLOSE,
+];
+
+/// A session, how many octets it has, and how often each of the four came of it (`comes`) where each of its octets is replaced by each of four.
+type Session = (Script, usize, [usize; 4]);
+
 /// The peer receives; it sends in one transfer; in three; the link on which it receives is put aside and rejoined.
-pub(crate) const SESSIONS: &[u8] = b"\
-header open !b begin !s receives credit !t accepted !l detach end close
-header open begin !b sends !rg whole !ka settles detach end close
-header open !b begin sends !rG one two !f three !ka settles detach end close
-header open !b begin !s receives credit !t away !j holds credit !m settled !L detach end close";
-
-/// How many octets each of them has.
-const LENGTHS: &[usize] = &[171, 171, 217, 246];
-
-/// How often each of the four came of it (`comes`) where each of its octets is replaced by each of four.
-const COUNTS: &[[usize; 4]] = &[
-    [0, 480, 0, 204],
-    [0, 497, 2, 185],
-    [0, 633, 2, 233],
-    [0, 701, 0, 283],
+pub(crate) const SESSIONS: &[Session] = &[
+    (
+        &[
+            HEADER, OPEN, OWN_BEGIN, BEGIN, OWN_SENDER, RECEIVES, CREDIT, OWN_SEND, ACCEPTED,
+            OWN_LEARN, DETACH, END, CLOSE,
+        ],
+        171,
+        [0, 480, 0, 204],
+    ),
+    (
+        &[
+            HEADER,
+            OPEN,
+            BEGIN,
+            OWN_BEGIN,
+            SENDS,
+            OWN_RECEIVER,
+            OWN_TWO,
+            WHOLE,
+            OWN_TAKE,
+            OWN_ACCEPT,
+            SETTLES,
+            DETACH,
+            END,
+            CLOSE,
+        ],
+        171,
+        [0, 497, 2, 185],
+    ),
+    (IN_PARTS, 217, [0, 633, 2, 233]),
+    (
+        &[
+            HEADER,
+            OPEN,
+            OWN_BEGIN,
+            BEGIN,
+            OWN_SENDER,
+            RECEIVES,
+            CREDIT,
+            OWN_SEND,
+            AWAY,
+            OWN_REJOIN,
+            HOLDS,
+            CREDIT,
+            OWN_RESUME,
+            SETTLED,
+            OWN_LEARN_AGAIN,
+            DETACH,
+            END,
+            CLOSE,
+        ],
+        246,
+        [0, 701, 0, 283],
+    ),
 ];
 
 /// Nothing went wrong.
@@ -29,8 +95,8 @@ pub(crate) fn is_plain(told: Told) -> bool {
 }
 
 /// How many octets the session has, which goes as it should; 0 where it does not.
-fn whole(alloc: Global, conn: &mut Conn, script: &[u8]) -> usize {
-    let told = goes(alloc, conn, script, 0, WHOLE);
+fn whole(alloc: Global, conn: &mut Conn, script: Script) -> usize {
+    let told = goes(alloc, conn, script, UNHARMED, NEW);
     if is_plain(told) && conn.phase() == Phase::Closed {
         told.at
     } else {
@@ -57,7 +123,7 @@ fn is_lost(alloc: Global, conn: &mut Conn) -> bool {
     let units = conn.logged().put_out();
     conn.lost();
     let closed = conn.phase() == Phase::Closed;
-    let refused = does(alloc, conn, b'b') == 1 && does(alloc, conn, b'k') == 1;
+    let refused = does(alloc, conn, Act::Begin) == 1 && does(alloc, conn, Act::Take(0)) == 1;
     let not_open = conn.close(None).is_err();
     let silent = conn.logged().put_out() == units;
     let popped = !last_tells(conn, 0, b"-") && conn.pop_unit().is_none();
@@ -71,15 +137,15 @@ fn is_lost(alloc: Global, conn: &mut Conn) -> bool {
 }
 
 /// All of the octets before the end are taken, and the rest is awaited.
-fn is_cut(alloc: Global, conn: &mut Conn, script: &[u8], damage: Damage) -> bool {
-    let told = goes(alloc, conn, script, 0, damage);
+fn is_cut(alloc: Global, conn: &mut Conn, script: Script, damage: Damage) -> bool {
+    let told = goes(alloc, conn, script, damage, NEW);
     let open = conn.phase() != Phase::Closed;
     is_plain(told) && told.at == damage.end && open && is_lost(alloc, conn)
 }
 
 /// What comes of a session: 0 where an answer was none that may be given, 1 where a fault ended it, 2 where a violation was answered, 3 where all was taken.
-fn comes(alloc: Global, conn: &mut Conn, script: &[u8], damage: Damage) -> usize {
-    let told = goes(alloc, conn, script, 0, damage);
+fn comes(alloc: Global, conn: &mut Conn, script: Script, damage: Damage) -> usize {
+    let told = goes(alloc, conn, script, damage, NEW);
     let closed = conn.phase() == Phase::Closed;
     let good = told.good && (told.fault == 0 || closed) && answers(alloc, conn);
     if !good {
@@ -102,7 +168,7 @@ enum Ask {
 }
 
 /// What a new connection answers to it.
-fn asked(alloc: Global, script: &[u8], ask: Ask, damage: Damage) -> usize {
+fn asked(alloc: Global, script: Script, ask: Ask, damage: Damage) -> usize {
     match connection(alloc, 99) {
         Some(mut conn) => {
             let answer = match ask {
@@ -118,9 +184,9 @@ fn asked(alloc: Global, script: &[u8], ask: Ask, damage: Damage) -> usize {
 }
 
 /// At how many places the session may be cut short.
-fn cuts(alloc: Global, script: &[u8]) -> usize {
+fn cuts(alloc: Global, script: Script) -> usize {
     let mut so = 0usize;
-    for end in 0..asked(alloc, script, Ask::Length, WHOLE) {
+    for end in 0..asked(alloc, script, Ask::Length, UNHARMED) {
         let damage = Damage {
             end,
             place: usize::MAX,
@@ -132,9 +198,9 @@ fn cuts(alloc: Global, script: &[u8]) -> usize {
 }
 
 /// How often each of the four came, with each octet replaced by each of these.
-fn replaced(alloc: Global, script: &[u8], octets: &[u8]) -> [usize; 4] {
+fn replaced(alloc: Global, script: Script, octets: &[u8]) -> [usize; 4] {
     let mut counts = [0usize; 4];
-    let length = asked(alloc, script, Ask::Length, WHOLE);
+    let length = asked(alloc, script, Ask::Length, UNHARMED);
     for number in 0..length.wrapping_mul(4) {
         let damage = Damage {
             end: usize::MAX,
@@ -150,16 +216,15 @@ fn replaced(alloc: Global, script: &[u8], octets: &[u8]) -> [usize; 4] {
 
 #[test]
 fn sessions_that_are_cut_short(rt: HostRuntime) {
-    for (place, length) in LENGTHS.iter().enumerate() {
-        assert!(rt; cuts(rt.alloc(), part(SESSIONS, place, b'\n')) == *length);
+    for (script, length, _) in SESSIONS {
+        assert!(rt; cuts(rt.alloc(), script) == *length);
     }
 }
 
 /// None came of an answer that may not be given.
 #[test]
 fn sessions_with_an_octet_replaced(rt: HostRuntime) {
-    let octets = [0x00, 0x7f, 0x80, 0xff];
-    for (place, counts) in COUNTS.iter().enumerate() {
-        assert!(rt; replaced(rt.alloc(), part(SESSIONS, place, b'\n'), &octets) == *counts);
+    for (script, _, counts) in SESSIONS {
+        assert!(rt; replaced(rt.alloc(), script, &[0x00, 0x7f, 0x80, 0xff]) == *counts);
     }
 }

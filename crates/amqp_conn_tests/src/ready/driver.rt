@@ -1,16 +1,11 @@
 //! Connections over sockets of the loopback, both ends on one thread.
 use crate::ready::peer::connection;
 use amqp_conn::{Conn, Given, Op, Phase, Refusal};
-use amqp_ready::{
-    Admitted, Driver, Handler, Lent, Next, NotAdded, Recorded, Round, SlotFault, Stage, Way,
-    Welcome,
-};
-use mio::Waker;
+use amqp_ready::{Admitted, Driver, Handler, Lent, Next, Recorded, SlotFault, Stage, Way, Welcome};
 use mio::net::{TcpListener, TcpStream};
 use std::alloc::Global;
 use std::io;
 use std::net::{IpAddr, Ipv4Addr, Net, SocketAddr};
-use std::test::Fail;
 use std::time::Duration;
 
 /// Closes its connection as soon as it is open.
@@ -35,11 +30,18 @@ impl Handler for Closes {
     }
 }
 
-/// Two ends of a socket of the loopback.
-fn ends<R: Net>(rt: &R) -> io::Result<(TcpStream, TcpStream)> {
+/// A listener at the loopback, and its address.
+fn listener<R: Net>(rt: &R) -> io::Result<(TcpListener, SocketAddr)> {
     let here = SocketAddr::new(IpAddr::V4(Ipv4Addr::new(127, 0, 0, 1)), 0);
     let listener = TcpListener::bind(rt, here)?;
-    let near = TcpStream::connect(rt, listener.local_addr()?)?;
+    let there = listener.local_addr()?;
+    Ok((listener, there))
+}
+
+/// Two ends of a socket of the loopback.
+fn ends<R: Net>(rt: &R) -> io::Result<(TcpStream, TcpStream)> {
+    let (listener, there) = listener(rt)?;
+    let near = TcpStream::connect(rt, there)?;
     let (far, _) = accept(&listener)?;
     Ok((near, far))
 }
@@ -58,7 +60,7 @@ fn accept(listener: &TcpListener) -> io::Result<(TcpStream, SocketAddr)> {
 /// A connection more over this stream.
 fn add(alloc: Global, driver: &mut Driver<Closes>, stream: TcpStream) -> bool {
     match connection(alloc) {
-        Some(conn) => is_added(driver.add(stream, conn, Closes)),
+        Some(conn) => driver.add(stream, conn, Closes).is_ok(),
         None => {
             drop(stream);
             false
@@ -66,16 +68,12 @@ fn add(alloc: Global, driver: &mut Driver<Closes>, stream: TcpStream) -> bool {
     }
 }
 
-fn is_added(answer: Result<usize, NotAdded<Closes>>) -> bool {
-    match answer {
-        Ok(_) => true,
-        Err(not_added) => {
-            drop(not_added);
-            false
-        }
-    }
+/// A turn, which waits for so long at most as no test should.
+fn turn(driver: &mut Driver<Closes>) -> bool {
+    driver.turn(Some(Duration::from_secs(9))).is_ok()
 }
 
+/// Why a slot has ended that is taken out.
 fn fault_of(driver: &mut Driver<Closes>) -> Option<Option<SlotFault>> {
     match driver.take_ended() {
         Some(ended) => {
@@ -88,42 +86,57 @@ fn fault_of(driver: &mut Driver<Closes>) -> Option<Option<SlotFault>> {
 }
 
 /// Turns until a slot has ended: why.
-fn turn_to_an_end(driver: &mut Driver<Closes>) -> io::Result<Option<Option<SlotFault>>> {
+fn turn_to_an_end(driver: &mut Driver<Closes>) -> Option<Option<SlotFault>> {
     for _ in 0..1000 {
-        let _: Round = driver.turn(Some(Duration::from_secs(9)))?;
+        if !turn(driver) {
+            break;
+        }
         let fault = fault_of(driver);
         if fault.is_some() {
-            return Ok(fault);
+            return fault;
         }
     }
-    Ok(None)
+    None
 }
 
 /// Both ends of a socket are slots of one driver, and end.
-fn both_close<R: Net>(rt: &R, alloc: Global, driver: &mut Driver<Closes>) -> io::Result<bool> {
-    let (near, far) = ends(rt)?;
+fn both_close<R: Net>(rt: &R, alloc: Global, driver: &mut Driver<Closes>) -> bool {
+    let Ok((near, far)) = ends(rt) else {
+        return false;
+    };
     let is_near = add(alloc, driver, near);
     let is_far = add(alloc, driver, far);
-    let first = turn_to_an_end(driver)?;
-    let second = turn_to_an_end(driver)?;
-    let are_well = first == Some(None) && second == Some(None);
-    Ok(is_near && is_far && are_well && driver.slots().is_empty())
+    is_near
+        && is_far
+        && turn_to_an_end(driver) == Some(None)
+        && turn_to_an_end(driver) == Some(None)
+        && driver.slots().is_empty()
+}
+
+/// The near end of a socket is a slot, and its far end is gone.
+fn adds_one<R: Net>(rt: &R, alloc: Global, driver: &mut Driver<Closes>) -> bool {
+    let Ok((near, far)) = ends(rt) else {
+        return false;
+    };
+    let is_near = add(alloc, driver, near);
+    drop(far);
+    is_near
 }
 
 /// Of two peers one goes: its slot ends, and the other does not.
-fn one_goes<R: Net>(rt: &R, alloc: Global, driver: &mut Driver<Closes>) -> io::Result<bool> {
-    let (near, far) = ends(rt)?;
-    let is_near = add(alloc, driver, near);
-    drop(far);
-    let (other, silent) = ends(rt)?;
+fn one_goes<R: Net>(rt: &R, alloc: Global, driver: &mut Driver<Closes>) -> bool {
+    let is_one = adds_one(rt, alloc, driver);
+    let Ok((other, silent)) = ends(rt) else {
+        return false;
+    };
     let is_other = add(alloc, driver, other);
     let ended = turn_to_an_end(driver);
     drop(silent);
     let fell = matches!(
-        ended?,
+        ended,
         Some(Some(SlotFault::EndOfInput | SlotFault::Read | SlotFault::Write))
     );
-    Ok(is_near && is_other && fell && driver.slots().len() == 1)
+    is_one && is_other && fell && driver.slots().len() == 1
 }
 
 /// Lets so many peers in.
@@ -146,95 +159,86 @@ impl Welcome<Closes> for Lets {
     }
 }
 
-/// Two peers at a listener of the driver's, whose near ends are its own too.
-fn listens<R: Net>(rt: &R, alloc: Global, driver: &mut Driver<Closes>) -> io::Result<bool> {
-    let here = SocketAddr::new(IpAddr::V4(Ipv4Addr::new(127, 0, 0, 1)), 0);
-    let listener = TcpListener::bind(rt, here)?;
-    let there = listener.local_addr()?;
-    driver.listen(listener)?;
-    let is_first = add(alloc, driver, TcpStream::connect(rt, there)?);
-    Ok(add(alloc, driver, TcpStream::connect(rt, there)?) && is_first)
+/// A near end more, of a socket to this address.
+fn connects<R: Net>(rt: &R, alloc: Global, driver: &mut Driver<Closes>, there: SocketAddr) -> bool {
+    match TcpStream::connect(rt, there) {
+        Ok(stream) => add(alloc, driver, stream),
+        Err(_) => false,
+    }
 }
 
-/// Turns, and lets peers in, until no slot is left: what became of the peers, and how many slots ended without a fault.
-fn turn_to_all_ends(driver: &mut Driver<Closes>, lets: &mut Lets) -> io::Result<(Admitted, usize)> {
-    let mut all = Admitted {
-        added: 0,
-        turned_away: 0,
+/// Two peers at a listener of the driver's, whose near ends are its own too.
+fn listens<R: Net>(rt: &R, alloc: Global, driver: &mut Driver<Closes>) -> bool {
+    let Ok((listener, there)) = listener(rt) else {
+        return false;
     };
-    let mut well = 0usize;
+    driver.listen(listener).is_ok()
+        && connects(rt, alloc, driver, there)
+        && connects(rt, alloc, driver, there)
+}
+
+/// Turns, and lets peers in, until no slot is left: how many were let in, how many were turned away, and how many slots ended without a fault.
+fn turn_to_all_ends(driver: &mut Driver<Closes>, lets: &mut Lets) -> [usize; 3] {
+    let mut counts = [0usize; 3];
     for _ in 0..1000 {
-        if driver.slots().is_empty() {
+        if driver.slots().is_empty() || !turn(driver) {
             break;
         }
-        let _: Round = driver.turn(Some(Duration::from_secs(9)))?;
-        let admitted = driver.admit(lets)?;
-        all.added = all.added.saturating_add(admitted.added);
-        all.turned_away = all.turned_away.saturating_add(admitted.turned_away);
-        if fault_of(driver) == Some(None) {
-            well = well.saturating_add(1);
-        }
+        let Ok(Admitted { added, turned_away }) = driver.admit(lets) else {
+            break;
+        };
+        let [all_added, all_turned_away, well] = counts;
+        counts = [
+            all_added.saturating_add(added),
+            all_turned_away.saturating_add(turned_away),
+            well.saturating_add(usize::from(fault_of(driver) == Some(None))),
+        ];
     }
-    Ok((all, well))
+    counts
 }
 
 /// Of two peers one is let in.
-fn one_is_let_in<R: Net>(rt: &R, alloc: Global, driver: &mut Driver<Closes>) -> io::Result<bool> {
-    let are_there = listens(rt, alloc, driver)?;
+fn one_is_let_in<R: Net>(rt: &R, alloc: Global, driver: &mut Driver<Closes>) -> bool {
     let mut lets = Lets { alloc, left: 1 };
-    let (admitted, well) = turn_to_all_ends(driver, &mut lets)?;
-    Ok(are_there && admitted.added == 1 && admitted.turned_away == 1 && well == 2)
+    listens(rt, alloc, driver)
+        && turn_to_all_ends(driver, &mut lets) == [1, 1, 2]
+        && driver.slots().is_empty()
 }
 
 /// A turn that would wait is woken; and an operation of the program's own is done, or told that no connection is there.
-fn is_woken(driver: &mut Driver<Closes>) -> io::Result<bool> {
-    let waker = driver.waker()?;
-    let round = turn_woken(driver, &waker);
+fn is_woken(driver: &mut Driver<Closes>) -> bool {
+    let Ok(waker) = driver.waker() else {
+        return false;
+    };
+    let is_awake = waker.wake().is_ok()
+        && matches!(driver.turn(None), Ok(round) if round.turns == 0);
     drop(waker);
-    Ok(round?.turns == 0 && driver.perform(7, Op::Beat).is_none())
-}
-
-fn turn_woken(driver: &mut Driver<Closes>, waker: &Waker) -> io::Result<Round> {
-    waker.wake()?;
-    driver.turn(None)
+    is_awake && driver.perform(7, Op::Beat).is_none()
 }
 
 /// A connection that is not open yet refuses an operation.
-fn is_refused<R: Net>(rt: &R, alloc: Global, driver: &mut Driver<Closes>) -> io::Result<bool> {
-    let (near, far) = ends(rt)?;
+fn is_refused<R: Net>(rt: &R, alloc: Global, driver: &mut Driver<Closes>) -> bool {
     let key = driver.slots().next_key();
-    let is_near = add(alloc, driver, near);
-    drop(far);
-    Ok(is_near && driver.perform(key, Op::Beat) == Some(Err(Refusal::NotRunning)))
+    adds_one(rt, alloc, driver) && driver.perform(key, Op::Beat) == Some(Err(Refusal::NotRunning))
 }
 
-/// Octets, by how many there are and a number that their order makes.
+/// What was recorded of a stream, each way: how many octets, and a number that their order makes.
 #[derive(Clone, Copy, PartialEq, Eq)]
-struct Sum {
-    count: usize,
-    number: u64,
-}
-
-impl Sum {
-    fn add(&mut self, octets: &[u8]) {
-        for octet in octets {
-            self.count = self.count.wrapping_add(1);
-            self.number = self.number.wrapping_mul(31).wrapping_add(u64::from(*octet));
-        }
-    }
-}
-
-/// What was recorded of a stream.
-#[derive(Clone, Copy)]
 struct Heard {
-    read: Sum,
-    written: Sum,
+    read: (usize, u64),
+    written: (usize, u64),
 }
 
-const NOTHING: Sum = Sum {
-    count: 0,
-    number: 0,
-};
+const NOTHING: (usize, u64) = (0, 0);
+
+/// These octets more.
+fn summed(sum: (usize, u64), octets: &[u8]) -> (usize, u64) {
+    let (count, mut number) = sum;
+    for octet in octets {
+        number = number.wrapping_mul(31).wrapping_add(u64::from(*octet));
+    }
+    (count.wrapping_add(octets.len()), number)
+}
 
 /// All that was recorded of the stream under the key; none where that was cut.
 fn heard_of(driver: &mut Driver<Closes>, key: usize) -> Option<Heard> {
@@ -244,8 +248,12 @@ fn heard_of(driver: &mut Driver<Closes>, key: usize) -> Option<Heard> {
     };
     for _ in 0..1000 {
         match driver.take_recorded(key) {
-            Some(Recorded::Octets(Way::In, octets)) => heard.read.add(octets.as_slice()),
-            Some(Recorded::Octets(Way::Out, octets)) => heard.written.add(octets.as_slice()),
+            Some(Recorded::Octets(Way::In, octets)) => {
+                heard.read = summed(heard.read, octets.as_slice());
+            }
+            Some(Recorded::Octets(Way::Out, octets)) => {
+                heard.written = summed(heard.written, octets.as_slice());
+            }
             Some(Recorded::Cut) => return None,
             None => break,
         }
@@ -254,42 +262,48 @@ fn heard_of(driver: &mut Driver<Closes>, key: usize) -> Option<Heard> {
 }
 
 /// Turns until both slots have ended, which are not taken out.
-fn turn_to_both_ends(driver: &mut Driver<Closes>, near: usize, far: usize) -> io::Result<()> {
+fn turn_to_both_ends(driver: &mut Driver<Closes>, near: usize, far: usize) -> bool {
     for _ in 0..1000 {
         let over = Some(Stage::Over(None));
         if driver.slots().stage(near) == over && driver.slots().stage(far) == over {
-            break;
+            return true;
         }
-        let _: Round = driver.turn(Some(Duration::from_secs(9)))?;
+        if !turn(driver) {
+            return false;
+        }
     }
-    Ok(())
+    false
 }
 
-/// Something went each way, and each end has read what the other one wrote.
-fn are_alike(one: Heard, other: Heard) -> bool {
+/// Something went each way, and each end has read what the other one wrote. Nothing more is there.
+fn are_alike(driver: &mut Driver<Closes>, near: usize, far: usize) -> bool {
+    let (Some(one), Some(other)) = (heard_of(driver, near), heard_of(driver, far)) else {
+        return false;
+    };
     let is_something = one.read != NOTHING && other.read != NOTHING;
-    is_something && one.read == other.written && other.read == one.written
+    let are_alike = one.read == other.written && other.read == one.written;
+    is_something
+        && are_alike
+        && heard_of(driver, near).is_some_and(|it: Heard| -> bool { it.written == NOTHING })
 }
 
 /// Of both ends of a socket each has heard what the other one sent.
-fn is_recorded<R: Net>(rt: &R, alloc: Global, driver: &mut Driver<Closes>) -> io::Result<bool> {
-    let (near, far) = ends(rt)?;
+fn is_recorded<R: Net>(rt: &R, alloc: Global, driver: &mut Driver<Closes>) -> bool {
+    let Ok((near, far)) = ends(rt) else {
+        return false;
+    };
     driver.record(alloc);
     let near_key = driver.slots().next_key();
     let is_near = add(alloc, driver, near);
     let far_key = driver.slots().next_key();
     let is_far = add(alloc, driver, far);
-    turn_to_both_ends(driver, near_key, far_key)?;
-    let are_alike = match (heard_of(driver, near_key), heard_of(driver, far_key)) {
-        (Some(one), Some(other)) => are_alike(one, other),
-        _ => false,
-    };
-    let is_rest_empty = heard_of(driver, near_key).is_some_and(|it: Heard| -> bool {
-        it.written == NOTHING
-    });
-    Ok(is_near && is_far && are_alike && is_rest_empty)
+    is_near
+        && is_far
+        && turn_to_both_ends(driver, near_key, far_key)
+        && are_alike(driver, near_key, far_key)
 }
 
+/// What a driver does.
 #[derive(Clone, Copy)]
 enum Case {
     BothClose,
@@ -300,10 +314,21 @@ enum Case {
     Refused,
 }
 
+const CASES: &[Case] = &[
+    Case::BothClose,
+    Case::Recorded,
+    Case::OneGoes,
+    Case::OneIsLetIn,
+    Case::Woken,
+    Case::Refused,
+];
+
 /// The case, over a driver of its own, which no way out but the last lets go.
-fn holds<R: AllocGlobal + Net>(rt: &R, case: Case) -> io::Result<bool> {
+fn holds<R: AllocGlobal + Net>(rt: &R, case: Case) -> bool {
     let alloc = rt.alloc();
-    let mut driver = Driver::new(rt, alloc, 8)?;
+    let Ok(mut driver) = Driver::new(rt, alloc, 8) else {
+        return false;
+    };
     let answer = match case {
         Case::BothClose => both_close(rt, alloc, &mut driver),
         Case::Recorded => is_recorded(rt, alloc, &mut driver),
@@ -317,37 +342,8 @@ fn holds<R: AllocGlobal + Net>(rt: &R, case: Case) -> io::Result<bool> {
 }
 
 #[test]
-fn connections_end_over_sockets(rt: HostRuntime) -> Result<(), Fail> {
-    assert!(rt; holds(&rt, Case::BothClose)?);
-    Ok(())
-}
-
-#[test]
-fn what_goes_over_streams_is_recorded(rt: HostRuntime) -> Result<(), Fail> {
-    assert!(rt; holds(&rt, Case::Recorded)?);
-    Ok(())
-}
-
-#[test]
-fn a_peer_that_goes_ends_its_slot_alone(rt: HostRuntime) -> Result<(), Fail> {
-    assert!(rt; holds(&rt, Case::OneGoes)?);
-    Ok(())
-}
-
-#[test]
-fn peers_are_let_in_or_turned_away(rt: HostRuntime) -> Result<(), Fail> {
-    assert!(rt; holds(&rt, Case::OneIsLetIn)?);
-    Ok(())
-}
-
-#[test]
-fn a_turn_is_woken(rt: HostRuntime) -> Result<(), Fail> {
-    assert!(rt; holds(&rt, Case::Woken)?);
-    Ok(())
-}
-
-#[test]
-fn an_operation_is_the_connection_s(rt: HostRuntime) -> Result<(), Fail> {
-    assert!(rt; holds(&rt, Case::Refused)?);
-    Ok(())
+fn drivers_hold_over_sockets(rt: HostRuntime) {
+    for case in CASES {
+        assert!(rt; holds(&rt, *case));
+    }
 }

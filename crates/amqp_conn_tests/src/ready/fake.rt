@@ -3,24 +3,47 @@ ghost use Rattle.std.specs.Prelude.{◌≡◌};
 
 use amqp_conn::{Failed, Given, Refusal};
 use amqp_ready::{Handler, Lent, Moved, Next, NonBlocking};
+use std::alloc::Global;
 
 /// Gives octets of a peer's a part at a time, and takes octets a part at a time. Of two calls of a kind the first would wait.
 #[derive(Drop)]
-pub(crate) struct Fake<'a> {
-    pub says: &'a [u8],
+pub(crate) struct Fake {
+    says: &'static [u8],
     /// Behind what it says the peer stays; else the octets end.
-    pub stays: bool,
+    stays: bool,
     /// The most octets that are moved at once.
-    pub part: usize,
+    part: usize,
     pub took: Vec<u8>,
     /// So many octets are taken yet; behind them each write would wait.
-    pub room: usize,
-    pub reads: u32,
-    pub writes: u32,
-    pub has_failed: bool,
+    room: usize,
+    reads: u32,
+    writes: u32,
+    has_failed: bool,
 }
 
-impl NonBlocking for Fake<'_> {
+impl Fake {
+    /// Of which nothing was read or taken yet.
+    pub(crate) fn new(
+        alloc: Global,
+        says: &'static [u8],
+        stays: bool,
+        part: usize,
+        room: usize,
+    ) -> Fake {
+        Fake {
+            says,
+            stays,
+            part,
+            took: Vec::new(alloc),
+            room,
+            reads: 0,
+            writes: 0,
+            has_failed: false,
+        }
+    }
+}
+
+impl NonBlocking for Fake {
     ghost use Rattle.std.specs.Prelude.{None, Some};
 
     ghost remaining = { λ f. None };
@@ -60,9 +83,13 @@ impl NonBlocking for Fake<'_> {
 #[derive(Drop)]
 pub(crate) struct Counts {
     pub told: u32,
-    pub next: Next,
-    /// The refusal that ends its slot, where there is one.
-    pub refuses: Option<Refusal>,
+    next: Next,
+}
+
+impl Counts {
+    pub(crate) fn new(next: Next) -> Counts {
+        Counts { told: 0, next }
+    }
 }
 
 impl Handler for Counts {
@@ -78,10 +105,7 @@ impl Handler for Counts {
             Ok(left) => drop(left),
             Err(_) => return Err(Refusal::NoMemory),
         }
-        match self.refuses {
-            Some(refusal) => Err(refusal),
-            None => Ok(self.next),
-        }
+        Ok(self.next)
     }
 
     fn go_on(&mut self, _conn: &mut Lent) -> Result<bool, Refusal> {

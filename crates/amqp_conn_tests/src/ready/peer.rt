@@ -1,10 +1,15 @@
 //! What a peer says, and a connection of ours.
-use amqp_conn::{Config, Conn, Text};
-use std::alloc::{AllocError, Global};
+use crate::act::Settings;
+use amqp_conn::Conn;
+use std::alloc::Global;
 
 /// Header, open and begin of a peer, and its close.
 pub(crate) const WHOLE: &[u8] =
     b"\x41\x4d\x51\x50\x00\x01\x00\x00\x00\x00\x00\x1a\x02\x00\x00\x00\x00\x53\x10\xc0\x0d\x04\xa1\x01\x61\x40\x70\x00\x01\x00\x00\x60\x00\x00\x00\x00\x00\x0c\x02\x00\x00\x00\x00\x53\x18\x45";
+
+/// A front of it.
+pub(crate) const CUT: &[u8] =
+    b"\x41\x4d\x51\x50\x00\x01\x00\x00\x00\x00\x00\x1a\x02\x00\x00\x00\x00\x53\x10\xc0";
 
 /// Our header, open and close.
 pub(crate) const OURS: &[u8] =
@@ -22,21 +27,13 @@ pub(crate) const PATIENT: &[u8] =
 pub(crate) const CONTENT: &[u8] =
     b"\x41\x4d\x51\x50\x00\x01\x00\x00\x00\x00\x00\x1b\x02\x00\x00\x00\x00\x53\x10\xc0\x0e\x05\xa1\x01\x61\x40\x70\x00\x01\x00\x00\x60\x00\x00\x43";
 
-fn settings(alloc: Global) -> Result<Config, AllocError> {
-    Ok(Config {
-        container_id: Text::new(alloc, "a")?,
-        hostname: None,
-        max_frame: 65536,
+/// Its journal takes more steps than a test makes.
+pub(crate) fn connection(alloc: Global) -> Option<Conn> {
+    let settings = Settings {
+        host: None,
         idle_time_out: None,
-        first_id: 0,
         window: 2048,
         journal_limit: 1000,
-    })
-}
-
-pub(crate) fn connection(alloc: Global) -> Option<Conn> {
-    match settings(alloc) {
-        Ok(config) => Conn::new(alloc, config).ok(),
-        Err(_) => None,
-    }
+    };
+    crate::act::connection(alloc, settings)
 }

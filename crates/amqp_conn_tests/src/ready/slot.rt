@@ -1,55 +1,34 @@
 //! A slot over a fake stream.
 use crate::ready::fake::{Counts, Fake};
-use crate::ready::peer::{OURS, TWICE, WHOLE, connection};
+use crate::ready::peer::{CUT, OURS, TWICE, WHOLE, connection};
 use amqp_conn::*;
 use amqp_ready::{Inbox, Next, Served, Slot, SlotFault};
 use std::alloc::Global;
 
-/// How so many turns of a slot end.
-#[derive(Clone, Copy, PartialEq, Eq)]
-struct Came {
-    last: Result<Served, SlotFault>,
-    /// How many octets went out, and whether they are a front of ours.
-    out: usize,
-    is_ours: bool,
-    told: u32,
-    unfed: usize,
-}
+/// What a peer says, in parts of so many octets, and how many it takes; what the handler wants next.
+type Peer = (&'static [u8], usize, usize, Next);
 
-/// Turns over a peer that says this, in such parts.
-fn turned(
-    alloc: Global,
-    says: &[u8],
-    part: usize,
-    room: usize,
-    next: Next,
-    turns: u32,
-) -> Option<Came> {
-    let fake = Fake {
-        says,
-        stays: false,
-        part,
-        took: Vec::new(alloc),
-        room,
-        reads: 0,
-        writes: 0,
-        has_failed: false,
-    };
-    let counts = Counts {
-        told: 0,
-        next,
-        refuses: None,
-    };
-    match connection(alloc) {
-        Some(conn) => {
-            let mut slot = Slot::new(alloc, fake, conn, counts);
-            Some(serve(alloc, &mut slot, turns))
-        }
-        None => None,
-    }
-}
+/// How turns of a slot end: how many octets went out, which are a front of ours, and how often the handler was told. Or the fault alone.
+type End = Result<(Served, usize, u32), SlotFault>;
 
-fn serve(alloc: Global, slot: &mut Slot<Fake, Counts>, turns: u32) -> Came {
+const ENDED: &[(Peer, End)] = &[
+    // short reads and writes
+    ((WHOLE, 3, 999, Next::Feed), Ok((Served::Ended, 46, 1))),
+    ((WHOLE, 9, 999, Next::Write), Ok((Served::Ended, 46, 1))),
+    ((WHOLE, 64, 999, Next::Feed), Ok((Served::Ended, 46, 1))),
+    // the peer takes no more
+    ((WHOLE, 7, 20, Next::Feed), Ok((Served::Waits, 20, 1))),
+    ((WHOLE, 7, 0, Next::Feed), Ok((Served::Waits, 0, 1))),
+    // faults
+    (
+        (TWICE, 9, 999, Next::Feed),
+        Err(SlotFault::Conn(ConnFault::OutOfPlace)),
+    ),
+    ((CUT, 9, 999, Next::Feed), Err(SlotFault::EndOfInput)),
+];
+
+/// So many turns at most.
+fn serve(alloc: Global, slot: &mut Slot<Fake, Counts>, turns: u32) -> Result<Served, SlotFault> {
     let mut inbox = Inbox::new(alloc);
     let mut last = Ok(Served::Waits);
     for _ in 0..turns {
@@ -59,89 +38,44 @@ fn serve(alloc: Global, slot: &mut Slot<Fake, Counts>, turns: u32) -> Came {
         }
         slot.rest_room(&mut inbox);
     }
-    state(slot, last)
+    last
 }
 
-fn state(slot: &Slot<Fake, Counts>, last: Result<Served, SlotFault>) -> Came {
-    let took = slot.stream().took.as_slice();
-    Came {
-        last,
-        out: took.len(),
-        is_ours: OURS.starts_with(took),
-        told: slot.handler().told,
-        unfed: slot.unfed(),
+/// The slot ends so, behind turns that came to this.
+fn is_at(slot: &Slot<Fake, Counts>, last: Result<Served, SlotFault>, end: &End) -> bool {
+    match (last, end) {
+        (Ok(last), Ok((served, out, told))) => {
+            let took = slot.stream().took.as_slice();
+            last == *served
+                && took.len() == *out
+                && OURS.starts_with(took)
+                && slot.handler().told == *told
+                && slot.unfed() == 0
+        }
+        (Err(last), Err(fault)) => last == *fault,
+        _ => false,
     }
 }
 
-fn is(came: Option<Came>, last: Result<Served, SlotFault>, out: usize, told: u32) -> bool {
-    match came {
-        Some(came) => {
-            came.last == last
-                && came.out == out
-                && came.is_ours
-                && came.told == told
-                && came.unfed == 0
+/// The same of a new slot.
+fn ends(alloc: Global, peer: &Peer, end: &End) -> bool {
+    match connection(alloc) {
+        Some(conn) => {
+            let (says, part, room, next) = *peer;
+            let fake = Fake::new(alloc, says, false, part, room);
+            let mut slot = Slot::new(alloc, fake, conn, Counts::new(next));
+            let last = serve(alloc, &mut slot, 99);
+            let is_so = is_at(&slot, last, end);
+            drop(slot);
+            is_so
         }
         None => false,
     }
 }
 
-fn ends(came: Option<Came>, fault: SlotFault) -> bool {
-    match came {
-        Some(came) => came.last == Err(fault),
-        None => false,
+#[test]
+fn a_slot_ends_so(rt: HostRuntime) {
+    for (peer, end) in ENDED {
+        assert!(rt; ends(rt.alloc(), peer, end));
     }
-}
-
-#[test]
-fn a_slot_goes_to_its_end_over_short_reads_and_writes(rt: HostRuntime) {
-    let alloc = rt.alloc();
-    for (part, next) in [(3, Next::Feed), (9, Next::Write), (64, Next::Feed)] {
-        assert!(rt;
-            is(
-                turned(alloc, WHOLE, part, 999, next, 99),
-                Ok(Served::Ended),
-                46,
-                1
-            )
-        );
-    }
-}
-
-#[test]
-fn a_slot_waits_for_a_peer_that_takes_no_more(rt: HostRuntime) {
-    let alloc = rt.alloc();
-    assert!(rt;
-        is(
-            turned(alloc, WHOLE, 7, 20, Next::Feed, 99),
-            Ok(Served::Waits),
-            20,
-            1
-        )
-    );
-    assert!(rt;
-        is(
-            turned(alloc, WHOLE, 7, 0, Next::Feed, 99),
-            Ok(Served::Waits),
-            0,
-            1
-        )
-    );
-}
-
-#[test]
-fn a_slot_ends_by_its_fault(rt: HostRuntime) {
-    let alloc = rt.alloc();
-    assert!(rt;
-        ends(
-            turned(alloc, TWICE, 9, 999, Next::Feed, 99),
-            SlotFault::Conn(ConnFault::OutOfPlace)
-        )
-    );
-    assert!(rt;
-        ends(
-            turned(alloc, &WHOLE[..20], 9, 999, Next::Feed, 99),
-            SlotFault::EndOfInput
-        )
-    );
 }

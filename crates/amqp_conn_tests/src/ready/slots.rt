@@ -2,133 +2,10 @@
 use crate::ready::fake::{Counts, Fake};
 use crate::ready::peer::{CONTENT, OURS, PATIENT, TWICE, WHOLE, connection};
 use amqp_conn::ConnFault;
-use amqp_ready::{Ended, Limits, Next, SlotFault, Slots, Stage};
+use amqp_ready::{Limits, Next, SlotFault, Slots, Stage};
 use std::alloc::Global;
 
-/// A slot more over a peer that says this, and takes so many octets.
-fn add(
-    alloc: Global,
-    slots: &mut Slots<Fake<'static>, Counts>,
-    says: &'static [u8],
-    room: usize,
-) -> Option<usize> {
-    let fake = Fake {
-        says,
-        stays: says.len() < WHOLE.len(),
-        part: 16,
-        took: Vec::new(alloc),
-        room,
-        reads: 0,
-        writes: 0,
-        has_failed: false,
-    };
-    let counts = Counts {
-        told: 0,
-        next: Next::Feed,
-        refuses: None,
-    };
-    let conn = connection(alloc)?;
-    slots.add(fake, conn, counts).ok()
-}
-
-/// Rounds in which each of the first so many keys is told ready.
-fn serve(slots: &mut Slots<Fake, Counts>, keys: usize, rounds: u32) {
-    for _ in 0..rounds {
-        for key in 0..keys {
-            slots.wake(key);
-        }
-        slots.serve_due();
-    }
-}
-
-/// How a slot has ended.
-#[derive(Clone, Copy, Debug, PartialEq, Eq)]
-struct End {
-    key: usize,
-    fault: Option<SlotFault>,
-    /// All of ours went out.
-    is_whole: bool,
-}
-
-fn end_of(ended: Ended<Fake, Counts>) -> End {
-    End {
-        key: ended.key,
-        fault: ended.fault,
-        is_whole: ended.stream.took.as_slice() == OURS,
-    }
-}
-
-fn take(slots: &mut Slots<Fake, Counts>) -> Option<End> {
-    match slots.take_ended() {
-        Some(ended) => Some(end_of(ended)),
-        None => None,
-    }
-}
-
-/// The slot ended with its connection.
-fn went_well(end: Option<End>) -> bool {
-    match end {
-        Some(end) => end.fault.is_none() && end.is_whole,
-        None => false,
-    }
-}
-
-/// How many ended with their connection, and how many by this fault.
-fn count_ends(slots: &mut Slots<Fake, Counts>, fault: SlotFault) -> (u32, u32) {
-    let mut counts = (0u32, 0u32);
-    for _ in 0..9 {
-        let Some(end) = take(slots) else {
-            return counts;
-        };
-        if went_well(Some(end)) {
-            counts.0 = counts.0.wrapping_add(1);
-        }
-        if end.fault == Some(fault) {
-            counts.1 = counts.1.wrapping_add(1);
-        }
-    }
-    counts
-}
-
-#[test]
-fn a_fault_ends_its_slot_alone(rt: HostRuntime) {
-    let alloc = rt.alloc();
-    let mut slots = Slots::new(alloc);
-    assert_eq!(rt; add(alloc, &mut slots, WHOLE, 999), Some(0));
-    assert_eq!(rt; add(alloc, &mut slots, TWICE, 999), Some(1));
-    assert_eq!(rt; add(alloc, &mut slots, WHOLE, 999), Some(2));
-    serve(&mut slots, 3, 99);
-    let fault = SlotFault::Conn(ConnFault::OutOfPlace);
-    assert_eq!(rt; slots.stage(1), Some(Stage::Over(Some(fault))));
-    assert_eq!(rt; count_ends(&mut slots, fault), (2, 1));
-    assert!(rt; slots.is_empty());
-}
-
-#[test]
-fn a_key_names_no_other_slot_until_it_is_taken_out(rt: HostRuntime) {
-    let alloc = rt.alloc();
-    let mut slots = Slots::new(alloc);
-    assert_eq!(rt; add(alloc, &mut slots, WHOLE, 999), Some(0));
-    serve(&mut slots, 1, 99);
-    assert_eq!(rt; slots.stage(0), Some(Stage::Over(None)));
-    assert_eq!(rt; add(alloc, &mut slots, WHOLE, 999), Some(1));
-    assert!(rt; went_well(take(&mut slots)));
-    assert_eq!(rt; add(alloc, &mut slots, WHOLE, 999), Some(0));
-}
-
-#[test]
-fn a_slot_that_waits_is_left_until_it_is_told_ready(rt: HostRuntime) {
-    let alloc = rt.alloc();
-    let mut slots = Slots::new(alloc);
-    assert_eq!(rt; add(alloc, &mut slots, WHOLE, 999), Some(0));
-    assert_eq!(rt; slots.serve_due().turns, 1);
-    assert!(rt; !slots.is_any_due());
-    assert_eq!(rt; slots.serve_due().turns, 0);
-    assert_eq!(rt; add(alloc, &mut slots, WHOLE, 0), Some(1));
-    serve(&mut slots, 2, 99);
-    assert_eq!(rt; slots.stage(0), Some(Stage::Over(None)));
-    assert_eq!(rt; slots.stage(1), Some(Stage::Works));
-}
+type Fakes = Slots<Fake, Counts>;
 
 const LIMITS: Limits = Limits {
     open: 1000,
@@ -136,47 +13,208 @@ const LIMITS: Limits = Limits {
     close: 1000,
 };
 
+/// What is done with slots, and what they show.
+#[derive(Clone, Copy)]
+enum Do {
+    /// A slot more, over a peer that says this and takes so many octets, has this key.
+    Add(&'static [u8], usize, usize),
+    /// So many rounds, in which each of the first so many keys is told ready.
+    Serve(usize, u32),
+    /// Those that are to be served are, in so many turns.
+    ServeDue(usize),
+    NoneIsDue,
+    /// The clock shows so many milliseconds.
+    Tick(u64),
+    /// The slot under the key is so far.
+    Stage(usize, Stage),
+    /// So many octets went out under the key.
+    Out(usize, usize),
+    /// One that ended with its connection is taken out.
+    Takes,
+    /// So many ended with their connection, and so many by this fault: all are taken out.
+    Ends(u32, u32, SlotFault),
+    /// None is left.
+    None,
+}
+
+/// A slot more over a peer that says this, and takes so many octets: its key.
+fn add(alloc: Global, slots: &mut Fakes, says: &'static [u8], room: usize) -> Option<usize> {
+    let stays = says.len() < WHOLE.len();
+    match connection(alloc) {
+        Some(conn) => {
+            let fake = Fake::new(alloc, says, stays, 16, room);
+            slots.add(fake, conn, Counts::new(Next::Feed)).ok()
+        }
+        None => None,
+    }
+}
+
+fn serve(slots: &mut Fakes, keys: usize, rounds: u32) -> bool {
+    for _ in 0..rounds {
+        for key in 0..keys {
+            slots.wake(key);
+        }
+        slots.serve_due();
+    }
+    true
+}
+
+/// How a slot has ended.
+#[derive(Clone, Copy, PartialEq, Eq)]
+enum End {
+    /// With its connection, and all of ours went out.
+    Well,
+    By(SlotFault),
+    /// With its connection, and something of ours is missing.
+    Short,
+}
+
+/// Takes out one that has ended.
+fn take(slots: &mut Fakes) -> Option<End> {
+    match slots.take_ended() {
+        Some(ended) => {
+            let end = match ended.fault {
+                Some(fault) => End::By(fault),
+                None if ended.stream.took.as_slice() == OURS => End::Well,
+                None => End::Short,
+            };
+            drop(ended);
+            Some(end)
+        }
+        None => None,
+    }
+}
+
+/// How many ended with their connection, and how many by this fault.
+fn count_ends(slots: &mut Fakes, fault: SlotFault) -> (u32, u32) {
+    let mut counts = (0u32, 0u32);
+    for _ in 0..9 {
+        match take(slots) {
+            Some(End::Well) => counts.0 = counts.0.wrapping_add(1),
+            Some(end) if end == End::By(fault) => counts.1 = counts.1.wrapping_add(1),
+            Some(_) => {}
+            None => break,
+        }
+    }
+    counts
+}
+
 /// How many octets went out under the key.
-fn out(slots: &Slots<Fake, Counts>, key: usize) -> usize {
+fn out(slots: &Fakes, key: usize) -> usize {
     match slots.get(key) {
         Some(slot) => slot.stream().took.len(),
         None => 0,
     }
 }
 
-#[test]
-fn a_peer_that_says_nothing_ends_its_slot(rt: HostRuntime) {
-    let alloc = rt.alloc();
-    let mut slots = Slots::new(alloc);
-    assert_eq!(rt; add(alloc, &mut slots, b"", 999), Some(0));
-    assert_eq!(rt; add(alloc, &mut slots, PATIENT, 999), Some(1));
-    slots.tick(LIMITS, 5);
-    serve(&mut slots, 2, 99);
-    slots.tick(LIMITS, 1004);
-    serve(&mut slots, 2, 9);
-    assert_eq!(rt; slots.stage(0), Some(Stage::Works));
-    slots.tick(LIMITS, 1005);
-    serve(&mut slots, 2, 9);
-    let late = Some(SlotFault::TimedOut);
-    assert_eq!(rt; slots.stage(0), Some(Stage::Over(late)));
-    assert_eq!(rt; slots.stage(1), Some(Stage::Works));
+fn tick(slots: &mut Fakes, now: u64) -> bool {
+    slots.tick(LIMITS, now);
+    true
 }
 
-#[test]
-fn a_connection_beats_for_a_peer_that_would_leave(rt: HostRuntime) {
-    let alloc = rt.alloc();
+/// It is done, or shown.
+fn holds(alloc: Global, slots: &mut Fakes, what: Do) -> bool {
+    match what {
+        Do::Add(says, room, key) => add(alloc, slots, says, room) == Some(key),
+        Do::Serve(keys, rounds) => serve(slots, keys, rounds),
+        Do::ServeDue(turns) => slots.serve_due().turns == turns,
+        Do::NoneIsDue => !slots.is_any_due(),
+        Do::Tick(now) => tick(slots, now),
+        Do::Stage(key, stage) => slots.stage(key) == Some(stage),
+        Do::Out(key, count) => out(slots, key) == count,
+        Do::Takes => matches!(take(slots), Some(End::Well)),
+        Do::Ends(well, badly, fault) => count_ends(slots, fault) == (well, badly),
+        Do::None => slots.is_empty(),
+    }
+}
+
+fn hold(alloc: Global, slots: &mut Fakes, steps: &[Do]) -> bool {
+    for what in steps {
+        if !holds(alloc, slots, *what) {
+            return false;
+        }
+    }
+    true
+}
+
+/// All of it, of new slots.
+fn goes(alloc: Global, steps: &[Do]) -> bool {
     let mut slots = Slots::new(alloc);
-    assert_eq!(rt; add(alloc, &mut slots, PATIENT, 999), Some(0));
-    assert_eq!(rt; add(alloc, &mut slots, CONTENT, 999), Some(1));
-    serve(&mut slots, 2, 99);
-    slots.tick(LIMITS, 5);
-    assert_eq!(rt; out(&slots, 0), 34);
-    slots.tick(LIMITS, 504);
-    serve(&mut slots, 2, 9);
-    assert_eq!(rt; out(&slots, 0), 34);
-    slots.tick(LIMITS, 505);
-    serve(&mut slots, 2, 9);
-    assert_eq!(rt; out(&slots, 0), 42);
-    assert_eq!(rt; out(&slots, 1), 34);
-    assert_eq!(rt; slots.stage(1), Some(Stage::Works));
+    let so = hold(alloc, &mut slots, steps);
+    drop(slots);
+    so
+}
+
+const TWICE_OPEN: SlotFault = SlotFault::Conn(ConnFault::OutOfPlace);
+
+/// A fault ends its slot alone.
+const FAULT: &[Do] = &[
+    Do::Add(WHOLE, 999, 0),
+    Do::Add(TWICE, 999, 1),
+    Do::Add(WHOLE, 999, 2),
+    Do::Serve(3, 99),
+    Do::Stage(1, Stage::Over(Some(TWICE_OPEN))),
+    Do::Ends(2, 1, TWICE_OPEN),
+    Do::None,
+];
+
+/// A key names no other slot until it is taken out.
+const KEYS: &[Do] = &[
+    Do::Add(WHOLE, 999, 0),
+    Do::Serve(1, 99),
+    Do::Stage(0, Stage::Over(None)),
+    Do::Add(WHOLE, 999, 1),
+    Do::Takes,
+    Do::Add(WHOLE, 999, 0),
+];
+
+/// A slot that waits is left until it is told ready.
+const READY: &[Do] = &[
+    Do::Add(WHOLE, 999, 0),
+    Do::ServeDue(1),
+    Do::NoneIsDue,
+    Do::ServeDue(0),
+    Do::Add(WHOLE, 0, 1),
+    Do::Serve(2, 99),
+    Do::Stage(0, Stage::Over(None)),
+    Do::Stage(1, Stage::Works),
+];
+
+/// A peer that says nothing ends its slot.
+const SILENT: &[Do] = &[
+    Do::Add(b"", 999, 0),
+    Do::Add(PATIENT, 999, 1),
+    Do::Tick(5),
+    Do::Serve(2, 99),
+    Do::Tick(1004),
+    Do::Serve(2, 9),
+    Do::Stage(0, Stage::Works),
+    Do::Tick(1005),
+    Do::Serve(2, 9),
+    Do::Stage(0, Stage::Over(Some(SlotFault::TimedOut))),
+    Do::Stage(1, Stage::Works),
+];
+
+/// A connection beats for a peer that would leave.
+const BEATS: &[Do] = &[
+    Do::Add(PATIENT, 999, 0),
+    Do::Add(CONTENT, 999, 1),
+    Do::Serve(2, 99),
+    Do::Tick(5),
+    Do::Out(0, 34),
+    Do::Tick(504),
+    Do::Serve(2, 9),
+    Do::Out(0, 34),
+    Do::Tick(505),
+    Do::Serve(2, 9),
+    Do::Out(0, 42),
+    Do::Out(1, 34),
+    Do::Stage(1, Stage::Works),
+];
+
+#[test]
+fn slots_go_so(rt: HostRuntime) {
+    for steps in [FAULT, KEYS, READY, SILENT, BEATS] {
+        assert!(rt; goes(rt.alloc(), steps));
+    }
 }
