@@ -11,7 +11,6 @@ use amqp_pair::connected;
 use std::alloc::Global;
 use std::io::{Read, Sink, sink};
 use std::net::TcpStream;
-use std::test::Fail;
 use std::{io, thread};
 
 /// A message of no octets, unsettled.
@@ -38,47 +37,65 @@ const ONE: Exchange<'static> = Exchange {
     retries: 0,
 };
 
-/// Three messages, two at a time.
-fn three(is_listening: bool, size: u32, is_settled: bool) -> Exchange<'static> {
-    Exchange {
-        is_listening,
-        count: 3,
-        size,
-        is_settled,
-        credit: 2,
-        ..ONE
-    }
+/// What three messages are, two at a time, for both ends.
+#[derive(Clone, Copy)]
+struct Row {
+    /// Who sends listens.
+    is_listening: bool,
+    /// The octets of a body.
+    size: u32,
+    is_settled: bool,
+    /// The octets of all three messages.
+    octets: u64,
 }
 
-fn sent(alloc: Global, stream: TcpStream, exchange: &Exchange<'_>) -> Option<Sent> {
-    let Ok(mut client) = client_over(alloc, stream, exchange) else {
-        return None;
-    };
-    let mut input: &[u8] = &[];
-    let answer = send_all(
-        alloc,
-        &mut client,
-        exchange,
-        None,
-        &mut input,
-        &mut Unwatched,
-    );
-    drop(client);
-    match answer {
-        Ok(sent) => Some(sent),
-        Err(_) => None,
-    }
-}
+const ROWS: [Row; 4] = [
+    Row {
+        is_listening: false,
+        size: 16,
+        is_settled: false,
+        octets: 63,
+    },
+    Row {
+        is_listening: true,
+        size: 16,
+        is_settled: false,
+        octets: 63,
+    },
+    Row {
+        is_listening: false,
+        size: 200000,
+        is_settled: false,
+        octets: 600024,
+    },
+    Row {
+        is_listening: true,
+        size: 0,
+        is_settled: true,
+        octets: 15,
+    },
+];
 
-fn received(alloc: Global, stream: TcpStream, exchange: &Exchange<'_>) -> Option<Received> {
-    let Ok(mut client) = client_over(alloc, stream, exchange) else {
-        return None;
-    };
-    let answer = receive_all(alloc, &mut client, exchange, &mut sink(), &mut Unwatched);
-    drop(client);
-    match answer {
-        Ok(received) => Some(received),
-        Err(_) => None,
+impl Row {
+    fn exchange(&self, is_listening: bool) -> Exchange<'static> {
+        Exchange {
+            is_listening,
+            count: 3,
+            size: self.size,
+            is_settled: self.is_settled,
+            credit: 2,
+            ..ONE
+        }
+    }
+
+    fn is_right(&self, told: Option<Sent>, had: Option<Received>) -> bool {
+        told == Some(all(3, if self.is_settled { 0 } else { 3 }))
+            && had
+                == Some(Received {
+                    count: 3,
+                    octets: self.octets,
+                    unsettled: 0,
+                })
     }
 }
 
@@ -93,37 +110,49 @@ fn all(count: u64, accepted: u64) -> Sent {
     }
 }
 
-/// Who listens, the octets of a body, whether the messages go settled, and the octets of all three messages.
-const ROWS: [(bool, u32, bool, u64); 4] = [
-    (false, 16, false, 63),
-    (true, 16, false, 63),
-    (false, 200000, false, 600024),
-    (true, 0, true, 15),
-];
+fn sent(alloc: Global, stream: TcpStream, row: &Row) -> Option<Sent> {
+    let exchange = row.exchange(row.is_listening);
+    let Ok(mut client) = client_over(alloc, stream, &exchange) else {
+        return None;
+    };
+    let mut input: &[u8] = &[];
+    let sent = send_all(
+        alloc,
+        &mut client,
+        &exchange,
+        None,
+        &mut input,
+        &mut Unwatched,
+    )
+    .ok();
+    drop(client);
+    sent
+}
+
+fn received(alloc: Global, stream: TcpStream, row: &Row) -> Option<Received> {
+    let exchange = row.exchange(!row.is_listening);
+    let Ok(mut client) = client_over(alloc, stream, &exchange) else {
+        return None;
+    };
+    let received = receive_all(alloc, &mut client, &exchange, &mut sink(), &mut Unwatched).ok();
+    drop(client);
+    received
+}
 
 #[test]
-fn messages_are_exchanged(rt: HostRuntime) -> Result<(), Fail> {
+fn messages_are_exchanged(rt: HostRuntime) {
     let alloc = rt.alloc();
-    for (is_listening, size, is_settled, octets) in ROWS {
-        let (near, far) = connected(&rt)?;
-        let there = three(is_listening, size, is_settled);
-        let here = three(!is_listening, size, is_settled);
+    for row in ROWS {
+        let Some((near, far)) = connected(&rt).ok() else {
+            panic!(rt; "no socket");
+        };
         let (told, had) = thread::join(
             &rt,
-            || sent(alloc, near, &there),
-            || received(alloc, far, &here),
+            || sent(alloc, near, &row),
+            || received(alloc, far, &row),
         );
-        let accepted = if is_settled { 0 } else { 3 };
-        assert!(rt; told == Some(all(3, accepted)));
-        assert!(rt;
-            had == Some(Received {
-                count: 3,
-                octets,
-                unsettled: 0
-            })
-        );
+        assert!(rt; row.is_right(told, had));
     }
-    Ok(())
 }
 
 /// Octets of the peer's in three pieces, one at each read: two of these lengths, and the rest.
@@ -176,84 +205,81 @@ fn sent_to(alloc: Global, second: usize) -> Option<Sent> {
         ..ONE
     };
     let mut input: &[u8] = b"x\ny";
-    let answer = send_all(alloc, &mut client, &lines, None, &mut input, &mut Unwatched);
+    let sent = send_all(alloc, &mut client, &lines, None, &mut input, &mut Unwatched).ok();
     drop(client);
-    match answer {
-        Ok(sent) => Some(sent),
-        Err(_) => None,
-    }
+    sent
 }
 
 fn received_from(alloc: Global, second: usize) -> Option<Received> {
     let mut client = fed(alloc, &DELIVERED, 96, second)?;
-    let answer = receive_all(alloc, &mut client, &ONE, &mut sink(), &mut Unwatched);
+    let received = receive_all(alloc, &mut client, &ONE, &mut sink(), &mut Unwatched).ok();
     drop(client);
-    match answer {
-        Ok(received) => Some(received),
-        Err(_) => None,
-    }
+    received
 }
 
 /// The peer tells what became of both messages, and that they are settled, one behind the other; also where it ends in the same piece.
 #[test]
-fn outcomes_and_their_settling_count_once(rt: HostRuntime) -> Result<(), Fail> {
-    let accepted = Some(all(2, 2));
-    assert!(rt; sent_to(rt.alloc(), 42) == accepted);
-    assert!(rt; sent_to(rt.alloc(), 99) == accepted);
-    Ok(())
+fn outcomes_and_their_settling_count_once(rt: HostRuntime) {
+    for second in [42, 99] {
+        assert!(rt; sent_to(rt.alloc(), second) == Some(all(2, 2)));
+    }
 }
 
 /// The peer sends a message and ends in the same piece, or later.
 #[test]
-fn a_message_of_a_link_that_is_gone_is_told(rt: HostRuntime) -> Result<(), Fail> {
-    let mut received = Received {
-        count: 1,
-        octets: 1,
-        unsettled: 0,
-    };
-    assert!(rt; received_from(rt.alloc(), 23) == Some(received));
-    received.unsettled = 1;
-    assert!(rt; received_from(rt.alloc(), 99) == Some(received));
-    Ok(())
+fn a_message_of_a_link_that_is_gone_is_told(rt: HostRuntime) {
+    for (second, unsettled) in [(23, 0), (99, 1)] {
+        let due = Received {
+            count: 1,
+            octets: 1,
+            unsettled,
+        };
+        assert!(rt; received_from(rt.alloc(), second) == Some(due));
+    }
 }
 
-/// A line of each kind.
-const LINES: [&str; 7] = [
-    "sender 616d71705f70656572",
-    "receiver -",
-    "begun 4294967294",
-    "unknown 0",
-    "taken - 0",
-    "taken 00ff 18446744073709551615",
-    "settled 000102030405060708090a0b0c0d0e0f101112131415161718191a1b1c1d1e1f",
+/// A line of each kind, and such as are no lines of a journal.
+const LINES: [(&str, bool); 15] = [
+    ("sender 616d71705f70656572", true),
+    ("receiver -", true),
+    ("begun 4294967294", true),
+    ("unknown 0", true),
+    ("taken - 0", true),
+    ("taken 00ff 18446744073709551615", true),
+    (
+        "settled 000102030405060708090a0b0c0d0e0f101112131415161718191a1b1c1d1e1f",
+        true,
+    ),
+    ("", false),
+    ("begun", false),
+    ("begun 4294967296", false),
+    ("begun 1 2", false),
+    ("lost 1", false),
+    ("taken 0 1", false),
+    ("taken 00", false),
+    (
+        "settled 000102030405060708090a0b0c0d0e0f101112131415161718191a1b1c1d1e1f20",
+        false,
+    ),
 ];
 
-/// None of these is a line of a journal.
-const NO_LINES: [&str; 8] = [
-    "",
-    "begun",
-    "begun 4294967296",
-    "begun 1 2",
-    "lost 1",
-    "taken 0 1",
-    "taken 00",
-    "settled 000102030405060708090a0b0c0d0e0f101112131415161718191a1b1c1d1e1f20",
-];
+/// Whether the text is read as what was written, where it is a line.
+fn is_read(alloc: Global, text: &str, is_line: bool) -> bool {
+    match read_line(text.as_bytes()) {
+        Some(line) => match format!(in alloc; "{line}") {
+            Ok(told) => is_line && told.as_str() == text,
+            Err(_) => false,
+        },
+        None => !is_line,
+    }
+}
 
 /// A journal's line is read as what was written, and one that was torn off is passed over.
 #[test]
-fn lines_of_a_journal_are_read_back(rt: HostRuntime) -> Result<(), Fail> {
-    for text in LINES {
-        let told = match read_line(text.as_bytes()) {
-            Some(line) => format!(in rt.alloc(); "{line}")?,
-            None => format!(in rt.alloc(); "none")?,
-        };
-        assert!(rt; told.as_str() == text);
+fn lines_of_a_journal_are_read_back(rt: HostRuntime) {
+    for (text, is_line) in LINES {
+        assert!(rt; is_read(rt.alloc(), text, is_line));
     }
-    for text in NO_LINES {
-        assert!(rt; read_line(text.as_bytes()).is_none());
-    }
-    assert!(rt; whole_lines(b"begun 0\nacc") == b"begun 0\n".as_slice());
-    assert!(rt; whole_lines(b"beg").is_empty());
-    Ok(())
+    let whole = whole_lines(b"begun 0\nacc") == b"begun 0\n".as_slice();
+    assert!(rt; whole && whole_lines(b"beg").is_empty());
 }

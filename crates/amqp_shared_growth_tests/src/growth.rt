@@ -1,6 +1,6 @@
 //! Shared sessions on one thread, where one growth of memory is refused. A call that is refused memory is made again, after a look at what the readers
 //! show, and has to answer what it answers with ample memory. Each session goes twice: one of both at least has ample memory, and both come to the same.
-ghost use Rattle.std.specs.Prelude.{◌≡◌, IfOk, IfSome};
+ghost use Rattle.std.specs.Prelude.{◌≡◌, IfSome};
 ghost use Rattle.amqp_shared.specs.Passes.{IsNamed};
 
 mod acts;
@@ -11,7 +11,7 @@ mod shown;
 
 use crate::octets::{ACCEPTED, ANSWER, CLOSE, FLOW, GREETING};
 use acts::Act;
-use amqp_conn::{Config, StartFault};
+use amqp_conn::Config;
 use amqp_shared::{Name, Pass, Refusal, Seed, open_shared};
 use amqp_types::Text;
 use calls::{Do, Steps, go};
@@ -62,9 +62,6 @@ const SENT: Steps = &[
     (Do::Left, 99),
 ];
 
-/// How many steps the journal of consumers takes: nine, and those of two deliveries that are consumed.
-const CONSUMED_LIMIT: u32 = 14;
-
 /// A consumer takes two of three deliveries, and is stopped by a full journal; then the peer closes, and the third is what the link left.
 const CONSUMED: Steps = &[
     (Do::Hear(&GREETING), 34),
@@ -90,12 +87,25 @@ const SHUT: Steps = &[
     (Do::LeftLen, 0),
 ];
 
-/// A seed whose journal takes so many steps, with a ring of four units.
-fn seed_once(alloc: Global, journal_limit: u32) -> Result<Seed, StartFault>
-    ensures { IfOk result (λ s. s.parts ≡ 65536) }
+/// A course of a session, and what it has to come to.
+#[derive(Clone, Copy)]
+struct Plan {
+    /// How many steps its journal takes.
+    limit: u32,
+    steps: Steps,
+    /// Passes may be gone, where memory was refused.
+    misses: bool,
+    /// How many steps it makes, and how many units it puts out.
+    made: u32,
+    units: u64,
+}
+
+/// A seed whose journal takes so many steps, with a ring of four units; none for want of memory.
+fn seed_once(alloc: Global, journal_limit: u32) -> Option<Seed>
+    ensures { IfSome result (λ s. s.parts ≡ 65536) }
 {
     let Ok(container_id) = Text::new(alloc, "a") else {
-        return Err(StartFault::NoMemory);
+        return None;
     };
     let config = Config {
         container_id,
@@ -106,18 +116,19 @@ fn seed_once(alloc: Global, journal_limit: u32) -> Result<Seed, StartFault>
         window: 2048,
         journal_limit,
     };
-    Seed::new(alloc, config, 4)
+    match Seed::new(alloc, config, 4) {
+        Ok(seed) => Some(seed),
+        Err(_) => None,
+    }
 }
 
 /// The same, made again where it was refused memory.
 fn seed_of(alloc: Global, journal_limit: u32) -> Option<Seed>
     ensures { IfSome result (λ s. s.parts ≡ 65536) }
 {
-    let first = seed_once(alloc, journal_limit);
-    match first {
-        Ok(seed) => Some(seed),
-        Err(StartFault::NoMemory) => seed_once(alloc, journal_limit).ok(),
-        Err(StartFault::BadConfig) => None,
+    match seed_once(alloc, journal_limit) {
+        Some(seed) => Some(seed),
+        None => seed_once(alloc, journal_limit),
     }
 }
 
@@ -140,68 +151,72 @@ fn split<N: Name>(passes: &mut Vec<Pass<N>>, pass: Pass<N>) -> bool {
     }
 }
 
-/// How the session stands that comes back behind the steps; none where one of them is not answered so. Where `misses`, passes may be gone.
+/// How the session stands that comes back behind the steps; none where one of them is not answered so.
 fn course<N: Name + Send + Sync, R: Threads + Wait + Sync>(
     rt: &R,
     alloc: Global,
     seed: Seed,
-    steps: Steps,
-    misses: bool,
+    plan: &Plan,
 ) -> Option<Course>
     requires { IsNamed seed N.name N.parts N.ring }
 {
     let mut passes = room::<N>(alloc);
     let (shared, pass, writer) = open_shared::<N>(seed);
-    let goes = split(&mut passes, pass) && go(rt, alloc, &shared, &mut passes, steps);
-    let course = end(rt, shared, passes, writer, misses);
+    let goes = split(&mut passes, pass) && go(rt, alloc, &shared, &mut passes, plan.steps);
+    let course = end(rt, shared, passes, writer, plan.misses);
     if goes { course } else { None }
 }
 
-fn goes_once<R: Threads + Wait + Sync>(
-    rt: &R,
-    alloc: Global,
-    limit: u32,
-    steps: Steps,
-    misses: bool,
-) -> Option<Course> {
-    match seed_of(alloc, limit) {
-        Some(seed) => course::<Brand, R>(rt, alloc, seed, steps, misses),
+fn goes_once<R: Threads + Wait + Sync>(rt: &R, alloc: Global, plan: &Plan) -> Option<Course> {
+    match seed_of(alloc, plan.limit) {
+        Some(seed) => course::<Brand, R>(rt, alloc, seed, plan),
         None => None,
     }
 }
 
-/// How two sessions stand, if both go so and come to the same.
-fn goes<R: Threads + Wait + Sync>(
-    rt: &R,
-    alloc: Global,
-    limit: u32,
-    steps: Steps,
-    misses: bool,
-) -> Option<Course> {
-    let one = goes_once(rt, alloc, limit, steps, misses);
-    let other = goes_once(rt, alloc, limit, steps, misses);
-    if one == other { one } else { None }
-}
-
-/// Whether they go so, with so many steps and units.
-fn comes_to(course: Option<Course>, steps: u32, units: u64) -> bool {
-    match course {
-        Some(course) => course.has(steps, units),
+/// Whether two sessions go so, and come to the same.
+fn goes<R: Threads + Wait + Sync>(rt: &R, alloc: Global, plan: &Plan) -> bool {
+    let one = goes_once(rt, alloc, plan);
+    let other = goes_once(rt, alloc, plan);
+    match one {
+        Some(course) => one == other && course.has(plan.made, plan.units),
         None => false,
     }
 }
 
 #[test]
 fn every_growth_refused_of_a_shared_session(rt: HostRuntime) {
-    assert!(rt; comes_to(goes(&rt, rt.alloc(), 1000, SENT, false), 12, 8));
+    let plan = Plan {
+        limit: 1000,
+        steps: SENT,
+        misses: false,
+        made: 12,
+        units: 8,
+    };
+    assert!(rt; goes(&rt, rt.alloc(), &plan));
 }
 
 #[test]
 fn every_growth_refused_of_consumers(rt: HostRuntime) {
-    assert!(rt; comes_to(goes(&rt, rt.alloc(), CONSUMED_LIMIT, CONSUMED, true), 14, 9));
+    // Nine steps, and those of two deliveries that are consumed.
+    let plan = Plan {
+        limit: 14,
+        steps: CONSUMED,
+        misses: true,
+        made: 14,
+        units: 9,
+    };
+    assert!(rt; goes(&rt, rt.alloc(), &plan));
 }
 
 #[test]
 fn every_growth_refused_of_a_close(rt: HostRuntime) {
-    assert!(rt; comes_to(goes(&rt, rt.alloc(), 1000, SHUT, false), 4, 6));
+    let plan = Plan {
+        limit: 1000,
+        steps: SHUT,
+        misses: false,
+        made: 4,
+        units: 6,
+    };
+    assert!(rt; goes(&rt, rt.alloc(), &plan));
 }

@@ -1,7 +1,7 @@
 //! Operations, as tables write them.
 
 use amqp_shared::{Bytes, DeliveryState, Op, Role, Tag, Text};
-use std::alloc::{AllocError, Global};
+use std::alloc::Global;
 
 /// An operation on link 0.
 #[derive(Clone, Copy)]
@@ -19,9 +19,9 @@ pub(crate) enum Act {
     Beat,
 }
 
-fn attach(alloc: Global, sends: bool) -> Result<Op, AllocError> {
+fn attach(alloc: Global, sends: bool) -> Option<Op> {
     match Text::new(alloc, "q") {
-        Ok(name) => Ok(Op::Attach {
+        Ok(name) => Some(Op::Attach {
             name,
             role: if sends { Role::Sender } else { Role::Receiver },
             snd: 2,
@@ -31,14 +31,14 @@ fn attach(alloc: Global, sends: bool) -> Result<Op, AllocError> {
             count: 0,
             max_message: 0,
         }),
-        Err(refused) => Err(refused),
+        Err(_) => None,
     }
 }
 
 /// A payload in memory of its own.
-fn start(alloc: Global, tag: u8) -> Result<Op, AllocError> {
+fn start(alloc: Global, tag: u8) -> Option<Op> {
     match Bytes::copy_from_slice(alloc, b"payload") {
-        Ok(payload) => Ok(Op::Start {
+        Ok(payload) => Some(Op::Start {
             link: 0,
             tag: Tag::new(&[tag]).unwrap_or(Tag::empty()),
             format: 0,
@@ -46,45 +46,30 @@ fn start(alloc: Global, tag: u8) -> Result<Op, AllocError> {
             payload,
             more: false,
         }),
-        Err(refused) => Err(refused),
+        Err(_) => None,
     }
 }
 
-fn grant() -> Op {
-    Op::Grant {
-        link: 0,
-        credit: 3,
-        drain: false,
-        echo: false,
-    }
-}
-
-fn accept() -> Op {
-    Op::Dispose {
-        role: Role::Receiver,
-        first: 0,
-        last: 0,
-        settled: true,
-        state: Some(DeliveryState::Accepted),
-    }
-}
-
-fn op(alloc: Global, act: Act) -> Result<Op, AllocError> {
+/// The operation; none where memory was refused.
+pub(crate) fn op(alloc: Global, act: Act) -> Option<Op> {
     match act {
-        Act::Begin => Ok(Op::Begin),
+        Act::Begin => Some(Op::Begin),
         Act::Attach(sends) => attach(alloc, sends),
         Act::Start(tag) => start(alloc, tag),
-        Act::Learn => Ok(Op::Learn { link: 0 }),
-        Act::Grant => Ok(grant()),
-        Act::Accept => Ok(accept()),
-        Act::Beat => Ok(Op::Beat),
-    }
-}
-
-/// The operation, made again where a growth was refused; none where two were.
-pub(crate) fn made(alloc: Global, act: Act) -> Option<Op> {
-    match op(alloc, act) {
-        Ok(op) => Some(op),
-        Err(_) => op(alloc, act).ok(),
+        Act::Learn => Some(Op::Learn { link: 0 }),
+        Act::Grant => Some(Op::Grant {
+            link: 0,
+            credit: 3,
+            drain: false,
+            echo: false,
+        }),
+        Act::Accept => Some(Op::Dispose {
+            role: Role::Receiver,
+            first: 0,
+            last: 0,
+            settled: true,
+            state: Some(DeliveryState::Accepted),
+        }),
+        Act::Beat => Some(Op::Beat),
     }
 }

@@ -1,10 +1,12 @@
 //! Calls on a shared session, each answered by a number. Where one is refused memory it is made again, after a look at what the readers show.
 
-use super::acts::{Act, made};
+use super::acts::{Act, op};
 use super::consuming::consume;
 use super::shown::{id_of, look, number_of};
 use amqp_journal::receipt::Receipt;
-use amqp_shared::{CloseRefusal, ConnFault, Fed, Given, Left, Name, Op, Pass, Refusal, Shared};
+use amqp_shared::{
+    CloseRefusal, ConnFault, Fed, Given, Guard, Left, Name, Op, Pass, Refusal, Shared,
+};
 use std::alloc::Global;
 use std::sync::Wait;
 use std::thread::Threads;
@@ -14,6 +16,8 @@ use std::thread::Threads;
 pub(crate) enum Do {
     /// Feeds it these octets, in pieces: how many were taken.
     Hear(&'static [u8]),
+    /// Feeds it these at once.
+    Feed(&'static [u8]),
     /// By `call`: the link or the delivery that it gives.
     Call(Act),
     /// By `call_wait`, where it need not wait.
@@ -37,13 +41,6 @@ type Said = Option<u64>;
 
 const REFUSED: u64 = 1000;
 
-fn refused(refusal: Refusal) -> Said {
-    match refusal {
-        Refusal::NoMemory => None,
-        _ => Some(REFUSED.wrapping_add(u64::from(refusal.number()))),
-    }
-}
-
 fn said(answer: Result<(Receipt, Given), Refusal>) -> Said {
     match answer {
         Ok((_, given)) => {
@@ -51,72 +48,34 @@ fn said(answer: Result<(Receipt, Given), Refusal>) -> Said {
             drop(given);
             Some(u64::from(number))
         }
-        Err(refusal) => refused(refusal),
-    }
-}
-
-fn call<N: Name, R: Wait>(rt: &R, shared: &Shared<N>, pass: &mut Pass<N>, op: &Op) -> Said {
-    let mut guard = shared.lock(rt);
-    said(shared.call(&mut guard, pass, op))
-}
-
-fn call_wait<N: Name, R: Wait>(rt: &R, shared: &Shared<N>, pass: &mut Pass<N>, op: &Op) -> Said {
-    let (guard, answer) = shared.call_wait(rt, shared.lock(rt), pass, op);
-    drop(guard);
-    said(answer)
-}
-
-/// Gives the operation to one of both.
-fn call_by<N: Name, R: Wait>(
-    rt: &R,
-    shared: &Shared<N>,
-    pass: &mut Pass<N>,
-    op: Op,
-    waits: bool,
-) -> Said {
-    let said = if waits {
-        call_wait(rt, shared, pass, &op)
-    } else {
-        call(rt, shared, pass, &op)
-    };
-    drop(op);
-    said
-}
-
-fn act<N: Name, R: Wait>(
-    rt: &R,
-    alloc: Global,
-    shared: &Shared<N>,
-    pass: &mut Pass<N>,
-    act: Act,
-    waits: bool,
-) -> Said {
-    match made(alloc, act) {
-        Some(op) => call_by(rt, shared, pass, op, waits),
-        None => None,
-    }
-}
-
-fn shut<N: Name, R: Wait>(rt: &R, shared: &Shared<N>) -> Said {
-    let mut guard = shared.lock(rt);
-    match shared.shut(&mut guard, None) {
-        Ok(()) => Some(0),
-        Err(CloseRefusal::NoMemory) => None,
+        Err(Refusal::NoMemory) => None,
         Err(refusal) => Some(REFUSED.wrapping_add(u64::from(refusal.number()))),
     }
 }
 
-fn forget<N: Name, R: Wait>(rt: &R, shared: &Shared<N>) -> Said {
-    let mut guard = shared.lock(rt);
-    shared.forget(&mut guard);
-    Some(0)
+/// Does the operation, and lets it go.
+fn call<N: Name>(shared: &Shared<N>, guard: &mut Guard<'_, N>, pass: &mut Pass<N>, op: Op) -> Said {
+    let answer = shared.call(guard, pass, &op);
+    drop(op);
+    said(answer)
 }
 
-fn left_len<N: Name, R: Wait>(rt: &R, shared: &Shared<N>) -> Said {
-    let mut guard = shared.lock(rt);
-    match shared.left_len(&mut guard) {
-        Ok(count) => Some(count as u64),
-        Err(_) => None,
+fn call_wait<N: Name, R: Wait>(rt: &R, shared: &Shared<N>, pass: &mut Pass<N>, op: Op) -> Said {
+    let (guard, answer) = shared.call_wait(rt, shared.lock(rt), pass, &op);
+    drop(guard);
+    drop(op);
+    said(answer)
+}
+
+fn fed(answer: Result<Fed, ConnFault>) -> Said {
+    match answer {
+        Ok(fed) => {
+            let used = fed.used as u64;
+            drop(fed);
+            Some(used)
+        }
+        Err(ConnFault::NoMemory) => None,
+        Err(fault) => Some(REFUSED.wrapping_add(u64::from(fault.number()))),
     }
 }
 
@@ -132,32 +91,42 @@ fn popped(left: Option<Left>) -> Said {
     }
 }
 
-fn pop_left<N: Name, R: Wait>(rt: &R, shared: &Shared<N>) -> Said {
-    let mut guard = shared.lock(rt);
-    match shared.pop_left(&mut guard) {
-        Ok(left) => popped(left),
-        Err(_) => None,
-    }
-}
-
-fn fed(answer: Result<Fed, ConnFault>) -> Said {
-    match answer {
-        Ok(fed) => {
-            let used = fed.used as u64;
-            drop(fed);
-            Some(used)
+/// A call under a lock that is held.
+fn locked<N: Name>(
+    alloc: Global,
+    shared: &Shared<N>,
+    guard: &mut Guard<'_, N>,
+    pass: &mut Pass<N>,
+    what: Do,
+) -> Said {
+    match what {
+        Do::Feed(octets) => fed(shared.feed(guard, pass, octets)),
+        Do::Call(act) => match op(alloc, act) {
+            Some(op) => call(shared, guard, pass, op),
+            None => None,
+        },
+        Do::Shut => match shared.shut(guard, None) {
+            Ok(()) => Some(0),
+            Err(CloseRefusal::NoMemory) => None,
+            Err(refusal) => Some(REFUSED.wrapping_add(u64::from(refusal.number()))),
+        },
+        Do::Forget => {
+            shared.forget(guard);
+            Some(0)
         }
-        Err(ConnFault::NoMemory) => None,
-        Err(fault) => Some(REFUSED.wrapping_add(u64::from(fault.number()))),
+        Do::LeftLen => match shared.left_len(guard) {
+            Ok(count) => Some(count as u64),
+            Err(_) => None,
+        },
+        Do::Left => match shared.pop_left(guard) {
+            Ok(left) => popped(left),
+            Err(_) => None,
+        },
+        _ => Some(REFUSED),
     }
 }
 
-fn feed<N: Name, R: Wait>(rt: &R, shared: &Shared<N>, pass: &mut Pass<N>, piece: &[u8]) -> Said {
-    let mut guard = shared.lock(rt);
-    fed(shared.feed(&mut guard, pass, piece))
-}
-
-/// A call that hears nothing.
+/// A call that hears no more than one piece.
 fn once<N: Name, R: Wait>(
     rt: &R,
     alloc: Global,
@@ -165,15 +134,16 @@ fn once<N: Name, R: Wait>(
     pass: &mut Pass<N>,
     what: Do,
 ) -> Said {
-    match what {
-        Do::Call(what) => act(rt, alloc, shared, pass, what, false),
-        Do::Wait(what) => act(rt, alloc, shared, pass, what, true),
-        Do::Shut => shut(rt, shared),
-        Do::Forget => forget(rt, shared),
-        Do::LeftLen => left_len(rt, shared),
-        Do::Left => pop_left(rt, shared),
-        Do::Hear(_) | Do::Consume(_, _) => Some(REFUSED),
+    if let Do::Wait(act) = what {
+        return match op(alloc, act) {
+            Some(op) => call_wait(rt, shared, pass, op),
+            None => None,
+        };
     }
+    let mut guard = shared.lock(rt);
+    let said = locked(alloc, shared, &mut guard, pass, what);
+    drop(guard);
+    said
 }
 
 /// The same, made again where it was refused memory and changed nothing.
@@ -191,26 +161,19 @@ pub(crate) fn twice<N: Name, R: Wait>(
     }
 }
 
-fn feed_twice<N: Name, R: Wait>(
+/// Feeds all of the octets, at most so many at once: how many were taken.
+fn hear<N: Name, R: Wait>(
     rt: &R,
+    alloc: Global,
     shared: &Shared<N>,
     pass: &mut Pass<N>,
-    piece: &[u8],
+    octets: &'static [u8],
 ) -> Said {
-    let before = look(rt, shared, pass.made());
-    match feed(rt, shared, pass, piece) {
-        None if look(rt, shared, pass.made()) == before => feed(rt, shared, pass, piece),
-        said => said,
-    }
-}
-
-/// Feeds all of the octets, at most so many at once: how many were taken.
-fn hear<N: Name, R: Wait>(rt: &R, shared: &Shared<N>, pass: &mut Pass<N>, octets: &[u8]) -> Said {
     let mut used = 0usize;
     for _ in 0..99u8 {
         let rest = octets.get(used..).unwrap_or(&[]);
         let (piece, _) = rest.split_at(rest.len().min(20));
-        match feed_twice(rt, shared, pass, piece) {
+        match twice(rt, alloc, shared, pass, Do::Feed(piece)) {
             Some(count) if count < REFUSED && !piece.is_empty() => {
                 used = used.wrapping_add(count as usize);
             }
@@ -234,7 +197,7 @@ fn step<N: Name + Send + Sync, R: Threads + Wait + Sync>(
         return Some(u64::from(is_so));
     }
     match (passes.get_mut(place % 2), what) {
-        (Some(pass), Do::Hear(octets)) => hear(rt, shared, pass, octets),
+        (Some(pass), Do::Hear(octets)) => hear(rt, alloc, shared, pass, octets),
         (Some(pass), what) => twice(rt, alloc, shared, pass, what),
         (None, _) => None,
     }

@@ -1,12 +1,12 @@
 //! A consumer that is run, and run again: what it was refused memory for is done in its place.
-ghost use Rattle.std.specs.Prelude.{◌≡◌, vec_len, IfOk};
+ghost use Rattle.std.specs.Prelude.{◌≡◌, vec_len, IfSome};
 
 use super::acts::Act;
 use super::calls::{Do, twice};
 use amqp_shared::{
     Consumed, DeliveryState, Name, Pass, Refusal, Shared, Taken, Work, run_consumers,
 };
-use std::alloc::{AllocError, Global};
+use std::alloc::Global;
 use std::sync::Wait;
 use std::thread::Threads;
 
@@ -28,21 +28,29 @@ struct Ran {
     stopped: Refusal,
 }
 
-/// A list of one.
-fn one<T: Drop>(alloc: Global, item: T) -> Result<Vec<T>, AllocError>
-    ensures { IfOk result (λ v. vec_len v ≡ 1) }
+/// A list of one; none for want of memory.
+fn one<T: Drop>(alloc: Global, item: T) -> Option<Vec<T>>
+    ensures { IfSome result (λ v. vec_len v ≡ 1) }
 {
-    let mut list = Vec::with_capacity(alloc, 1)?;
-    list.push(item)?;
-    Ok(list)
-}
-
-/// Its pass is kept with the others, where one came back.
-fn kept<N: Name>(passes: &mut Vec<Pass<N>>, done: Vec<Consumed<N, Accepting>>) -> Option<Ran> {
-    let mut done = done;
-    let Some(consumed) = done.pop() else {
+    let Ok(mut list) = Vec::with_capacity(alloc, 1) else {
         return None;
     };
+    match list.push(item) {
+        Ok(()) => Some(list),
+        Err(_) => None,
+    }
+}
+
+/// A part of the first pass, in a list; none for want of memory, where the part is gone.
+fn part<N: Name>(alloc: Global, passes: &mut Vec<Pass<N>>) -> Option<Vec<Pass<N>>>
+    ensures { IfSome result (λ v. vec_len v ≡ 1) }
+{
+    let pass = passes.first_mut()?.split()?;
+    one(alloc, pass)
+}
+
+/// What the consumer did; its pass is kept with the others.
+fn kept<N: Name>(passes: &mut Vec<Pass<N>>, consumed: Consumed<N, Accepting>) -> Option<Ran> {
     let Consumed {
         pass,
         work: _,
@@ -51,56 +59,24 @@ fn kept<N: Name>(passes: &mut Vec<Pass<N>>, done: Vec<Consumed<N, Accepting>>) -
         stopped,
     } = consumed;
     let made = pass.made();
-    let is_kept = passes.push(pass).is_ok();
-    let ran = Ran {
-        count: count.wrapping_add(left),
-        made,
-        stopped,
-    };
-    if is_kept { Some(ran) } else { None }
-}
-
-/// What the consumers of these passes and works did.
-fn run_with<N: Name + Send + Sync, R: Threads + Wait + Sync>(
-    rt: &R,
-    shared: &Shared<N>,
-    passes: &mut Vec<Pass<N>>,
-    own: Vec<Pass<N>>,
-    works: Vec<Accepting>,
-) -> Option<Ran>
-    requires { vec_len own ≡ vec_len works }
-{
-    match run_consumers(rt, shared, own, works, 0, 3) {
-        Ok(done) => kept(passes, done),
+    match passes.push(pass) {
+        Ok(()) => Some(Ran {
+            count: count.wrapping_add(left),
+            made,
+            stopped,
+        }),
         Err(_) => None,
     }
 }
 
-fn run_by<N: Name + Send + Sync, R: Threads + Wait + Sync>(
-    rt: &R,
-    alloc: Global,
-    shared: &Shared<N>,
-    passes: &mut Vec<Pass<N>>,
-    own: Vec<Pass<N>>,
-) -> Option<Ran>
-    requires { vec_len own ≡ 1 }
-{
-    match one(alloc, Accepting) {
-        Ok(works) => run_with(rt, shared, passes, own, works),
-        Err(_) => None,
-    }
-}
-
-fn run_one<N: Name + Send + Sync, R: Threads + Wait + Sync>(
-    rt: &R,
-    alloc: Global,
-    shared: &Shared<N>,
-    passes: &mut Vec<Pass<N>>,
-    own: Pass<N>,
-) -> Option<Ran> {
-    match one(alloc, own) {
-        Ok(own) => run_by(rt, alloc, shared, passes, own),
-        Err(_) => None,
+/// What the consumer of a list that was handed back did.
+fn kept_of<N: Name>(passes: &mut Vec<Pass<N>>, done: Vec<Consumed<N, Accepting>>) -> Option<Ran> {
+    let mut done = done;
+    let first = done.pop();
+    drop(done);
+    match first {
+        Some(consumed) => kept(passes, consumed),
+        None => None,
     }
 }
 
@@ -111,30 +87,11 @@ fn run<N: Name + Send + Sync, R: Threads + Wait + Sync>(
     shared: &Shared<N>,
     passes: &mut Vec<Pass<N>>,
 ) -> Option<Ran> {
-    match part(passes) {
-        Some(own) => run_one(rt, alloc, shared, passes, own),
-        None => None,
-    }
-}
-
-/// The same, run once more for want of memory.
-fn run_again<N: Name + Send + Sync, R: Threads + Wait + Sync>(
-    rt: &R,
-    alloc: Global,
-    shared: &Shared<N>,
-    passes: &mut Vec<Pass<N>>,
-) -> Option<Ran> {
-    match run(rt, alloc, shared, passes) {
-        Some(ran) => Some(ran),
-        None => run(rt, alloc, shared, passes),
-    }
-}
-
-/// A part of the first pass.
-fn part<N: Name>(passes: &mut Vec<Pass<N>>) -> Option<Pass<N>> {
-    match passes.first_mut() {
-        Some(pass) => pass.split(),
-        None => None,
+    let works = one(alloc, Accepting)?;
+    let own = part(alloc, passes)?;
+    match run_consumers(rt, shared, own, works, 0, 3) {
+        Ok(done) => kept_of(passes, done),
+        Err(_) => None,
     }
 }
 
@@ -194,7 +151,11 @@ pub(crate) fn consume<N: Name + Send + Sync, R: Threads + Wait + Sync>(
     stopped: Refusal,
 ) -> bool {
     let first = consume_first(rt, alloc, shared, passes);
-    match run_again(rt, alloc, shared, passes) {
+    let again = match run(rt, alloc, shared, passes) {
+        Some(ran) => Some(ran),
+        None => run(rt, alloc, shared, passes),
+    };
+    match again {
         Some(ran) => {
             let all = ran.count.wrapping_add(first.unwrap_or(0));
             ran.stopped == stopped && (all == count || first.is_none() && all == 0)

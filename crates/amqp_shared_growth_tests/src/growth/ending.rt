@@ -7,7 +7,7 @@ use std::sync::Wait;
 /// What was known before a close.
 #[derive(Clone, Copy)]
 struct Before {
-    shown: (Shown, u64),
+    shown: Shown,
     taken: Units,
     /// Passes may be gone.
     misses: bool,
@@ -85,18 +85,17 @@ fn drain<N: Name, R: Wait>(
         units.take(&mut writer, 9);
         move_units(rt, &shared);
     }
-    let shown = shown_by(rt, &shared);
+    let shown = move_units(rt, &shared);
     drop(writer);
     drop(shared);
     Some(Course { shown, units })
 }
 
-fn move_units<N: Name, R: Wait>(rt: &R, shared: &Shared<N>) {
+/// What the readers show once units were moved to the ring.
+fn move_units<N: Name, R: Wait>(rt: &R, shared: &Shared<N>) -> Shown {
     let mut guard = shared.lock(rt);
     shared.move_units(&mut guard);
-}
-
-fn shown_by<N: Name, R: Wait>(rt: &R, shared: &Shared<N>) -> Shown {
-    let guard = shared.lock(rt);
-    show(guard.conn())
+    let shown = show(guard.conn(), 0);
+    drop(guard);
+    shown
 }

@@ -16,35 +16,32 @@ pub(crate) struct Shown {
     windows: WindowView,
     link: Option<LinkStatus>,
     held: [usize; 2],
+    /// How many steps were made by what was asked.
+    made: u64,
     /// Of all entries: which step each is of, how many frames it sent, and how many deliveries it ended.
     journal: u64,
-}
-
-fn kind(step: &Step) -> u64 {
-    match step {
-        Step::Opened(_) => 1,
-        Step::Own(_) => 2,
-        Step::Heard(_) => 3,
-    }
-}
-
-fn number_in(entry: &Entry) -> u64 {
-    let sent = entry.reply.sent.len() as u64;
-    let ended = entry.reply.ended.len() as u64;
-    kind(&entry.step)
-        .wrapping_add(sent.wrapping_mul(4))
-        .wrapping_add(ended.wrapping_mul(64))
 }
 
 fn sum(entries: &[Entry]) -> u64 {
     let mut sum = 7u64;
     for entry in entries {
-        sum = sum.wrapping_mul(31).wrapping_add(number_in(entry));
+        let kind = match &entry.step {
+            Step::Opened(_) => 1,
+            Step::Own(_) => 2,
+            Step::Heard(_) => 3,
+        };
+        let sent = entry.reply.sent.len() as u64;
+        let ended = entry.reply.ended.len() as u64;
+        sum = sum
+            .wrapping_mul(31)
+            .wrapping_add(kind)
+            .wrapping_add(sent.wrapping_mul(4))
+            .wrapping_add(ended.wrapping_mul(64));
     }
     sum
 }
 
-pub(crate) fn show(conn: &Conn) -> Shown {
+pub(crate) fn show(conn: &Conn, made: u64) -> Shown {
     let logged = conn.logged();
     let endpoint = logged.endpoint();
     Shown {
@@ -59,6 +56,7 @@ pub(crate) fn show(conn: &Conn) -> Shown {
             endpoint.unsettled_len(Role::Sender),
             endpoint.unsettled_len(Role::Receiver),
         ],
+        made,
         journal: sum(logged.journal()),
     }
 }
@@ -72,12 +70,12 @@ pub(crate) fn total<N: Name>(passes: &[Pass<N>]) -> u64 {
     total
 }
 
-/// What the readers show under the lock, beside how many steps were made by what was asked.
-pub(crate) fn look<N: Name, R: Wait>(rt: &R, shared: &Shared<N>, made: u64) -> (Shown, u64) {
+/// What the readers show under the lock, and how many steps were made by what was asked.
+pub(crate) fn look<N: Name, R: Wait>(rt: &R, shared: &Shared<N>, made: u64) -> Shown {
     let guard = shared.lock(rt);
-    let shown = show(guard.conn());
+    let shown = show(guard.conn(), made);
     drop(guard);
-    (shown, made)
+    shown
 }
 
 /// Units, by how many there are and a number that depends on each of their octets and on their order.
@@ -134,7 +132,7 @@ pub(crate) fn course_of(closed: &Closed, taken: Units) -> Option<Course> {
     }
     if closed.taken == taken.count {
         Some(Course {
-            shown: show(&closed.conn),
+            shown: show(&closed.conn, 0),
             units,
         })
     } else {
