@@ -38,7 +38,7 @@ use std::marker::Model;
 #[derive(Drop)]
 pub struct Conn {
     alloc: Global,
-    /// It is behind a pointer, so that a connection is moved at no cost.
+    /// It is behind a pointer, so that who owns a connection moves that, and not a session.
     machine: Boxed<Machine>,
     /// Octets of the peer's header; it has room for all eight.
     head: Vec<u8>,
