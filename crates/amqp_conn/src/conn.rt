@@ -35,7 +35,6 @@ use std::marker::Model;
 /// One end of a connection. It reads octets as they come and puts out units; it has no socket, no clock and no thread.
 ///
 /// What it has not read of a frame it keeps, in a buffer of that frame's size at most (`Config::max_frame`).
-#[derive(Drop)]
 pub struct Conn {
     alloc: Global,
     /// It is behind a pointer, so that who owns a connection moves that, and not a session.
@@ -43,6 +42,21 @@ pub struct Conn {
     /// Octets of the peer's header; it has room for all eight.
     head: Vec<u8>,
     framer: Framer,
+}
+
+// By hand, so that a crate that owns one does not prove its parts' drops again.
+impl Drop for Conn {
+    fn drop(self) {
+        let Conn {
+            alloc: _,
+            machine,
+            head,
+            framer,
+        } = self;
+        drop(machine);
+        drop(head);
+        drop(framer);
+    }
 }
 
 impl Model for Conn {

@@ -53,11 +53,23 @@ fn make_room(
 /// | `end_range`, `set_local`, `set_remote`, `say`, `hear`, `go_on` | those of `span`, and k; where deliveries end, the shorter side of the span moves: none for a span at either end |
 /// | `ids_in`, `tellings` | those of `span`, and k |
 /// | `ids`, `ids_of`, `tags_of`, `named_all`, `named_of`, `end_link`, `end_all` | n |
-#[derive(Drop)]
 pub struct Held {
     alloc: Global,
     items: VecDeque<Entry>,
     tags: TagIndex,
+}
+
+// By hand, so that a crate that owns one does not prove its parts' drops again.
+impl Drop for Held {
+    fn drop(self) {
+        let Held {
+            alloc: _,
+            items,
+            tags,
+        } = self;
+        drop(items);
+        drop(tags);
+    }
 }
 
 impl Model for Held {

@@ -45,7 +45,6 @@ mod suspend;
 mod take;
 
 /// One end of a session. A refused operation and a frame that is not taken change nothing.
-#[derive(Drop)]
 pub struct Endpoint {
     alloc: Global,
     steps: u32,
@@ -53,6 +52,21 @@ pub struct Endpoint {
     stores: Stores,
     /// Where the octets of short frames come from.
     cutter: Cutter,
+}
+
+// By hand, so that a crate that owns one does not prove its parts' drops again.
+impl Drop for Endpoint {
+    fn drop(self) {
+        let Endpoint {
+            alloc: _,
+            steps: _,
+            session: _,
+            stores,
+            cutter,
+        } = self;
+        drop(stores);
+        drop(cutter);
+    }
 }
 
 impl Model for Endpoint {

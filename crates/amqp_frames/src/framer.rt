@@ -21,7 +21,7 @@ const MIN_MAX_FRAME_SIZE: usize = 512;
 
 /// Takes octets in pieces of any length and gives the frames in them. What has come of the next frame is kept until it is whole. Memory is taken
 /// as octets come: room for at most 512 octets, or for twice as many as are kept, whatever size the header tells.
-#[derive(Debug, Drop)]
+#[derive(Debug)]
 pub struct Framer {
     max_size: u32,
     /// What has come of the next frame; or, where `is_done`, octets of the one that was given last.
@@ -29,6 +29,19 @@ pub struct Framer {
     is_done: bool,
     /// How many octets of the buffer `unread` keeps.
     before: Option<usize>,
+}
+
+// By hand, so that a crate that owns one does not prove its parts' drops again.
+impl Drop for Framer {
+    fn drop(self) {
+        let Framer {
+            max_size: _,
+            buffer,
+            is_done: _,
+            before: _,
+        } = self;
+        drop(buffer);
+    }
 }
 
 impl Model for Framer {

@@ -44,7 +44,6 @@ use std::marker::Model;
 /// The units that wait are those of the journal, with what was put among them, without those that were popped.
 ///
 /// What a step would lose of a link that it makes gone stays to be popped: deliveries that were ready, and outcomes that were told.
-#[derive(Drop)]
 pub struct Logged {
     config: Config,
     endpoint: Endpoint,
@@ -58,6 +57,28 @@ pub struct Logged {
     popped: u64,
     /// What links left that are gone.
     left: VecDeque<Left>,
+}
+
+// By hand, so that a crate that owns one does not prove its parts' drops again.
+impl Drop for Logged {
+    fn drop(self) {
+        let Logged {
+            config: _,
+            endpoint,
+            gone,
+            journal,
+            put,
+            waiting,
+            popped: _,
+            left,
+        } = self;
+        drop(endpoint);
+        drop(gone);
+        drop(journal);
+        drop(put);
+        drop(waiting);
+        drop(left);
+    }
 }
 
 impl Model for Logged {

@@ -24,11 +24,24 @@ use std::marker::Model;
 /// | `free_handle`; `meet`: any other change of one link | O(1) |
 /// | `tell`, `untell`, of k things | O(k log n) |
 /// | `meet`: all are gone | O(n) |
-#[derive(Drop)]
 pub struct Links {
     pub(crate) store: Store,
     pub(crate) names: Names,
     pub(crate) handles: Handles,
+}
+
+// By hand, so that a crate that owns one does not prove its parts' drops again.
+impl Drop for Links {
+    fn drop(self) {
+        let Links {
+            store,
+            names,
+            handles,
+        } = self;
+        drop(store);
+        drop(names);
+        drop(handles);
+    }
 }
 
 impl Model for Links {

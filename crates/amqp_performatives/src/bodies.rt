@@ -80,7 +80,7 @@ impl Clone for OpenBody {
 }
 
 /// Begin (part 2, 2.7.2).
-#[derive(Debug, PartialEq, Eq, Drop)]
+#[derive(Debug, PartialEq, Eq)]
 pub struct BeginBody {
     pub remote_channel: Option<u16>,
     pub next_outgoing_id: u32,
@@ -93,6 +93,25 @@ pub struct BeginBody {
     pub offered_capabilities: Option<Boxed<Value>>,
     pub desired_capabilities: Option<Boxed<Value>>,
     pub properties: Option<Boxed<Value>>,
+}
+
+// By hand, so that a crate that owns one does not prove its parts' drops again.
+impl Drop for BeginBody {
+    fn drop(self) {
+        let BeginBody {
+            remote_channel: _,
+            next_outgoing_id: _,
+            incoming_window: _,
+            outgoing_window: _,
+            handle_max: _,
+            offered_capabilities,
+            desired_capabilities,
+            properties,
+        } = self;
+        drop(offered_capabilities);
+        drop(desired_capabilities);
+        drop(properties);
+    }
 }
 
 impl BeginBody {
@@ -134,7 +153,7 @@ impl Clone for BeginBody {
 }
 
 /// Attach (part 2, 2.7.3).
-#[derive(Debug, PartialEq, Eq, Drop)]
+#[derive(Debug, PartialEq, Eq)]
 pub struct AttachBody {
     pub name: Text,
     pub handle: u32,
@@ -156,6 +175,35 @@ pub struct AttachBody {
     pub offered_capabilities: Option<Boxed<Value>>,
     pub desired_capabilities: Option<Boxed<Value>>,
     pub properties: Option<Boxed<Value>>,
+}
+
+// By hand, so that a crate that owns one does not prove its parts' drops again.
+impl Drop for AttachBody {
+    fn drop(self) {
+        let AttachBody {
+            name,
+            handle: _,
+            role: _,
+            snd_settle_mode: _,
+            rcv_settle_mode: _,
+            source,
+            target,
+            unsettled,
+            incomplete_unsettled: _,
+            initial_delivery_count: _,
+            max_message_size: _,
+            offered_capabilities,
+            desired_capabilities,
+            properties,
+        } = self;
+        drop(name);
+        drop(source);
+        drop(target);
+        drop(unsettled);
+        drop(offered_capabilities);
+        drop(desired_capabilities);
+        drop(properties);
+    }
 }
 
 impl AttachBody {
@@ -213,7 +261,7 @@ impl Clone for AttachBody {
 }
 
 /// Flow (part 2, 2.7.4). Without a handle it speaks of the session alone.
-#[derive(Debug, PartialEq, Eq, Drop)]
+#[derive(Debug, PartialEq, Eq)]
 pub struct FlowBody {
     pub next_incoming_id: Option<u32>,
     /// In transfers.
@@ -232,6 +280,26 @@ pub struct FlowBody {
     /// False where absent.
     pub echo: Option<bool>,
     pub properties: Option<Boxed<Value>>,
+}
+
+// By hand, so that a crate that owns one does not prove its parts' drops again.
+impl Drop for FlowBody {
+    fn drop(self) {
+        let FlowBody {
+            next_incoming_id: _,
+            incoming_window: _,
+            next_outgoing_id: _,
+            outgoing_window: _,
+            handle: _,
+            delivery_count: _,
+            link_credit: _,
+            available: _,
+            drain: _,
+            echo: _,
+            properties,
+        } = self;
+        drop(properties);
+    }
 }
 
 impl FlowBody {
@@ -277,7 +345,7 @@ impl Clone for FlowBody {
 }
 
 /// Transfer (part 2, 2.7.5); its payload is the frame's.
-#[derive(Debug, PartialEq, Eq, Drop)]
+#[derive(Debug, PartialEq, Eq)]
 pub struct TransferBody {
     pub handle: u32,
     pub delivery_id: Option<u32>,
@@ -295,6 +363,26 @@ pub struct TransferBody {
     pub aborted: Option<bool>,
     /// False where absent.
     pub batchable: Option<bool>,
+}
+
+// By hand, so that a crate that owns one does not prove its parts' drops again.
+impl Drop for TransferBody {
+    fn drop(self) {
+        let TransferBody {
+            handle: _,
+            delivery_id: _,
+            delivery_tag: _,
+            message_format: _,
+            settled: _,
+            more: _,
+            rcv_settle_mode: _,
+            state,
+            resume: _,
+            aborted: _,
+            batchable: _,
+        } = self;
+        drop(state);
+    }
 }
 
 impl TransferBody {
@@ -340,7 +428,7 @@ impl Clone for TransferBody {
 }
 
 /// Disposition (part 2, 2.7.6), of the deliveries from `first` to `last`; of `first` alone where `last` is absent.
-#[derive(Debug, PartialEq, Eq, Drop)]
+#[derive(Debug, PartialEq, Eq)]
 pub struct DispositionBody {
     pub role: Role,
     pub first: u32,
@@ -350,6 +438,21 @@ pub struct DispositionBody {
     pub state: Option<DeliveryState>,
     /// False where absent.
     pub batchable: Option<bool>,
+}
+
+// By hand, so that a crate that owns one does not prove its parts' drops again.
+impl Drop for DispositionBody {
+    fn drop(self) {
+        let DispositionBody {
+            role: _,
+            first: _,
+            last: _,
+            settled: _,
+            state,
+            batchable: _,
+        } = self;
+        drop(state);
+    }
 }
 
 impl DispositionBody {
@@ -385,12 +488,24 @@ impl Clone for DispositionBody {
 }
 
 /// Detach (part 2, 2.7.7).
-#[derive(Debug, PartialEq, Eq, Drop)]
+#[derive(Debug, PartialEq, Eq)]
 pub struct DetachBody {
     pub handle: u32,
     /// False where absent.
     pub closed: Option<bool>,
     pub error: Option<Boxed<AmqpError>>,
+}
+
+// By hand, so that a crate that owns one does not prove its parts' drops again.
+impl Drop for DetachBody {
+    fn drop(self) {
+        let DetachBody {
+            handle: _,
+            closed: _,
+            error,
+        } = self;
+        drop(error);
+    }
 }
 
 impl DetachBody {
@@ -420,9 +535,17 @@ impl Clone for DetachBody {
 }
 
 /// End (part 2, 2.7.8).
-#[derive(Debug, PartialEq, Eq, Drop)]
+#[derive(Debug, PartialEq, Eq)]
 pub struct EndBody {
     pub error: Option<Boxed<AmqpError>>,
+}
+
+// By hand, so that a crate that owns one does not prove its parts' drops again.
+impl Drop for EndBody {
+    fn drop(self) {
+        let EndBody { error } = self;
+        drop(error);
+    }
 }
 
 impl EndBody {
@@ -444,9 +567,17 @@ impl Clone for EndBody {
 }
 
 /// Close (part 2, 2.7.9).
-#[derive(Debug, PartialEq, Eq, Drop)]
+#[derive(Debug, PartialEq, Eq)]
 pub struct CloseBody {
     pub error: Option<Boxed<AmqpError>>,
+}
+
+// By hand, so that a crate that owns one does not prove its parts' drops again.
+impl Drop for CloseBody {
+    fn drop(self) {
+        let CloseBody { error } = self;
+        drop(error);
+    }
 }
 
 impl CloseBody {

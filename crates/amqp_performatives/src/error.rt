@@ -6,12 +6,26 @@ use amqp_types::{Boxed, Text, Value};
 use std::alloc::AllocError;
 
 /// What went wrong, as a peer is told (part 2, 2.8.14).
-#[derive(Debug, PartialEq, Eq, Drop)]
+#[derive(Debug, PartialEq, Eq)]
 pub struct AmqpError {
     /// A symbol, as `amqp:not-allowed`.
     pub condition: Text,
     pub description: Option<Text>,
     pub info: Option<Boxed<Value>>,
+}
+
+// By hand, so that a crate that owns one does not prove its parts' drops again.
+impl Drop for AmqpError {
+    fn drop(self) {
+        let AmqpError {
+            condition,
+            description,
+            info,
+        } = self;
+        drop(condition);
+        drop(description);
+        drop(info);
+    }
 }
 
 impl Clone for AmqpError {

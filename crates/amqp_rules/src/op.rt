@@ -9,7 +9,7 @@ use bytes::Bytes;
 use std::alloc::AllocError;
 
 /// What a `Rejoin` asks for: what an `Attach` does, and the deliveries that it brings in.
-#[derive(Debug, PartialEq, Eq, Drop)]
+#[derive(Debug, PartialEq, Eq)]
 pub struct Rejoin {
     pub name: Text,
     /// Our end of it.
@@ -26,6 +26,27 @@ pub struct Rejoin {
     pub max_message: u64,
     /// The deliveries that wait on the link from then on, in this order; no two of one tag.
     pub items: Brought,
+}
+
+// By hand, so that a crate that owns one does not prove its parts' drops again.
+impl Drop for Rejoin {
+    fn drop(self) {
+        let Rejoin {
+            name,
+            role: _,
+            snd: _,
+            rcv: _,
+            source,
+            target,
+            count: _,
+            max_message: _,
+            items,
+        } = self;
+        drop(name);
+        drop(source);
+        drop(target);
+        drop(items);
+    }
 }
 
 /// An operation of the application. What is wide stands behind a pointer, since each entry of a journal has room for the widest.

@@ -16,9 +16,16 @@ use std::alloc::{AllocError, Global};
 use std::marker::Model;
 
 /// The deliveries that wait on a link, in the order in which they were given.
-#[derive(Drop)]
 pub struct Waiting {
     items: IndexMap<Key, Standing>,
+}
+
+// By hand, so that a crate that owns one does not prove its parts' drops again.
+impl Drop for Waiting {
+    fn drop(self) {
+        let Waiting { items } = self;
+        drop(items);
+    }
 }
 
 impl Model for Waiting {
