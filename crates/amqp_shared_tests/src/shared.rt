@@ -5,8 +5,6 @@
 //!
 //! | module | of |
 //! |---|---|
-//! | `octets` | what the peer says |
-//! | `acts` | operations, as tables write them |
 //! | `looks` | what is looked for in a connection that is lent |
 //! | `playing` | a thread and what it does |
 //! | `holding` | what it does under the lock |
@@ -16,7 +14,6 @@
 //! | `ending` | how it is taken apart |
 //! | `ring`, `callers`, `writers`, `ends`, `wakes`, `left`, `consumers` | the cases |
 
-mod acts;
 mod callers;
 mod consumers;
 mod consuming;
@@ -26,7 +23,6 @@ mod ends;
 mod holding;
 mod left;
 mod looks;
-mod octets;
 mod playing;
 mod ring;
 mod waiting;

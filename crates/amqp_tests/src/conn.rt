@@ -1,6 +1,8 @@
 //! What no clause says: octets of known connections, that calls succeed where memory is there, and devices that fail. A connection is let go in the
 //! helper that makes it: a test holds answers alone.
 
+use crate::acts::{Act, op};
+use crate::octets::{BEGIN, CLOSE, HEADER, OPEN};
 use amqp_conn::*;
 use amqp_types::Text;
 use bytes::Bytes;
@@ -8,21 +10,9 @@ use std::alloc::Global;
 use std::io;
 use std::io::{Read, Write};
 
-const HEADER: &[u8] = b"AMQP\x00\x01\x00\x00";
-
-/// The open of a container `a` that takes frames of 65536 octets.
-const OPEN: &[u8] =
-    b"\x00\x00\x00\x1a\x02\x00\x00\x00\x00\x53\x10\xc0\x0d\x04\xa1\x01a\x40\x70\x00\x01\x00\x00\x60\x00\x00";
-
-/// The same behind an octet that was used.
+/// The open behind an octet that was used.
 const BEHIND: &[u8] =
     b"\x00\x00\x00\x00\x1a\x02\x00\x00\x00\x00\x53\x10\xc0\x0d\x04\xa1\x01a\x40\x70\x00\x01\x00\x00\x60\x00\x00";
-
-const CLOSE: &[u8] = b"\x00\x00\x00\x0c\x02\x00\x00\x00\x00\x53\x18\x45";
-
-/// A begin that answers none.
-const BEGIN: &[u8] =
-    b"\x00\x00\x00\x17\x02\x00\x00\x00\x00\x53\x11\xc0\x0a\x04\x40\x43\x52\x05\x70\x7f\xff\xff\xff";
 
 /// An empty frame.
 const BEAT: &[u8] = b"\x00\x00\x00\x08\x02\x00\x00\x00";
@@ -263,6 +253,14 @@ pub(crate) fn hears(conn: &mut Conn, octets: &[u8]) -> bool {
         }
     }
     false
+}
+
+/// Does the operation, and answers whether that was done.
+pub(crate) fn performs(alloc: Global, conn: &mut Conn, act: Act) -> bool {
+    match op(alloc, act) {
+        Some(op) => conn.perform(op).is_ok(),
+        None => false,
+    }
 }
 
 /// Where a connection stands that has heard the octets in two pieces, and whether no fault was told.

@@ -1,5 +1,6 @@
 //! What no clause says: an endpoint gives its replies where memory is there, both as they are wanted.
 
+use crate::octets::BEGIN;
 use amqp_endpoint::config::Config;
 use amqp_endpoint::endpoint::Endpoint;
 use amqp_endpoint::op::Op;
@@ -14,10 +15,6 @@ const CONFIG: Config = Config {
     window: 5,
     journal_limit: 1000,
 };
-
-/// A begin that answers none, of a session that takes five transfers.
-const BEGIN: &[u8] =
-    b"\x00\x00\x00\x17\x02\x00\x00\x00\x00\x53\x11\xc0\x0a\x04\x40\x43\x52\x05\x70\x7f\xff\xff\xff";
 
 /// Both replies send these octets, if any, end nothing and give nothing.
 fn are_so(replies: (Reply, Reply), octets: &[u8]) -> bool {

@@ -1,34 +1,37 @@
 //! A journal that forgets: beside its entries, a connection shows and does what it would without.
 
-use crate::conn::connection;
+use crate::acts::{Act, Attach, op};
+use crate::conn::{connection, hears, performs};
+use crate::octets::GREETING;
 use amqp_conn::{Conn, Phase};
 use amqp_frames::Role;
 use amqp_journal::receipt::Receipt;
-use amqp_rules::op::Op;
 use amqp_rules::status::{LinkStatus, WindowView};
-use amqp_types::Text;
 use std::alloc::Global;
 
-/// The peer's header, and its open as the container `a`.
-const WHOLE: &[u8] =
-    b"AMQP\x00\x01\x00\x00\x00\x00\x00\x1a\x02\x00\x00\x00\x00\x53\x10\xc0\x0d\x04\xa1\x01a\x40\x70\x00\x01\x00\x00\x60\x00\x00";
+const ATTACH: Act = Act::Attach(Attach {
+    name: "news",
+    role: Role::Sender,
+    snd: 0,
+    rcv: 0,
+    count: 0,
+});
 
-/// A begin of the peer's, which answers none.
-const PEER_BEGIN: &[u8] =
-    b"\x00\x00\x00\x17\x02\x00\x00\x00\x00\x53\x11\xc0\x0a\x04\x40\x43\x52\x05\x70\x7f\xff\xff\xff";
-
-/// The operations that are done, one after the other.
+/// How many operations are done, one after the other.
 const CALLS: usize = 4;
 
+/// A begin, an attach, and then beats.
+const ACTS: [Act; CALLS] = [Act::Begin, ATTACH, Act::Beat, Act::Beat];
+
 /// The receipt of the begin, which is the step after the peer's open and begin.
-const BEGIN: Receipt = Receipt {
+const BEGUN: Receipt = Receipt {
     place: 2,
     link: None,
     id: None,
 };
 
 /// That of the attach behind it.
-const ATTACH: Receipt = Receipt {
+const ATTACHED: Receipt = Receipt {
     place: 3,
     link: Some(0),
     id: None,
@@ -53,44 +56,8 @@ fn begun(alloc: Global) -> Option<Conn> {
     let Ok(mut conn) = connection(alloc) else {
         return None;
     };
-    hears_begin(&mut conn);
+    let _ = hears(&mut conn, GREETING);
     Some(conn)
-}
-
-/// The header, the open and the begin of a peer.
-fn hears_begin(conn: &mut Conn) {
-    let (header, open) = WHOLE.split_at(8);
-    for piece in [header, open, PEER_BEGIN] {
-        let _ = conn.feed(piece);
-    }
-}
-
-fn attach(alloc: Global) -> Option<Op> {
-    match Text::new(alloc, "news") {
-        Ok(name) => Some(Op::Attach {
-            name,
-            role: Role::Sender,
-            snd: 0,
-            rcv: 0,
-            source: None,
-            target: None,
-            count: 0,
-            max_message: 0,
-        }),
-        Err(_) => None,
-    }
-}
-
-/// A begin, an attach, and then beats.
-fn does(conn: &mut Conn, alloc: Global, place: usize) -> bool {
-    match place {
-        0 => conn.perform(Op::Begin).is_ok(),
-        1 => match attach(alloc) {
-            Some(op) => conn.perform(op).is_ok(),
-            None => false,
-        },
-        _ => conn.perform(Op::Beat).is_ok(),
-    }
 }
 
 /// What the connection shows; its first unit is popped.
@@ -117,19 +84,19 @@ fn shows(alloc: Global, forgets: bool) -> [Option<Shown>; CALLS] {
     let mut shown = [None; CALLS];
     if let Some(mut conn) = begun(alloc) {
         for place in 0..CALLS {
-            shown[place] = shows_next(&mut conn, alloc, forgets, place);
+            shown[place] = shows_next(alloc, &mut conn, forgets, ACTS[place]);
         }
         drop(conn);
     }
     shown
 }
 
-/// What is shown after the operation of this place, where it was done.
-fn shows_next(conn: &mut Conn, alloc: Global, forgets: bool, place: usize) -> Option<Shown> {
+/// What is shown after the operation, where it was done.
+fn shows_next(alloc: Global, conn: &mut Conn, forgets: bool, act: Act) -> Option<Shown> {
     if forgets {
         conn.forget();
     }
-    if does(conn, alloc, place) {
+    if performs(alloc, conn, act) {
         return Some(show(conn));
     }
     None
@@ -145,13 +112,13 @@ fn readers_show_the_same(rt: HostRuntime) {
 }
 
 /// How many entries the journal gives after three steps, after these are forgotten, and after two more.
-fn lengths(conn: &mut Conn, alloc: Global) -> [usize; 3] {
-    does(conn, alloc, 0);
+fn lengths(alloc: Global, conn: &mut Conn) -> [usize; 3] {
+    performs(alloc, conn, Act::Begin);
     let before = conn.logged().journal().len();
     conn.forget();
     let after = conn.logged().journal().len();
-    does(conn, alloc, 2);
-    does(conn, alloc, 3);
+    performs(alloc, conn, Act::Beat);
+    performs(alloc, conn, Act::Beat);
     [before, after, conn.logged().journal().len()]
 }
 
@@ -160,13 +127,13 @@ fn entries_are_gone(rt: HostRuntime) {
     let Some(mut conn) = begun(rt.alloc()) else {
         panic!(rt; "no connection");
     };
-    let lengths = lengths(&mut conn, rt.alloc());
+    let lengths = lengths(rt.alloc(), &mut conn);
     drop(conn);
     assert!(rt; lengths == [3, 0, 2]);
 }
 
-fn stands(conn: &Conn, op: Option<Op>, receipt: &Receipt) -> bool {
-    match op {
+fn stands(alloc: Global, conn: &Conn, act: Act, receipt: &Receipt) -> bool {
+    match op(alloc, act) {
         Some(op) => {
             let stands = conn.logged().stands(&op, receipt);
             drop(op);
@@ -177,13 +144,13 @@ fn stands(conn: &Conn, op: Option<Op>, receipt: &Receipt) -> bool {
 }
 
 /// Whether the begin's receipt stands, whether it does once it is forgotten, and whether the next step's does.
-fn standing(conn: &mut Conn, alloc: Global) -> [bool; 3] {
-    does(conn, alloc, 0);
-    let before = stands(conn, Some(Op::Begin), &BEGIN);
+fn standing(alloc: Global, conn: &mut Conn) -> [bool; 3] {
+    performs(alloc, conn, Act::Begin);
+    let before = stands(alloc, conn, Act::Begin, &BEGUN);
     conn.forget();
-    let after = stands(conn, Some(Op::Begin), &BEGIN);
-    does(conn, alloc, 1);
-    [before, after, stands(conn, attach(alloc), &ATTACH)]
+    let after = stands(alloc, conn, Act::Begin, &BEGUN);
+    performs(alloc, conn, ATTACH);
+    [before, after, stands(alloc, conn, ATTACH, &ATTACHED)]
 }
 
 #[test]
@@ -191,7 +158,7 @@ fn forgotten_receipts_do_not_stand(rt: HostRuntime) {
     let Some(mut conn) = begun(rt.alloc()) else {
         panic!(rt; "no connection");
     };
-    let standing = standing(&mut conn, rt.alloc());
+    let standing = standing(rt.alloc(), &mut conn);
     drop(conn);
     assert!(rt; standing == [true, false, true]);
 }

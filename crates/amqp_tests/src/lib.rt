@@ -1,5 +1,5 @@
-//! Tests of an endpoint, its journal and a connection, in one crate above them, as those of the libraries below stand in `amqp_codec_tests`. They
-//! show what no clause says: octets of known connections, faults of devices, and that each call succeeds where memory is there.
+//! Tests of an endpoint, its journal, a connection, and two ends that speak with each other, in one crate above them, as those of the libraries below stand
+//! in `amqp_codec_tests`. They show what no clause says: octets of known connections, faults of devices, and that each call succeeds where memory is there.
 //!
 //! | module | of |
 //! |---|---|
@@ -9,8 +9,12 @@
 //! | `ends` | what came before an end is had once |
 //! | `said` | what the peer said of itself, and of why it ended something |
 //! | `told` | what both attaches told of a link |
+//! | `world` | two ends that speak with each other |
+//! | `acts`, `octets` | what they share: operations as tables write them, and what a peer sends |
 #![tactic(auto)]
 
+#[cfg(test)]
+mod acts;
 #[cfg(test)]
 mod conn;
 #[cfg(test)]
@@ -20,6 +24,10 @@ mod ends;
 #[cfg(test)]
 mod journal;
 #[cfg(test)]
+mod octets;
+#[cfg(test)]
 mod said;
 #[cfg(test)]
 mod told;
+#[cfg(test)]
+mod world;

@@ -1,10 +1,12 @@
 //! What the peer said: its open, its close, and the errors of its frames, at each end that a connection, a session or a link may have.
 
-use crate::conn::{connection, hears};
+use crate::acts::{Act, RECEIVER};
+use crate::conn::{connection, hears, performs};
+use crate::octets;
 use amqp_conn::*;
 use std::alloc::Global;
 
-const HEADER: Do = Do::Feed(b"AMQP\x00\x01\x00\x00");
+const HEADER: Do = Do::Feed(octets::HEADER);
 
 /// The open of a container `b` at `host`: frames of at most 1000 octets, channels up to 9, a time-out of 30 seconds, and a map of properties.
 const OPEN: Do = Do::Feed(
@@ -19,13 +21,10 @@ const OPEN_ELSEWHERE: Do = Do::Feed(
 
 const CLOSE_ELSEWHERE: Do = Do::Feed(b"\x00\x00\x00\x0c\x02\x00\x00\x01\x00\x53\x18\x45");
 
-/// A begin that answers none.
-const BEGIN: Do = Do::Feed(
-    b"\x00\x00\x00\x17\x02\x00\x00\x00\x00\x53\x11\xc0\x0a\x04\x40\x43\x52\x05\x70\x7f\xff\xff\xff",
-);
+const PEER_BEGIN: Do = Do::Feed(octets::BEGIN);
 
 /// The attach of a sender, `q`, on handle 0, and one delivery of it, which is unsettled.
-const ATTACH: Do = Do::Feed(
+const PEER_ATTACH: Do = Do::Feed(
     b"\x00\x00\x00\x1a\x02\x00\x00\x00\x00\x53\x12\xc0\x0d\x0a\xa1\x01q\x43\x42\x40\x40\x40\x40\x40\x40\x43",
 );
 
@@ -38,7 +37,7 @@ const CLOSE: Do = Do::Feed(
     b"\x00\x00\x00\x1b\x02\x00\x00\x00\x00\x53\x18\xc0\x0e\x01\x00\x53\x1d\xc0\x08\x02\xa3\x01x\xa1\x02by",
 );
 
-const PLAIN: Do = Do::Feed(b"\x00\x00\x00\x0c\x02\x00\x00\x00\x00\x53\x18\x45");
+const PLAIN: Do = Do::Feed(octets::CLOSE);
 
 const END: Do = Do::Feed(
     b"\x00\x00\x00\x1b\x02\x00\x00\x00\x00\x53\x17\xc0\x0e\x01\x00\x53\x1d\xc0\x08\x02\xa3\x01x\xa1\x02by",
@@ -48,15 +47,25 @@ const DETACH: Do = Do::Feed(
     b"\x00\x00\x00\x1d\x02\x00\x00\x00\x00\x53\x16\xc0\x10\x03\x43\x41\x00\x53\x1d\xc0\x08\x02\xa3\x01x\xa1\x02by",
 );
 
+const BEGIN: Do = Do::Own(Act::Begin);
+
+/// Our end of `q`, as its receiver, and credit for one delivery.
+const ATTACH: Do = Do::Own(Act::Attach(RECEIVER));
+
+const GRANT: Do = Do::Own(Act::Grant {
+    link: 0,
+    credit: 1,
+    drain: false,
+    echo: false,
+});
+
+const BEAT: Do = Do::Own(Act::Beat);
+
 /// What is done with a connection.
 #[derive(Clone, Copy)]
 enum Do {
     Feed(&'static [u8]),
-    Begin,
-    /// Attaches `q` as its receiver, and grants one delivery.
-    Attach,
-    /// A step that changes nothing.
-    Beat,
+    Own(Act),
     Close,
     Lost,
     Forget,
@@ -103,48 +112,51 @@ const CLOSED: Shown = Shown {
     ..LOST
 };
 
-/// What is done with a new connection, and what it shows then.
-const RUNS: &[(&[Do], Shown)] = &[
+/// A delivery of the peer's that waits on a link of ours.
+const RECEIVED: &[Do] = &[
+    HEADER,
+    OPEN,
+    PEER_BEGIN,
+    BEGIN,
+    PEER_ATTACH,
+    ATTACH,
+    GRANT,
+    TRANSFER,
+];
+
+/// What is done with a new connection, what is done then, and what it shows behind that.
+const RUNS: &[(&[Do], &[Do], Shown)] = &[
     // The open is kept.
     (
         &[HEADER],
+        &[],
         Shown {
             peer: None,
             phase: Phase::AwaitOpen,
             ..RUNNING
         },
     ),
-    (&[HEADER, OPEN], RUNNING),
-    (&[HEADER, OPEN, Do::Forget, Do::Lost], LOST),
+    (&[HEADER, OPEN], &[], RUNNING),
+    (&[HEADER, OPEN], &[Do::Forget, Do::Lost], LOST),
     // So is the close.
-    (&[HEADER, OPEN, CLOSE, PLAIN], CLOSED),
-    (&[HEADER, OPEN, Do::Close, CLOSE], CLOSED),
+    (&[HEADER, OPEN], &[CLOSE, PLAIN], CLOSED),
+    (&[HEADER, OPEN], &[Do::Close, CLOSE], CLOSED),
     (
-        &[HEADER, OPEN, PLAIN, CLOSE],
+        &[HEADER, OPEN],
+        &[PLAIN, CLOSE],
         Shown {
             ended_by: false,
             ..CLOSED
         },
     ),
     // A frame that is a fault is not.
-    (&[HEADER, OPEN_ELSEWHERE], Shown { peer: None, ..LOST }),
-    (&[HEADER, OPEN, CLOSE_ELSEWHERE], LOST),
+    (&[HEADER], &[OPEN_ELSEWHERE], Shown { peer: None, ..LOST }),
+    (&[HEADER, OPEN], &[CLOSE_ELSEWHERE], LOST),
     // An end and a detach tell why; what a detach told is kept with its entry.
+    (RECEIVED, &[], RUNNING),
     (
-        &[HEADER, OPEN, BEGIN, Do::Begin, ATTACH, Do::Attach, TRANSFER],
-        RUNNING,
-    ),
-    (
-        &[
-            HEADER,
-            OPEN,
-            BEGIN,
-            Do::Begin,
-            ATTACH,
-            Do::Attach,
-            TRANSFER,
-            DETACH,
-        ],
+        RECEIVED,
+        &[DETACH],
         Shown {
             heard: true,
             ended: 1,
@@ -153,48 +165,17 @@ const RUNS: &[(&[Do], Shown)] = &[
         },
     ),
     (
-        &[
-            HEADER,
-            OPEN,
-            BEGIN,
-            Do::Begin,
-            ATTACH,
-            Do::Attach,
-            TRANSFER,
-            DETACH,
-            Do::Beat,
-        ],
+        RECEIVED,
+        &[DETACH, BEAT],
         Shown {
             detached: true,
             ..RUNNING
         },
     ),
+    (RECEIVED, &[DETACH, BEAT, Do::Forget], RUNNING),
     (
-        &[
-            HEADER,
-            OPEN,
-            BEGIN,
-            Do::Begin,
-            ATTACH,
-            Do::Attach,
-            TRANSFER,
-            DETACH,
-            Do::Beat,
-            Do::Forget,
-        ],
-        RUNNING,
-    ),
-    (
-        &[
-            HEADER,
-            OPEN,
-            BEGIN,
-            Do::Begin,
-            ATTACH,
-            Do::Attach,
-            TRANSFER,
-            END,
-        ],
+        RECEIVED,
+        &[END],
         Shown {
             heard: true,
             ended: 1,
@@ -258,12 +239,8 @@ fn does(alloc: Global, conn: &mut Conn, what: Do) {
         Do::Feed(octets) => {
             let _ = hears(conn, octets);
         }
-        Do::Begin => {
-            let _ = conn.perform(Op::Begin);
-        }
-        Do::Attach => receives(alloc, conn),
-        Do::Beat => {
-            let _ = conn.perform(Op::Beat);
+        Do::Own(act) => {
+            let _ = performs(alloc, conn, act);
         }
         Do::Close => {
             let _ = conn.close(None);
@@ -273,21 +250,19 @@ fn does(alloc: Global, conn: &mut Conn, what: Do) {
     }
 }
 
-fn receives(alloc: Global, conn: &mut Conn) {
-    if let Ok(name) = Text::new(alloc, "q") {
-        let _ = conn.perform(ops::attach(name, Role::Receiver, None, None));
-        let _ = conn.perform(ops::grant(0, 1));
+fn all(alloc: Global, conn: &mut Conn, steps: &[Do]) {
+    for what in steps {
+        does(alloc, conn, *what);
     }
 }
 
-/// Whether a new connection shows this after these steps.
-fn shows(alloc: Global, steps: &[Do], due: &Shown) -> bool {
+/// Whether a new connection shows this after these steps, the first and then the others.
+fn shows(alloc: Global, first: &[Do], then: &[Do], due: &Shown) -> bool {
     let Ok(mut conn) = connection(alloc) else {
         return false;
     };
-    for what in steps {
-        does(alloc, &mut conn, *what);
-    }
+    all(alloc, &mut conn, first);
+    all(alloc, &mut conn, then);
     let shown = show(&conn);
     drop(conn);
     shown == *due
@@ -295,7 +270,7 @@ fn shows(alloc: Global, steps: &[Do], due: &Shown) -> bool {
 
 #[test]
 fn what_the_peer_said_is_shown(rt: HostRuntime) {
-    for (steps, due) in RUNS {
-        assert!(rt; shows(rt.alloc(), steps, due));
+    for (first, then, due) in RUNS {
+        assert!(rt; shows(rt.alloc(), first, then, due));
     }
 }

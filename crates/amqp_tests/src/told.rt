@@ -1,14 +1,13 @@
 //! What both attaches tell of a link stays with it, also where the journal forgets: handles, settle modes, greatest messages, sources and targets.
 
 use crate::conn::{connection, hears};
+use crate::octets::GREETING;
 use amqp_conn::*;
 use std::alloc::{AllocError, Global};
 
-/// The header, an open, a begin, and the attach of a sender `q` on handle 3: settled, second, from `a` to `b`, messages of at most 7 octets.
-const HEARD: &[u8] = b"AMQP\x00\x01\x00\x00\
-    \x00\x00\x00\x1a\x02\x00\x00\x00\x00\x53\x10\xc0\x0d\x04\xa1\x01b\x40\x70\x00\x01\x00\x00\x60\x00\x00\
-    \x00\x00\x00\x17\x02\x00\x00\x00\x00\x53\x11\xc0\x0a\x04\x40\x43\x52\x05\x70\x7f\xff\xff\xff\
-    \x00\x00\x00\x2f\x02\x00\x00\x00\x00\x53\x12\xc0\x22\x0b\xa1\x01q\x52\x03\x42\x50\x01\x50\x01\x00\x53\x28\xc0\x04\x01\xa1\x01a\
+/// The attach of a sender `q` on handle 3: settled, second, from `a` to `b`, messages of at most 7 octets.
+const ATTACH: &[u8] =
+    b"\x00\x00\x00\x2f\x02\x00\x00\x00\x00\x53\x12\xc0\x22\x0b\xa1\x01q\x52\x03\x42\x50\x01\x50\x01\x00\x53\x28\xc0\x04\x01\xa1\x01a\
     \x00\x53\x29\xc0\x04\x01\xa1\x01b\x40\x40\x43\x53\x07";
 
 /// What a link tells of an end.
@@ -132,7 +131,7 @@ fn attaches(alloc: Global, conn: &mut Conn) -> bool {
 
 /// What is told once the peer's attach was heard; and again once the connection has attached that link and forgotten all entries.
 fn is_told(alloc: Global, conn: &mut Conn) -> bool {
-    if !hears(conn, HEARD) || conn.perform(Op::Begin).is_err() {
+    if !hears(conn, GREETING) || !hears(conn, ATTACH) || conn.perform(Op::Begin).is_err() {
         return false;
     }
     if !tells(conn, (None, Some(THEIRS))) || !attaches(alloc, conn) {

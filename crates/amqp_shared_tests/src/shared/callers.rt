@@ -3,8 +3,8 @@
 use super::course::{Case, LINK, USUAL, goes};
 use super::ending::{CLOSED, Ended};
 use super::looks::Look;
-use super::octets::FLOW_MANY;
 use super::playing::Do;
+use crate::octets::FLOW_MANY;
 use amqp_conn::Phase;
 
 /// Four callers start 25 deliveries each. Beside a header, an open, a begin and an attach these are the units, all of them written; beside the peer's open, begin,

@@ -1,12 +1,12 @@
 //! What no clause says of consumers: what ends them, what they do with each delivery, and that they run at once.
 
-use super::acts::{Act, State};
 use super::consuming::{Consumers, Way};
 use super::course::{Case, Round, SESSION, USUAL, goes};
 use super::ending::{CLOSED, Ended};
 use super::looks::Look;
-use super::octets::{CLOSE, DELIVERIES, FIRST_OF_ALL, THREE, TWO_MORE};
 use super::playing::{Do, Due};
+use crate::acts::{Act, State};
+use crate::octets::{CLOSE, DELIVERIES, FIRST_OF_ALL, THREE, TWO_MORE};
 use amqp_rules::refusal::Refusal;
 use amqp_shared::{Renewal, Terms};
 

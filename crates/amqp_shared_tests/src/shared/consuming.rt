@@ -1,13 +1,12 @@
 //! Consumers that a thread runs, each with a work that goes by a table: what is due of each delivery, and what it does with it.
-ghost use Rattle.std.specs.Prelude.{◌≡◌, vec_len};
 
-use super::acts::{State, state_of};
 use super::holding::feeds;
-use super::octets::{SETTLED, SIXTH, transfer};
 use super::playing::{Player, comes_to};
+use crate::acts::{State, state_of};
+use crate::octets::{SETTLED, SIXTH, transfer};
 use amqp_shared::{
-    Consumed, DeliveryState, Name, Pass, Refusal, Renewal, Shared, Taken, Terms, Work,
-    run_consumers, run_consumers_in_batches,
+    Consumed, DeliveryState, Name, Pass, Refusal, Shared, Taken, Terms, Work, run_consumers,
+    run_consumers_in_batches,
 };
 use std::sync::Wait;
 use std::thread::Threads;

@@ -1,15 +1,13 @@
 //! A shared connection from its seed to its end.
-ghost use Rattle.std.specs.Prelude.{◌≡◌, IfSome};
 ghost use Rattle.amqp_shared.specs.Passes.{IsNamed};
 
-use super::acts::Act;
 use super::ending::{Ended, ends};
 use super::looks::takes_place;
-use super::octets::{BEGUN, GREETING, SENDS, TAKES};
 use super::playing::{Do, Due, Player, Steps, play};
-use amqp_conn::Config;
+use crate::acts::Act;
+use crate::octets::{BEGUN, GREETING, SENDS, TAKES};
+use crate::session::seed_of;
 use amqp_shared::{Name, Seed, Shared, open_shared};
-use amqp_types::Text;
 use std::alloc::Global;
 use std::marker::Brand;
 use std::sync::Wait;
@@ -70,30 +68,6 @@ pub(super) const SESSION: Round = &[(
 
 /// More than there are in any case.
 const THREADS: usize = 32;
-
-fn seed_of(alloc: Global, ring: usize, journal_limit: u32) -> Option<Seed>
-    ensures { IfSome result (λ s. s.parts ≡ 65536) }
-{
-    if ring == 0 {
-        return None;
-    }
-    if ring > 65536 {
-        return None;
-    }
-    let Ok(container_id) = Text::new(alloc, "a") else {
-        return None;
-    };
-    let config = Config {
-        container_id,
-        hostname: None,
-        max_frame: 65536,
-        idle_time_out: None,
-        first_id: 0,
-        window: 2048,
-        journal_limit,
-    };
-    Seed::new(alloc, config, ring).ok()
-}
 
 /// Whether all goes as it is due.
 pub(super) fn goes<R: Threads + Wait + Sync>(rt: &R, alloc: Global, case: &Case) -> bool {

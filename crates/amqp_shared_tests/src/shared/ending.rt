@@ -1,9 +1,10 @@
 //! How a connection is taken apart.
 
-use super::acts::Act;
 use super::looks::{Look, all_stand, sees_all};
 use super::playing::{Player, Steps, play};
 use super::waiting::is_outcome;
+use crate::acts::Act;
+use crate::session::closed_by;
 use amqp_conn::{Conn, Phase};
 use amqp_journal::receipt::Receipt;
 use amqp_shared::{CloseReason, Closed, Name, NotClosed, Pass, Shared, WriterEnd};
@@ -136,20 +137,6 @@ fn closes<N: Name>(alloc: Global, shared: Shared<N>, all: Gathered<N>, ended: En
             is_whole && is_due(alloc, closed, done.as_slice(), ended)
         }
         None => false,
-    }
-}
-
-fn closed_by<N: Name>(
-    shared: Shared<N>,
-    passes: Vec<Pass<N>>,
-    writer: WriterEnd<N>,
-) -> Option<Closed> {
-    match shared.close(passes, writer) {
-        Ok(closed) => Some(closed),
-        Err(kept) => {
-            drop(kept);
-            None
-        }
     }
 }
 

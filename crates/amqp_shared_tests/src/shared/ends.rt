@@ -3,10 +3,10 @@
 //! A thread takes away what others wait for once all wait: each of them makes one step. One waits for credit, one for what the peer tells, and all others for a
 //! delivery to take: up to 19, more than sleep at conditions of their own.
 
-use super::acts::Act;
 use super::course::{Case, LINK, Round, USUAL, goes};
-use super::octets::{BAD, DETACHES, END, SENDS_TOO, UNATTACHED};
 use super::playing::{Before, Do, Due, Steps};
+use crate::acts::Act;
+use crate::octets::{BAD, DETACHES, END, SENDS_TOO, UNATTACHED};
 use amqp_rules::refusal::Refusal;
 
 /// A second link, on which we receive: seven steps with those before.
@@ -15,63 +15,37 @@ const BOTH_LINKS: Round = &[(
     &[Do::Call(Act::ReceivesP(0), Due::Done), Do::Hear(&SENDS_TOO)],
 )];
 
-const TAKES_NO_LINK: Steps = &[Do::Wait(Before::Beat, Act::Take(1), Due::Refused(Refusal::NoLink))];
+const NOT_ATTACHED: Due = Due::Refused(Refusal::NotAttached);
 
-const TAKES_NOT_RUNNING: Steps = &[Do::Wait(
-    Before::Beat,
-    Act::Take(1),
-    Due::Refused(Refusal::NotRunning),
-)];
+const NO_LINK: Due = Due::Refused(Refusal::NoLink);
 
-const TAKES_JOURNAL_FULL: Steps = &[Do::Wait(
-    Before::Beat,
-    Act::Take(1),
-    Due::Refused(Refusal::JournalFull),
-)];
+const NOT_MAPPED: Due = Due::Refused(Refusal::NotMapped);
 
-const LEARNS_NO_LINK: Steps = &[Do::Wait(Before::Beat, Act::Learn, Due::Refused(Refusal::NoLink))];
+const NOT_RUNNING: Due = Due::Refused(Refusal::NotRunning);
 
-const LEARNS_NOT_RUNNING: Steps = &[Do::Wait(
-    Before::Beat,
-    Act::Learn,
-    Due::Refused(Refusal::NotRunning),
-)];
+const JOURNAL_FULL: Due = Due::Refused(Refusal::JournalFull);
 
-const LEARNS_JOURNAL_FULL: Steps = &[Do::Wait(
-    Before::Beat,
-    Act::Learn,
-    Due::Refused(Refusal::JournalFull),
-)];
+const TAKES_NO_LINK: Steps = &[Do::Wait(Before::Beat, Act::Take(1), NO_LINK)];
 
-const STARTS_NOT_ATTACHED: Steps = &[Do::Wait(
-    Before::Beat,
-    Act::Start([1, 0]),
-    Due::Refused(Refusal::NotAttached),
-)];
+const TAKES_NOT_RUNNING: Steps = &[Do::Wait(Before::Beat, Act::Take(1), NOT_RUNNING)];
 
-const STARTS_NO_LINK: Steps = &[Do::Wait(
-    Before::Beat,
-    Act::Start([1, 0]),
-    Due::Refused(Refusal::NoLink),
-)];
+const TAKES_JOURNAL_FULL: Steps = &[Do::Wait(Before::Beat, Act::Take(1), JOURNAL_FULL)];
 
-const STARTS_NOT_MAPPED: Steps = &[Do::Wait(
-    Before::Beat,
-    Act::Start([1, 0]),
-    Due::Refused(Refusal::NotMapped),
-)];
+const LEARNS_NO_LINK: Steps = &[Do::Wait(Before::Beat, Act::Learn, NO_LINK)];
 
-const STARTS_NOT_RUNNING: Steps = &[Do::Wait(
-    Before::Beat,
-    Act::Start([1, 0]),
-    Due::Refused(Refusal::NotRunning),
-)];
+const LEARNS_NOT_RUNNING: Steps = &[Do::Wait(Before::Beat, Act::Learn, NOT_RUNNING)];
 
-const STARTS_JOURNAL_FULL: Steps = &[Do::Wait(
-    Before::Beat,
-    Act::Start([1, 0]),
-    Due::Refused(Refusal::JournalFull),
-)];
+const LEARNS_JOURNAL_FULL: Steps = &[Do::Wait(Before::Beat, Act::Learn, JOURNAL_FULL)];
+
+const STARTS_NOT_ATTACHED: Steps = &[Do::Wait(Before::Beat, Act::Start([1, 0]), NOT_ATTACHED)];
+
+const STARTS_NO_LINK: Steps = &[Do::Wait(Before::Beat, Act::Start([1, 0]), NO_LINK)];
+
+const STARTS_NOT_MAPPED: Steps = &[Do::Wait(Before::Beat, Act::Start([1, 0]), NOT_MAPPED)];
+
+const STARTS_NOT_RUNNING: Steps = &[Do::Wait(Before::Beat, Act::Start([1, 0]), NOT_RUNNING)];
+
+const STARTS_JOURNAL_FULL: Steps = &[Do::Wait(Before::Beat, Act::Start([1, 0]), JOURNAL_FULL)];
 
 const CASES: [Case; 9] = [
     // We detach.

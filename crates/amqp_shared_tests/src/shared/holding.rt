@@ -1,9 +1,9 @@
 //! What is done under the lock.
 
-use super::acts::{Act, made};
 use super::looks::sees;
-use super::octets::transfer;
 use super::playing::{Before, Do, Due, Player};
+use crate::acts::{Act, made};
+use crate::octets::transfer;
 use amqp_shared::{ConnFault, Fed, Guard, Name, Op, Pass, Refusal, Shared};
 use std::alloc::Global;
 use std::sync::Wait;

@@ -1,13 +1,13 @@
 //! What came with an end is had behind the call that waited for it.
 
-use super::acts::Act;
 use super::consuming::{Consumers, Way};
 use super::course::{Case, LINK, SESSION, USUAL, goes};
 use super::ending::{CLOSED, Ended};
-use super::octets::{
+use super::playing::{Before, Do, Due};
+use crate::acts::Act;
+use crate::octets::{
     ACCEPTED_AND_CLOSED, ACCEPTED_AND_GONE, ACCEPTED_BOTH, CLOSE, DELIVERED_AND_CLOSED, FLOW,
 };
-use super::playing::{Before, Do, Due};
 use amqp_rules::refusal::Refusal;
 use amqp_shared::{Renewal, Terms};
 

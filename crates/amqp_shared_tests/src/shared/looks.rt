@@ -1,6 +1,6 @@
 //! What is looked for in a connection that is lent.
 
-use super::acts::{Act, made};
+use crate::acts::{Act, made};
 use amqp_conn::{Conn, Phase};
 use amqp_journal::receipt::Receipt;
 use std::alloc::Global;

@@ -1,10 +1,10 @@
 //! A thread, and what it does with a shared connection.
 
-use super::acts::Act;
 use super::consuming::{Consumers, consume};
 use super::holding::hold;
 use super::looks::Look;
 use super::waiting::{wait_behind, wait_for_both, wait_in_vain};
+use crate::acts::Act;
 use amqp_journal::receipt::Receipt;
 use amqp_rules::refusal::Refusal;
 use amqp_shared::{Given, Name, Pass, Shared, WriterEnd};

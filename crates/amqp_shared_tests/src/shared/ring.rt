@@ -1,11 +1,11 @@
 //! What the ring gives, what waits for what, and how a connection is taken apart.
 
-use super::acts::Act;
 use super::course::{Case, LINK, USUAL, goes};
 use super::ending::{CLOSED, Ended};
 use super::looks::Look;
-use super::octets::{ACCEPTED, CLOSE, CLOSE_HEAD, CLOSE_TAIL, FLOW, FLOW_SHUT, GREETING};
 use super::playing::{Do, Due};
+use crate::acts::Act;
+use crate::octets::{ACCEPTED, CLOSE, CLOSE_HEAD, CLOSE_TAIL, FLOW, FLOW_SHUT, GREETING};
 use amqp_conn::Phase;
 use amqp_rules::refusal::Refusal;
 use amqp_shared::CloseReason;

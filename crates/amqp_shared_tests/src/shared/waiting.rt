@@ -1,8 +1,8 @@
 //! What a thread waits for. The lock is kept from what goes before, and given back where a call waits: who sees the step before finds that the call waits.
 
-use super::acts::{Act, made};
 use super::holding::goes_before;
 use super::playing::{Before, Due, Player};
+use crate::acts::{Act, made};
 use amqp_shared::{Guard, Left, Name, Op, Refusal, Shared, Waited};
 use std::sync::Wait;
 

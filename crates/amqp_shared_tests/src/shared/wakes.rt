@@ -1,9 +1,9 @@
 //! What comes wakes one that waits to take it, and that one the next.
 
-use super::acts::Act;
 use super::course::{Case, Round, SESSION, USUAL, goes};
-use super::octets::{FIRST_OF_ALL, SENDS_TOO};
 use super::playing::{Before, Do, Due, Steps};
+use crate::acts::Act;
+use crate::octets::{FIRST_OF_ALL, SENDS_TOO};
 use amqp_rules::refusal::Refusal;
 
 /// The peer's attach of the other link, and enough credit on each: nine steps with those before.

@@ -1,9 +1,9 @@
 //! Writers that wait for units are told of them, each at its number.
 
-use super::acts::Act;
 use super::course::{Case, USUAL, goes};
-use super::octets::{CLOSE, GREETING};
 use super::playing::{Do, Due};
+use crate::acts::Act;
+use crate::octets::{CLOSE, GREETING};
 
 /// The peer's close is answered by ours, in octets that are borrowed, while a writer waits.
 const TOLD_OF_CLOSE: Case = Case {

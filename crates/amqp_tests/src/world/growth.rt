@@ -1,29 +1,18 @@
 //! Two ends that speak with each other, where one growth of memory is refused: nothing has changed then, and the same call gives its own answer.
 
-use crate::acts::{Act, Attach, Payload, Start, State};
-use crate::calls::{
+use super::calls::{
     ACCEPTED, AHEAD, ATTACHED, BEGUN, DONE, EMPTY, GONE, LINK, OFFERED, READY, REFUSED, RESUMING,
     TAKEN,
 };
-use crate::steps::{Do, Steps, go};
+use super::steps::{Do, Steps, go};
+use crate::acts;
+use crate::acts::{Act, Payload, RECEIVER, SENDER, Start, State};
 use amqp_frames::Role;
 use amqp_world::side::Side;
 
 const START: Start = Start {
-    link: 0,
-    tag: 1,
-    format: 0,
-    settled: false,
     payload: Payload::These(b"payload"),
-    more: false,
-};
-
-const SENDER: Attach = Attach {
-    name: "q",
-    role: Role::Sender,
-    snd: 2,
-    rcv: 0,
-    count: 0,
+    ..acts::START
 };
 
 /// Three deliveries may begin.
@@ -59,14 +48,7 @@ const STEPS: Steps = &[
     (Side::B, Do::Hear, (EMPTY, 0)),
     (Side::A, Do::Own(Act::Attach(SENDER)), (LINK, 0)),
     (Side::B, Do::Hear, (OFFERED, 0)),
-    (
-        Side::B,
-        Do::Own(Act::Attach(Attach {
-            role: Role::Receiver,
-            ..SENDER
-        })),
-        (LINK, 0),
-    ),
+    (Side::B, Do::Own(Act::Attach(RECEIVER)), (LINK, 0)),
     (Side::A, Do::Hear, (ATTACHED, 0)),
     (Side::A, Do::Own(Act::Start(START)), (REFUSED, 14)),
     (Side::B, Do::Own(GRANT), (DONE, 0)),

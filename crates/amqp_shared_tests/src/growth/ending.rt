@@ -1,6 +1,7 @@
 //! How a shared session is taken apart, twice where that is refused memory.
 
 use super::shown::{Course, Shown, Units, course_of, look, show, total};
+use crate::session::closed_by;
 use amqp_shared::{CloseReason, Closed, Name, NotClosed, Pass, Shared, WriterEnd};
 use std::sync::Wait;
 
@@ -63,12 +64,9 @@ fn close<N: Name>(
     writer: WriterEnd<N>,
     taken: Units,
 ) -> Option<Course> {
-    match shared.close(passes, writer) {
-        Ok(closed) => stands(closed, taken),
-        Err(kept) => {
-            drop(kept);
-            None
-        }
+    match closed_by(shared, passes, writer) {
+        Some(closed) => stands(closed, taken),
+        None => None,
     }
 }
 

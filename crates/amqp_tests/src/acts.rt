@@ -47,6 +47,8 @@ pub enum Act {
     /// The delivery with this tag, unsettled.
     Resume(u32, u8),
     End,
+    /// A step that changes nothing.
+    Beat,
 }
 
 #[derive(Clone, Copy)]
@@ -85,6 +87,38 @@ pub enum State {
     Accepted,
     Released,
 }
+
+/// Our end of a link `q`, as its sender.
+pub const SENDER: Attach = Attach {
+    name: "q",
+    role: Role::Sender,
+    snd: 2,
+    rcv: 0,
+    count: 0,
+};
+
+pub const RECEIVER: Attach = Attach {
+    role: Role::Receiver,
+    ..SENDER
+};
+
+/// Two deliveries may begin on the first link.
+pub const GRANT: Act = Act::Grant {
+    link: 0,
+    credit: 2,
+    drain: false,
+    echo: false,
+};
+
+/// A delivery of no octets, on the first link.
+pub const START: Start = Start {
+    link: 0,
+    tag: 1,
+    format: 0,
+    settled: false,
+    payload: Payload::These(b""),
+    more: false,
+};
 
 /// The operation; none for want of memory.
 pub fn op(alloc: Global, act: Act) -> Option<Op> {

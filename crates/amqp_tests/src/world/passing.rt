@@ -1,38 +1,12 @@
 //! Two deliveries of A's, with the ids 4294967295 and 0, on a link that A sends on and B receives on.
 
-use crate::acts::{Act, Attach, Payload, Start, State};
-use crate::calls::{ACCEPTED, AHEAD, ATTACHED, BEGUN, DONE, EMPTY, LINK, READY, RESUMING, TAKEN};
-use crate::steps::{Do, Steps, go};
+use super::calls::{ACCEPTED, AHEAD, ATTACHED, BEGUN, DONE, EMPTY, LINK, READY, RESUMING, TAKEN};
+use super::steps::{Do, Steps, go};
+use crate::acts::{Act, GRANT, RECEIVER, SENDER, START, Start, State};
 use amqp_frames::Role;
 use amqp_world::side::Side;
 
 const FIRST: u32 = 4294967295;
-
-const SENDER: Attach = Attach {
-    name: "q",
-    role: Role::Sender,
-    snd: 2,
-    rcv: 0,
-    count: 0,
-};
-
-/// B takes two deliveries.
-const GRANT: Act = Act::Grant {
-    link: 0,
-    credit: 2,
-    drain: false,
-    echo: false,
-};
-
-/// A delivery of no octets.
-const START: Start = Start {
-    link: 0,
-    tag: 1,
-    format: 0,
-    settled: false,
-    payload: Payload::These(b""),
-    more: false,
-};
 
 /// B disposes both.
 const DISPOSE: Act = Act::Dispose {
@@ -51,14 +25,7 @@ const STEPS: Steps = &[
     (Side::A, Do::Hear, (DONE, 0)),
     (Side::B, Do::Hear, (DONE, 0)),
     (Side::A, Do::Own(Act::Attach(SENDER)), (LINK, 0)),
-    (
-        Side::B,
-        Do::Own(Act::Attach(Attach {
-            role: Role::Receiver,
-            ..SENDER
-        })),
-        (LINK, 0),
-    ),
+    (Side::B, Do::Own(Act::Attach(RECEIVER)), (LINK, 0)),
     (Side::A, Do::Hear, (ATTACHED, 0)),
     (Side::B, Do::Hear, (ATTACHED, 0)),
     (Side::B, Do::Own(GRANT), (DONE, 0)),

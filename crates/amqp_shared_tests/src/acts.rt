@@ -7,7 +7,7 @@ use bytes::Bytes;
 use std::alloc::Global;
 
 #[derive(Clone, Copy)]
-pub(super) enum Act {
+pub(crate) enum Act {
     Begin,
     /// We send on a link `q`.
     Sends,
@@ -23,6 +23,8 @@ pub(super) enum Act {
     Grant(u32, u32),
     /// Tells the state of the deliveries with these ids.
     Dispose(u32, u32, State),
+    /// Accepts the first delivery, and settles it.
+    Accept,
     /// Of link 0.
     Detach,
     End,
@@ -31,14 +33,14 @@ pub(super) enum Act {
 
 /// The state of a delivery.
 #[derive(Clone, Copy)]
-pub(super) enum State {
+pub(crate) enum State {
     Accepted,
     Released,
     /// It has content.
     GivenBack,
 }
 
-pub(super) fn state_of(state: State) -> DeliveryState {
+pub(crate) fn state_of(state: State) -> DeliveryState {
     match state {
         State::Accepted => DeliveryState::Accepted,
         State::Released => DeliveryState::Released,
@@ -89,18 +91,18 @@ fn grant(link: u32, credit: u32) -> Op {
     }
 }
 
-fn dispose(first: u32, last: u32, state: State) -> Op {
+fn dispose(first: u32, last: u32, state: State, settled: bool) -> Op {
     Op::Dispose {
         role: Role::Receiver,
         first,
         last,
-        settled: false,
+        settled,
         state: Some(state_of(state)),
     }
 }
 
 /// The operation; none for want of memory.
-pub(super) fn made(alloc: Global, act: Act) -> Option<Op> {
+pub(crate) fn made(alloc: Global, act: Act) -> Option<Op> {
     match act {
         Act::Begin => Some(Op::Begin),
         Act::Sends => attach(alloc, "q", Role::Sender, 0),
@@ -110,7 +112,8 @@ pub(super) fn made(alloc: Global, act: Act) -> Option<Op> {
         Act::Learn => Some(Op::Learn { link: 0 }),
         Act::Take(link) => Some(Op::Take { link }),
         Act::Grant(link, credit) => Some(grant(link, credit)),
-        Act::Dispose(first, last, state) => Some(dispose(first, last, state)),
+        Act::Dispose(first, last, state) => Some(dispose(first, last, state, false)),
+        Act::Accept => Some(dispose(0, 0, State::Accepted, true)),
         Act::Detach => Some(Op::Detach {
             link: 0,
             error: None,

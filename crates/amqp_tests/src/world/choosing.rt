@@ -1,9 +1,9 @@
 //! Operations that the dice choose among those that are due, mostly.
 
+use super::dice::Dice;
+use super::lists::{is_outcome, source};
+use super::notes::{Notes, does, hears};
 use crate::acts::{Act, Attach, Payload, Start, State};
-use crate::dice::Dice;
-use crate::lists::{is_outcome, source};
-use crate::notes::{Notes, does, hears};
 use amqp_frames::Role;
 use amqp_rules::status::{LinkPhase, LinkStatus, WindowView};
 use amqp_world::side::Side;

@@ -3,17 +3,15 @@
 ghost use Rattle.std.specs.Prelude.{◌≡◌, IfSome};
 ghost use Rattle.amqp_shared.specs.Passes.{IsNamed};
 
-mod acts;
 mod calls;
 mod consuming;
 mod ending;
 mod shown;
 
+use crate::acts::Act;
 use crate::octets::{ACCEPTED, ANSWER, CLOSE, FLOW, GREETING};
-use acts::Act;
-use amqp_conn::Config;
+use crate::session::seed_of;
 use amqp_shared::{Name, Pass, Refusal, Seed, open_shared};
-use amqp_types::Text;
 use calls::{Do, Steps, go};
 use ending::end;
 use shown::Course;
@@ -47,10 +45,10 @@ const SENT: Steps = &[
     (Do::Hear(&GREETING), 34),
     (Do::Call(Act::Begin), 0),
     (Do::Hear(&ANSWER), 47),
-    (Do::Call(Act::Attach(true)), 0),
+    (Do::Call(Act::Sends), 0),
     (Do::Hear(&FLOW), 30),
-    (Do::Call(Act::Start(1)), 0),
-    (Do::Wait(Act::Start(2)), 1),
+    (Do::Call(Act::Start([1, 0])), 0),
+    (Do::Wait(Act::Start([2, 0])), 1),
     (Do::Hear(&ACCEPTED), 22),
     (Do::Wait(Act::Learn), 0),
     (Do::Forget, 0),
@@ -67,8 +65,8 @@ const CONSUMED: Steps = &[
     (Do::Hear(&GREETING), 34),
     (Do::Call(Act::Begin), 0),
     (Do::Hear(&SESSION), 56),
-    (Do::Call(Act::Attach(false)), 0),
-    (Do::Call(Act::Grant), 0),
+    (Do::Call(Act::ReceivesQ(0)), 0),
+    (Do::Call(Act::Grant(0, 3)), 0),
     (Do::Hear(&DELIVERIES), 66),
     (Do::Consume(2, Refusal::JournalFull), 1),
     (Do::Hear(&CLOSE), 12),
@@ -100,35 +98,13 @@ struct Plan {
     units: u64,
 }
 
-/// A seed whose journal takes so many steps, with a ring of four units; none for want of memory.
-fn seed_once(alloc: Global, journal_limit: u32) -> Option<Seed>
+/// A seed with a ring of four units, made again where it was refused memory.
+fn seed_again(alloc: Global, journal_limit: u32) -> Option<Seed>
     ensures { IfSome result (λ s. s.parts ≡ 65536) }
 {
-    let Ok(container_id) = Text::new(alloc, "a") else {
-        return None;
-    };
-    let config = Config {
-        container_id,
-        hostname: None,
-        max_frame: 65536,
-        idle_time_out: None,
-        first_id: 0,
-        window: 2048,
-        journal_limit,
-    };
-    match Seed::new(alloc, config, 4) {
-        Ok(seed) => Some(seed),
-        Err(_) => None,
-    }
-}
-
-/// The same, made again where it was refused memory.
-fn seed_of(alloc: Global, journal_limit: u32) -> Option<Seed>
-    ensures { IfSome result (λ s. s.parts ≡ 65536) }
-{
-    match seed_once(alloc, journal_limit) {
+    match seed_of(alloc, 4, journal_limit) {
         Some(seed) => Some(seed),
-        None => seed_once(alloc, journal_limit),
+        None => seed_of(alloc, 4, journal_limit),
     }
 }
 
@@ -168,7 +144,7 @@ fn course<N: Name + Send + Sync, R: Threads + Wait + Sync>(
 }
 
 fn goes_once<R: Threads + Wait + Sync>(rt: &R, alloc: Global, plan: &Plan) -> Option<Course> {
-    match seed_of(alloc, plan.limit) {
+    match seed_again(alloc, plan.limit) {
         Some(seed) => course::<Brand, R>(rt, alloc, seed, plan),
         None => None,
     }

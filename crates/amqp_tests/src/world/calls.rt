@@ -1,5 +1,6 @@
 //! Calls on two ends, each answered by two numbers.
 
+use crate::acts::{Act, op};
 use amqp_frames::DeliveryState;
 use amqp_rules::op::Op;
 use amqp_rules::refusal::Refusal;
@@ -7,6 +8,7 @@ use amqp_rules::reply::{Given, Learned};
 use amqp_world::refusal::{HearRefusal, WorldRefusal};
 use amqp_world::side::Side;
 use amqp_world::world::World;
+use std::alloc::Global;
 
 /// What a call answers, or `None` where memory was refused: which of the following, and the link or the id, where it has one.
 pub type Said = Option<(u8, u32)>;
@@ -85,8 +87,16 @@ fn refused(refusal: WorldRefusal) -> Said {
     }
 }
 
+/// Does the operation, where there is memory for it.
+pub fn own(alloc: Global, world: &mut World, side: Side, act: Act) -> Said {
+    match op(alloc, act) {
+        Some(op) => does(world, side, op),
+        None => None,
+    }
+}
+
 /// Does the operation, and lets it go.
-pub fn own(world: &mut World, side: Side, op: Op) -> Said {
+fn does(world: &mut World, side: Side, op: Op) -> Said {
     let answer = world.own(side, &op);
     drop(op);
     match answer {

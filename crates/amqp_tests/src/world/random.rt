@@ -1,9 +1,9 @@
 //! Two ends that do what the dice say, and hear each other when the dice say so.
 
+use super::choosing::{FIRST, accept_all, turn};
+use super::lists::{complete, count, count_taken, judge, source};
+use super::notes::{Notes, Tally, does, hears};
 use crate::acts::Act;
-use crate::choosing::{FIRST, accept_all, turn};
-use crate::lists::{complete, count, count_taken, judge, source};
-use crate::notes::{Notes, Tally, does, hears};
 use amqp_rules::config::Config;
 use amqp_rules::status::LinkPhase;
 use amqp_world::settings::Settings;
@@ -60,18 +60,23 @@ fn play_with(world: &mut World, notes: &mut Notes) {
     does(world, notes, Side::B, Act::Begin);
     turns(world, notes, TURNS);
     judge_both(world, notes);
-    hear_all(world, notes);
-    take_all(world, notes, Side::A);
-    take_all(world, notes, Side::B);
-    hear_all(world, notes);
-    learn_all(world, notes, Side::A);
-    learn_all(world, notes, Side::B);
+    settle(world, notes);
     let side = notes.side();
     does(world, notes, side, Act::End);
     turns(world, notes, LAST);
     judge_both(world, notes);
     count(&mut notes.tally, world.side(Side::A).journal());
     count(&mut notes.tally, world.side(Side::B).journal());
+}
+
+/// Both hear and take all, and learn what the other says of it.
+fn settle(world: &mut World, notes: &mut Notes) {
+    hear_all(world, notes);
+    take_all(world, notes, Side::A);
+    take_all(world, notes, Side::B);
+    hear_all(world, notes);
+    learn_all(world, notes, Side::A);
+    learn_all(world, notes, Side::B);
 }
 
 fn turns(world: &mut World, notes: &mut Notes, count: u32) {

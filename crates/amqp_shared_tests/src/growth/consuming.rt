@@ -1,8 +1,8 @@
 //! A consumer that is run, and run again: what it was refused memory for is done in its place.
 ghost use Rattle.std.specs.Prelude.{◌≡◌, vec_len, IfSome};
 
-use super::acts::Act;
 use super::calls::{Do, twice};
+use crate::acts::Act;
 use amqp_shared::{
     Consumed, DeliveryState, Name, Pass, Refusal, Shared, Taken, Work, run_consumers,
 };
@@ -120,9 +120,9 @@ fn settle<N: Name, R: Wait>(
     match made {
         1 => {
             does(rt, alloc, shared, passes, Act::Accept)
-                && does(rt, alloc, shared, passes, Act::Grant)
+                && does(rt, alloc, shared, passes, Act::Grant(0, 3))
         }
-        2 | 4 => does(rt, alloc, shared, passes, Act::Grant),
+        2 | 4 => does(rt, alloc, shared, passes, Act::Grant(0, 3)),
         _ => true,
     }
 }

@@ -1,7 +1,7 @@
 //! What the journals of two ends say of deliveries: what one took and learnt, and what the other sent and told. All is read of their entries alone.
 
-use crate::choosing::FIRST;
-use crate::notes::Tally;
+use super::choosing::FIRST;
+use super::notes::Tally;
 use amqp_flow::serial::Serial;
 use amqp_frames::{DeliveryState, Role};
 use amqp_journal::entry::{Entry, Step};

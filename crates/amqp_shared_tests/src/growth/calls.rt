@@ -1,8 +1,8 @@
 //! Calls on a shared session, each answered by a number. Where one is refused memory it is made again, after a look at what the readers show.
 
-use super::acts::{Act, op};
 use super::consuming::consume;
 use super::shown::{id_of, look, number_of};
+use crate::acts::{Act, made};
 use amqp_journal::receipt::Receipt;
 use amqp_shared::{
     CloseRefusal, ConnFault, Fed, Given, Guard, Left, Name, Op, Pass, Refusal, Shared,
@@ -101,7 +101,7 @@ fn locked<N: Name>(
 ) -> Said {
     match what {
         Do::Feed(octets) => fed(shared.feed(guard, pass, octets)),
-        Do::Call(act) => match op(alloc, act) {
+        Do::Call(act) => match made(alloc, act) {
             Some(op) => call(shared, guard, pass, op),
             None => None,
         },
@@ -135,7 +135,7 @@ fn once<N: Name, R: Wait>(
     what: Do,
 ) -> Said {
     if let Do::Wait(act) = what {
-        return match op(alloc, act) {
+        return match made(alloc, act) {
             Some(op) => call_wait(rt, shared, pass, op),
             None => None,
         };

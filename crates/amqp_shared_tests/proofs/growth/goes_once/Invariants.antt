@@ -1,4 +1,4 @@
-use Rattle.amqp_shared_growth_tests.proofs.growth.goes_once.Given as goal
+use Rattle.amqp_shared_tests.proofs.growth.goes_once.Given as goal
 
 abbrev pub ghosts-course-N-Ledger : goal.ghosts-course-N-Ledger
 ghosts-course-N-Ledger g a = record { name = a.seed.name; parts = a.seed.parts }

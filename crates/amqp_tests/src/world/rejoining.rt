@@ -1,7 +1,7 @@
 //! Two sessions whose frames the test carries: B puts a link aside while a delivery of A's is under way. A brings it back with that delivery, of which B
 //! knows nothing, so that A may send it again (part 2, 2.6.13).
 
-use crate::acts::{Act, Payload, Start, op, rejoined};
+use crate::acts::{Act, GRANT, START, op, rejoined};
 use amqp_frames::{Frame, Role};
 use amqp_journal::entry::Entry;
 use amqp_journal::logged::Logged;
@@ -37,22 +37,6 @@ enum Do {
     Back,
 }
 
-const GRANT: Act = Act::Grant {
-    link: 0,
-    credit: 2,
-    drain: false,
-    echo: false,
-};
-
-const START: Act = Act::Start(Start {
-    link: 0,
-    tag: 1,
-    format: 0,
-    settled: false,
-    payload: Payload::These(b""),
-    more: false,
-});
-
 /// The link, brought in with nothing, on which A sends and B receives; A's delivery under way; and B puts the link aside.
 const ASIDE: &[Do] = &[
     Do::Own(Side::A, Act::Begin),
@@ -63,7 +47,7 @@ const ASIDE: &[Do] = &[
     Do::Exchange,
     Do::Own(Side::B, GRANT),
     Do::Exchange,
-    Do::Own(Side::A, START),
+    Do::Own(Side::A, Act::Start(START)),
     Do::Own(Side::B, Act::Suspend(0)),
     Do::Exchange,
 ];

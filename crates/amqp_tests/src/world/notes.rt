@@ -1,8 +1,8 @@
 //! What came about of two ends, and their dice.
 
-use crate::acts::{Act, op};
-use crate::calls::{EMPTY, LINK, OFFERED, Said, hear, is_done, own};
-use crate::dice::Dice;
+use super::calls::{EMPTY, LINK, OFFERED, Said, hear, is_done, own};
+use super::dice::Dice;
+use crate::acts::Act;
 use amqp_world::side::Side;
 use amqp_world::world::World;
 use std::alloc::Global;
@@ -108,10 +108,7 @@ impl Notes {
 
 /// Does the operation, if it may.
 pub fn does(world: &mut World, notes: &mut Notes, side: Side, act: Act) -> bool {
-    let said = match op(notes.alloc, act) {
-        Some(op) => own(world, side, op),
-        None => None,
-    };
+    let said = own(notes.alloc, world, side, act);
     notes.note(side, said);
     is_done(said)
 }

@@ -2,8 +2,8 @@
 //! one of both at least has ample memory, and both come to the same.
 ghost use Rattle.amqp_rules.specs.Limits.{IsWithinLimits};
 
-use crate::acts::{Act, op};
-use crate::calls::{DONE, Said, hear, own};
+use super::calls::{DONE, Said, hear, own};
+use crate::acts::Act;
 use amqp_frames::Role;
 use amqp_rules::config::Config;
 use amqp_rules::status::{LinkStatus, WindowView};
@@ -66,10 +66,7 @@ fn look(world: &World) -> [Shown; 2] {
 
 fn once(alloc: Global, world: &mut World, side: Side, what: Do) -> Said {
     match what {
-        Do::Own(act) => match op(alloc, act) {
-            Some(op) => own(world, side, op),
-            None => None,
-        },
+        Do::Own(act) => own(alloc, world, side, act),
         Do::Hear => hear(world, side),
         Do::HasHeard(frames, firsts) => {
             let heard = world.heard(side);
