@@ -1,14 +1,15 @@
 //! An exchange goes on over one connection after the other: when a peer is met once more, and how the link is rejoined.
-use crate::client::Client;
-use crate::exchange::{Exchange, ExchangeFault, tell_error};
+use crate::end::End;
+use crate::exchange::{Exchange, ExchangeFault};
 use crate::fault::ClientFault;
-use crate::journal::{Journal, Line, is_front, open_journal, read_line, text_of, whole_lines};
-use crate::progress::Watch;
-use amqp_conn::{Phase, PumpFault, Refusal, Role, Tag, Text};
-use std::alloc::Global;
-use std::fs::OpenFile;
-use std::io::{Read, Write};
-use std::rt::{Clock, Files};
+use crate::journal::Notes;
+use crate::meeting::meet;
+use crate::opening::{answer_again, await_attached, await_link, open_again};
+use crate::report::{Reports, tell_error};
+use crate::session::Session;
+use amqp_conn::{Phase, PumpFault, Refusal, Role, Tag};
+use std::net::{Net, TcpStream};
+use std::rt::Clock;
 use std::thread;
 use std::time::Duration;
 
@@ -20,6 +21,103 @@ const MOST: u32 = 1024;
 
 /// What an attach takes for a delivery that it brings in, in octets: a tag of 32 octets, a state, and their heads.
 const ITEM: u32 = 44;
+
+/// An exchange that has a journal, and goes on over one connection after the other.
+pub(crate) trait GoesOn {
+    /// All is done, and the peer knows it.
+    fn is_done(&self) -> bool;
+
+    /// All is done, and what is left is that the peer may ask for what it does not know: nobody may come any more.
+    fn has_all(&self) -> bool;
+
+    /// How many lines its journal had got.
+    fn noted(&self) -> u64;
+
+    /// Goes on over this connection until all is done, and ends link, session and connection.
+    fn go_on<S: Session, T: Reports>(
+        &mut self,
+        session: &mut S,
+        reports: &mut T,
+    ) -> Result<(), ExchangeFault>;
+
+    /// The connection is over, maybe by a fault of its own: what came before that is had, and noted.
+    fn wind_up<S: Session, T: Reports>(
+        &mut self,
+        session: &mut S,
+        is_fault_of_it: bool,
+        reports: &mut T,
+    ) -> Result<(), ExchangeFault>;
+}
+
+/// Does all of it, over as many connections as it takes.
+pub(crate) fn go_over_all<R, E: GoesOn, T: Reports>(
+    rt: &R,
+    exchange: &Exchange<'_>,
+    goes: &mut E,
+    reports: &mut T,
+) -> Result<(), ExchangeFault>
+where
+    R: AllocGlobal + Net<Stream = TcpStream> + Eprint + Clock,
+{
+    let mut tries = Tries::new(exchange);
+    for _ in 0..u64::MAX {
+        if goes.is_done() {
+            break;
+        }
+        match go_over(rt, exchange, goes, &mut tries, reports) {
+            Ok(()) => break,
+            Err(fault) => tries.again(rt, exchange, fault, reports)?,
+        }
+    }
+    Ok(())
+}
+
+/// Goes on over one connection.
+fn go_over<R, E: GoesOn, T: Reports>(
+    rt: &R,
+    exchange: &Exchange<'_>,
+    goes: &mut E,
+    tries: &mut Tries,
+    reports: &mut T,
+) -> Result<(), ExchangeFault>
+where
+    R: AllocGlobal + Net<Stream = TcpStream> + Eprint + Clock,
+{
+    match meet(rt, rt.alloc(), exchange, tries.pauses(goes.has_all())) {
+        Ok(mut client) => {
+            let ended = go_to_end(goes, &mut client, reports);
+            let ended = tries.end(&client, ended, goes.noted(), reports);
+            drop(client);
+            ended
+        }
+        Err(fault) => Err(fault),
+    }
+}
+
+/// Goes on over this connection. Where all is done it does not count how the connection ended.
+fn go_to_end<E: GoesOn, S: Session, T: Reports>(
+    goes: &mut E,
+    session: &mut S,
+    reports: &mut T,
+) -> Result<(), ExchangeFault> {
+    let ended = goes.go_on(session, reports);
+    // Nothing is noted behind a line that may be torn, and what is known and could not be noted is not done.
+    if matches!(&ended, Err(ExchangeFault::Journal(_))) {
+        return ended;
+    }
+    let is_fault_of_it = matches!(&ended, Err(ExchangeFault::Client(_)));
+    match goes.wind_up(session, is_fault_of_it, reports) {
+        Ok(()) if goes.is_done() => {
+            drop(ended);
+            Ok(())
+        }
+        Ok(()) => ended,
+        failed => {
+            drop(ended);
+            failed
+        }
+    }
+}
 
 /// The connection ended without being closed as agreed, or none came about: what it was about can go on over another one.
 fn is_lost(fault: &ExchangeFault) -> bool {
@@ -42,25 +140,17 @@ fn is_lost_by(fault: &ClientFault) -> bool {
 }
 
 /// A peer that closes the connection with an error has ended it before its time, also where it has left the link in the same piece.
-fn unless_forced<R: Read, W: Write>(
-    ended: Result<(), ExchangeFault>,
-    client: &Client<R, W>,
-) -> Result<(), ExchangeFault> {
-    let is_forced = client.conn().ended_by().is_some();
+fn unless_forced(ended: Result<(), ExchangeFault>, is_forced: bool) -> Result<(), ExchangeFault> {
     match ended {
-        Err(ExchangeFault::Client(ClientFault::Closed)) if is_forced => Err(
-            ClientFault::Ended.into(),
-        ),
-        Err(ExchangeFault::Client(ClientFault::Refused(Refusal::NoLink))) if is_forced => {
-            Err(ClientFault::Ended.into())
-        }
+        Err(ExchangeFault::Client(ClientFault::Closed | ClientFault::Refused(Refusal::NoLink)))
+            if is_forced => { Err(ExchangeFault::Client(ClientFault::Ended)) }
         ended => ended,
     }
 }
 
 /// How often a peer is tried again.
 #[derive(Clone, Copy)]
-pub(crate) struct Tries {
+struct Tries {
     most: u32,
     left: u32,
     /// How many lines the journal had got when it was tried last.
@@ -70,7 +160,7 @@ pub(crate) struct Tries {
 }
 
 impl Tries {
-    pub(crate) fn new(exchange: &Exchange<'_>) -> Tries {
+    fn new(exchange: &Exchange<'_>) -> Tries {
         Tries {
             most: exchange.retries,
             left: exchange.retries,
@@ -79,9 +169,13 @@ impl Tries {
         }
     }
 
-    /// How long the peer is waited for that is to connect, in pauses; none: for good.
-    pub(crate) fn pauses(&self) -> Option<u32> {
-        if self.is_again { Some(self.most) } else { None }
+    /// How long the peer is waited for that is to connect, in pauses; none: for good. Where all is had nobody may come.
+    fn pauses(&self, has_all: bool) -> Option<u32> {
+        if has_all || self.is_again {
+            Some(self.most)
+        } else {
+            None
+        }
     }
 
     /// The peer is not tried again behind this: another connection would be of no use, or as many as may be in a row have brought nothing.
@@ -95,26 +189,21 @@ impl Tries {
     /// # Errors
     ///
     /// How it ended, and `Out` where a write fails.
-    pub(crate) fn end<R: Read, W: Write, O: Write>(
+    fn end<S: Session, T: Reports>(
         &mut self,
-        client: &Client<R, W>,
+        session: &S,
         ended: Result<(), ExchangeFault>,
         noted: u64,
-        out: &mut O,
+        reports: &mut T,
     ) -> Result<(), ExchangeFault> {
         if noted != self.noted {
             self.noted = noted;
             self.left = self.most;
         }
-        match unless_forced(ended, client) {
-            Err(fault) if self.is_last(&fault) => match tell_error(out, client, true) {
-                Ok(()) => Err(fault),
-                Err(error) => {
-                    drop(fault);
-                    Err(ExchangeFault::Out(error))
-                }
-            },
-            ended => ended,
+        let is_forced = session.end().conn().ended_by().is_some();
+        match unless_forced(ended, is_forced) {
+            Err(fault) if !self.is_last(&fault) => Err(fault),
+            ended => tell_error(session, ended, reports),
         }
     }
 
@@ -123,19 +212,19 @@ impl Tries {
     /// # Errors
     ///
     /// The fault, where it is not tried again.
-    pub(crate) fn again<R: Clock + Eprint, P: Watch>(
+    fn again<R: Clock + Eprint, T: Reports>(
         &mut self,
         rt: &R,
         exchange: &Exchange<'_>,
         fault: ExchangeFault,
-        watch: &mut P,
+        reports: &mut T,
     ) -> Result<(), ExchangeFault> {
         if self.is_last(&fault) {
             return Err(fault);
         }
         self.left = self.left.saturating_sub(1);
         self.is_again = true;
-        watch.end();
+        reports.end();
         if !exchange.is_quiet {
             let _ = eprintln!(rt; "again: {fault}");
         }
@@ -154,110 +243,70 @@ pub(crate) fn pause<R: Clock>(rt: &R) {
     thread::sleep(rt, Duration::from_millis(PAUSE));
 }
 
-/// So many deliveries may be in doubt at a time that an attach can tell of all of them.
-pub(crate) fn most_in_doubt<R: Read, W: Write>(client: &Client<R, W>) -> usize {
-    let frame = client.conn().logged().endpoint().max_frame();
-    (frame / 2 / ITEM).clamp(1, MOST) as usize
-}
-
-/// Is told each line of a journal behind the first one, in their order.
-pub(crate) trait Recalls {
-    /// False where there can be no such line behind those before.
-    fn recall(&mut self, line: &Line<'_>) -> Result<bool, ExchangeFault>;
-}
-
-/// The journal at this path, of a link on which we have this role: its lines are told.
-///
-/// # Errors
-///
-/// `NoLine` where one is none, and those of `recall`: then the file stays as it is. `Journal` where it cannot be read or opened.
-pub(crate) fn recall_journal<R: AllocGlobal + Files, T: Recalls>(
-    rt: &R,
-    path: &str,
-    role: Role,
-    to: &mut T,
-) -> Result<Journal<R::File>, ExchangeFault> {
-    let text = text_of(rt, path)?;
-    let mut link: Option<Vec<u8>> = None;
-    let whole = recall_all(rt.alloc(), text.as_slice(), role, &mut link, to)?;
-    open_journal(rt, path, whole, link)
-}
-
-/// Of the text so many octets are whole lines, and told.
-fn recall_all<T: Recalls>(
-    alloc: Global,
-    text: &[u8],
-    role: Role,
-    link: &mut Option<Vec<u8>>,
-    to: &mut T,
-) -> Result<usize, ExchangeFault> {
-    let whole = whole_lines(text);
-    let mut number: u64 = 0;
-    for line in whole.split(|octet| *octet == b'\n') {
-        number = number.saturating_add(1);
-        if !line.is_empty() && !recall_one(alloc, line, role, link, to)? {
-            return Err(ExchangeFault::NoLine(number));
-        }
-    }
-    match text.strip_prefix(whole) {
-        // Behind no line of a journal something else than its first one was torn off.
-        Some(torn) if link.is_none() && !is_front(torn) => Err(ExchangeFault::NoLine(number)),
-        _ => Ok(whole.len()),
-    }
-}
-
-/// False where there can be no such line: the first one tells the link, and no other one does.
-fn recall_one<T: Recalls>(
-    alloc: Global,
-    line: &[u8],
-    role: Role,
-    link: &mut Option<Vec<u8>>,
-    to: &mut T,
-) -> Result<bool, ExchangeFault> {
-    let Some(line) = read_line(line) else {
-        return Ok(false);
-    };
-    match line.link() {
-        Some((of, digits)) if of == role && link.is_none() => {
-            *link = Some(Vec::from_slice(alloc, digits)?);
-            Ok(true)
-        }
-        None if link.is_some() => to.recall(&line),
-        _ => Ok(false),
-    }
-}
-
 /// Session and link are there, which brings in what is in doubt, by its tags. The journal is of that link.
-pub(crate) fn join<R: Read, W: Write, F: Write + OpenFile + Drop>(
-    alloc: Global,
-    client: &mut Client<R, W>,
+pub(crate) fn join<S: Session, N: Notes>(
+    session: &mut S,
     exchange: &Exchange<'_>,
     role: Role,
-    journal: &mut Journal<F>,
+    notes: &mut N,
     tags: &[Tag],
 ) -> Result<(), ExchangeFault> {
     if exchange.is_listening {
-        client.await_link(role)?;
-        let name = client.offered_name()?;
-        journal.join(alloc, role, name.as_str())?;
-        client.answer_again(tags)?;
+        await_noted(session, role, notes)?;
     } else {
-        let name = Text::new(alloc, exchange.container_id)?;
-        journal.join(alloc, role, name.as_str())?;
-        let address = Text::new(alloc, exchange.address)?;
-        client.open_again(&name, role, &address, tags)?;
+        notes.join(role, exchange.container_id)?;
     }
-    Ok(client.await_attached()?)
+    attach(session, exchange, role, tags).map_err(ExchangeFault::Client)
+}
+
+/// The peer has offered a link, and the journal is of that.
+fn await_noted<S: Session, N: Notes>(
+    session: &mut S,
+    role: Role,
+    notes: &mut N,
+) -> Result<(), ExchangeFault> {
+    match await_link(session, role) {
+        Ok(name) => {
+            let joined = notes.join(role, name.as_str());
+            drop(name);
+            joined
+        }
+        Err(fault) => Err(ExchangeFault::Client(fault)),
+    }
+}
+
+/// The link is attached by both ends.
+fn attach<S: Session>(
+    session: &mut S,
+    exchange: &Exchange<'_>,
+    role: Role,
+    tags: &[Tag],
+) -> Result<(), ClientFault> {
+    if exchange.is_listening {
+        answer_again(session, tags)?;
+    } else {
+        open_again(session, exchange.wanted(role), tags)?;
+    }
+    await_attached(session)
 }
 
 /// A turn of the connection. What was noted is kept before anything goes out.
-pub(crate) fn turn<R: Read, W: Write, F: Write + OpenFile + Drop>(
-    client: &mut Client<R, W>,
-    journal: &mut Journal<F>,
+pub(crate) fn turn<S: Session, N: Notes>(
+    session: &mut S,
+    notes: &mut N,
 ) -> Result<(), ExchangeFault> {
-    journal.sync()?;
-    if !client.has_link() && client.conn().phase() != Phase::Closed {
+    notes.sync()?;
+    let end = session.end();
+    if !end.has_link() && end.conn().phase() != Phase::Closed {
         return Err(ExchangeFault::Client(ClientFault::Refused(Refusal::NoLink)));
     }
-    Ok(client.turn()?)
+    session.turn().map_err(ExchangeFault::Client)
+}
+
+impl End {
+    /// So many deliveries may be in doubt at a time that an attach can tell of all of them.
+    pub(crate) fn most_in_doubt(&self) -> usize {
+        let frame = self.conn().logged().endpoint().max_frame();
+        (frame / 2 / ITEM).clamp(1, MOST) as usize
+    }
 }

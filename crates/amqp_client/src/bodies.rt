@@ -180,9 +180,9 @@ fn shared(octets: Vec<u8>) -> Result<Bytes, AllocError> {
     }
 }
 
-/// The octets of such a message.
-fn message_of(alloc: Global, labels: &Labels<'_>, body: Bytes) -> Result<Bytes, ExchangeFault> {
-    let sections = sections_of(alloc, labels, body)?;
+/// The octets of a message with this body.
+fn message_of(alloc: Global, labels: &Labels<'_>, body: Vec<u8>) -> Result<Bytes, ExchangeFault> {
+    let sections = sections_of(alloc, labels, shared(body)?)?;
     let message = Message { sections };
     let mut octets = Vec::new(alloc);
     let written = write_message(&message, &mut octets);
@@ -203,19 +203,30 @@ fn fault_of(fault: WriteFault) -> ExchangeFault {
     }
 }
 
+/// Gives the messages that are sent: [`Bodies`].
+pub(crate) trait Supply {
+    /// The next message; none where there are no more.
+    ///
+    /// # Errors
+    ///
+    /// `In` where a line cannot be read, `NotWritable` and `NoMemory`.
+    fn next(&mut self) -> Result<Option<Bytes>, ExchangeFault>;
+}
+
 /// Which messages are sent.
 #[derive(Drop)]
-pub(crate) struct Bodies<'a> {
+pub(crate) struct Bodies<'a, 'b, I> {
     alloc: Global,
     labels: Labels<'a>,
     /// What is sent again and again; none where lines of the input are.
     same: Option<Bytes>,
     /// How many more times.
     left: u32,
+    input: &'b mut I,
 }
 
-impl<'a> Bodies<'a> {
-    /// The messages of this exchange, with these octets of its file.
+impl<'a, 'b, I: BufRead> Bodies<'a, 'b, I> {
+    /// The messages of this exchange, with these octets of its file, or with the lines of this input.
     ///
     /// # Errors
     ///
@@ -224,58 +235,69 @@ impl<'a> Bodies<'a> {
         alloc: Global,
         exchange: &Exchange<'a>,
         file: Option<Vec<u8>>,
-    ) -> Result<Bodies<'a>, ExchangeFault> {
-        let labels = exchange.labels;
-        let same = match file {
-            Some(octets) => Some(message_of(alloc, &labels, shared(octets)?)?),
-            None if exchange.is_lines => None,
-            None => {
-                let body = shared(vec![in alloc; 0x78u8; exchange.size as usize]?)?;
-                Some(message_of(alloc, &labels, body)?)
-            }
-        };
-        Ok(Bodies {
-            alloc,
-            labels,
-            same,
-            left: exchange.count,
-        })
+        input: &'b mut I,
+    ) -> Result<Bodies<'a, 'b, I>, ExchangeFault> {
+        match same_of(alloc, exchange, file) {
+            Ok(same) => Ok(Bodies {
+                alloc,
+                labels: exchange.labels,
+                same,
+                left: exchange.count,
+                input,
+            }),
+            Err(fault) => Err(fault),
+        }
     }
+}
 
-    /// The next message; none where there are no more.
-    ///
-    /// # Errors
-    ///
-    /// `In` where a line cannot be read, `NotWritable` and `NoMemory`.
-    pub(crate) fn next<I: BufRead>(
-        &mut self,
-        input: &mut I,
-    ) -> Result<Option<Bytes>, ExchangeFault> {
+/// The next line as a message, without its end.
+fn next_line<I: BufRead>(
+    alloc: Global,
+    labels: &Labels<'_>,
+    input: &mut I,
+) -> Result<Option<Bytes>, ExchangeFault> {
+    let mut line = Vec::new(alloc);
+    if let Err(error) = input.read_until(b'\n', &mut line) {
+        return Err(ExchangeFault::In(error));
+    }
+    if line.is_empty() {
+        return Ok(None);
+    }
+    if line.last() == Some(&b'\n') {
+        line.pop();
+    }
+    match message_of(alloc, labels, line) {
+        Ok(message) => Ok(Some(message)),
+        Err(fault) => Err(fault),
+    }
+}
+
+/// The one message, with these octets of a file or as many as are asked for; none where lines are sent.
+fn same_of(
+    alloc: Global,
+    exchange: &Exchange<'_>,
+    file: Option<Vec<u8>>,
+) -> Result<Option<Bytes>, ExchangeFault> {
+    let octets = match file {
+        Some(octets) => octets,
+        None if exchange.is_lines => return Ok(None),
+        None => vec![in alloc; 0x78u8; exchange.size as usize]?,
+    };
+    match message_of(alloc, &exchange.labels, octets) {
+        Ok(message) => Ok(Some(message)),
+        Err(fault) => Err(fault),
+    }
+}
+
+impl<I: BufRead> Supply for Bodies<'_, '_, I> {
+    fn next(&mut self) -> Result<Option<Bytes>, ExchangeFault> {
         match &self.same {
+            Some(_) if self.left == 0 => Ok(None),
             Some(same) => {
-                if self.left == 0 {
-                    return Ok(None);
-                }
                 self.left -= 1;
                 Ok(Some(same.clone()?))
             }
-            None => self.next_line(input),
+            None => next_line(self.alloc, &self.labels, self.input),
         }
-    }
-
-    /// The next line as a message, without its end.
-    fn next_line<I: BufRead>(&self, input: &mut I) -> Result<Option<Bytes>, ExchangeFault> {
-        let mut line = Vec::new(self.alloc);
-        if let Err(error) = input.read_until(b'\n', &mut line) {
-            return Err(ExchangeFault::In(error));
-        }
-        if line.is_empty() {
-            return Ok(None);
-        }
-        if line.last() == Some(&b'\n') {
-            line.pop();
-        }
-        let body = shared(line)?;
-        Ok(Some(message_of(self.alloc, &self.labels, body)?))
     }
 }

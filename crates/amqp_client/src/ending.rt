@@ -1,9 +1,9 @@
 //! Link, session and connection end, each as agreed.
-use crate::client::{Client, LINK};
+use crate::end::{Awaited, End, LINK};
 use crate::fault::ClientFault;
+use crate::session::{Session, wait_for};
 use amqp_conn::{AmqpError, Boxed, Op, Phase, Refusal, Text, ops};
 use std::alloc::{AllocError, Global};
-use std::io::{Read, Write};
 
 /// What a peer is told that has said nothing for too long (part 2, 2.4.5 and 2.8.15).
 fn silence(alloc: Global) -> Result<Boxed<AmqpError>, AllocError> {
@@ -19,36 +19,9 @@ fn silence(alloc: Global) -> Result<Boxed<AmqpError>, AllocError> {
     )
 }
 
-/// What is ended by the operation was ended by the peer first, or it is refused for another reason.
-fn unless_gone(refusal: Refusal) -> Result<(), ClientFault> {
-    match refusal {
-        Refusal::NoLink | Refusal::NotMapped | Refusal::NotRunning => Ok(()),
-        _ => Err(ClientFault::Refused(refusal)),
-    }
-}
-
-impl<R: Read, W: Write> Client<R, W> {
-    /// Detaches, ends and closes; each is awaited. Where the peer has closed first, that is the end, too.
-    ///
-    /// # Errors
-    ///
-    /// Those of `apply`, but `Closed`; and `Close`.
-    pub fn finish(&mut self) -> Result<(), ClientFault> {
-        match self.end_and_close() {
-            Err(ClientFault::Closed) => Ok(()),
-            answer => answer,
-        }
-    }
-
-    fn end_and_close(&mut self) -> Result<(), ClientFault> {
-        self.perform_unless_gone(ops::detach(LINK))?;
-        self.await_gone()?;
-        self.perform_unless_gone(ops::end())?;
-        self.close()
-    }
-
+impl End {
     /// Does the operation, which is refused where the peer has ended first what it ends.
-    fn perform_unless_gone(&mut self, op: Op) -> Result<(), ClientFault> {
+    fn leave(&mut self, op: Op) -> Result<(), ClientFault> {
         let answer = self.conn.apply(&op);
         drop(op);
         match answer {
@@ -56,41 +29,50 @@ impl<R: Read, W: Write> Client<R, W> {
                 drop(given);
                 Ok(())
             }
-            Err(refusal) => unless_gone(refusal),
+            Err(Refusal::NoLink | Refusal::NotMapped | Refusal::NotRunning) => Ok(()),
+            Err(refusal) => Err(ClientFault::Refused(refusal)),
         }
     }
 
-    fn await_gone(&mut self) -> Result<(), ClientFault> {
-        for _ in 0..u64::MAX {
-            if self.is_gone() {
-                break;
-            }
-            self.turn()?;
+    /// The session is over, and the close goes out behind its end, unless the peer has closed first.
+    fn end_and_close(&mut self) -> Result<(), ClientFault> {
+        self.leave(ops::end())?;
+        if self.conn.phase() == Phase::Closed {
+            return Ok(());
         }
-        Ok(())
+        match self.conn.close(None) {
+            Ok(()) => Ok(()),
+            Err(refusal) => Err(ClientFault::Close(refusal)),
+        }
     }
 
-    /// Closes the connection of a peer that is silent. It is told so where it still reads; its answer is not awaited.
-    pub(crate) fn leave(&mut self) {
+    /// Closes the connection of a peer that is silent, which is told so. False where that cannot be put out.
+    pub(crate) fn close_silent(&mut self) -> bool {
         match silence(self.alloc) {
-            Ok(error) => match self.conn.close(Some(error)) {
-                Ok(()) => self.write_out(),
-                Err(_) => {}
-            },
-            Err(_) => {}
+            Ok(error) => self.conn.close(Some(error)).is_ok(),
+            Err(_) => false,
         }
     }
+}
 
-    /// The close goes out behind the end, and the peer's is awaited.
-    fn close(&mut self) -> Result<(), ClientFault> {
-        if self.conn.phase() != Phase::Closed {
-            if let Err(refusal) = self.conn.close(None) {
-                return Err(ClientFault::Close(refusal));
-            }
-        }
-        for _ in 0..u64::MAX {
-            self.turn()?;
-        }
-        Ok(())
+/// Detaches, ends and closes; each is awaited. Where the peer has closed first, that is the end, too.
+///
+/// # Errors
+///
+/// Those of `apply`, but `Closed`; and `Close`.
+pub fn finish<S: Session>(session: &mut S) -> Result<(), ClientFault> {
+    match leave_all(session) {
+        Err(ClientFault::Closed) => Ok(()),
+        answer => answer,
     }
+}
+
+fn leave_all<S: Session>(session: &mut S) -> Result<(), ClientFault> {
+    session.end_mut().leave(ops::detach(LINK))?;
+    wait_for(session, Awaited::Parting)?;
+    session.end_mut().end_and_close()?;
+    for _ in 0..u64::MAX {
+        session.turn()?;
+    }
+    Ok(())
 }

@@ -1,25 +1,27 @@
 //! The commands `send` and `receive`: messages to a peer, or from one, over TCP.
-use crate::bodies::{Bodies, Labels};
-use crate::client::Client;
+use crate::bodies::Labels;
 use crate::fault::ClientFault;
-use crate::meeting::{client_of, meet, reader_of};
-use crate::printing::{Printed, write_taken};
+pub use crate::meeting::client_over;
+use crate::opening::{Wanted, answer, open};
+use crate::printing::Printed;
 use crate::progress::{Progress, Watch};
 use crate::receive_again::receive_again;
+pub use crate::receive_once::receive_all;
+use crate::receive_once::receive_once;
+use crate::report::{Output, tell_received, tell_sent};
 use crate::send_again::send_again;
+pub use crate::send_once::send_all;
+use crate::send_once::send_once;
 use crate::sending::Outcomes;
-use amqp_conn::{AmqpError, Boxed, Conn, DeliveryState, Role, Taken, Text, error_of};
+use crate::session::Session;
+use amqp_conn::Role;
 use amqp_trace::Look;
 use std::alloc::{AllocError, Global};
-use std::fmt::{Display, Formatter};
-use std::io::{BufRead, Read, Write};
+use std::io::{BufRead, Write};
 use std::net::{Net, TcpStream};
 use std::rt::{Clock, Files};
-use std::{fmt, fs, io};
+use std::{fs, io};
 use thiserror::Error;
-
-/// So many messages are sent before it is learnt what became of them.
-const BATCH: u32 = 1024;
 
 /// What is to be exchanged with which peer.
 #[derive(Clone, Copy, Debug)]
@@ -64,6 +66,39 @@ pub struct Exchange<'a> {
     pub retries: u32,
 }
 
+impl<'a> Exchange<'a> {
+    /// The link that this end asks for, for this role of ours.
+    pub(crate) fn wanted(&self, role: Role) -> Wanted<'a> {
+        Wanted {
+            name: self.container_id,
+            role,
+            address: self.address,
+        }
+    }
+
+    /// How far it is is told.
+    fn is_told(&self) -> bool {
+        !self.is_quiet && self.trace.is_none() && matches!(self.printed, Printed::Nothing)
+    }
+
+    /// How many messages there are to be; none: lines say that.
+    fn count_known(&self) -> Option<u32> {
+        if self.is_lines {
+            None
+        } else {
+            Some(self.count)
+        }
+    }
+
+    /// With how much left of so much credit it is given again.
+    pub(crate) fn least_of(&self, credit: u32) -> u32 {
+        match self.renewal {
+            Renewal::AtHalf => credit / 2,
+            _ => 0,
+        }
+    }
+}
+
 /// When `receive` gives credit.
 #[derive(Clone, Copy, Debug)]
 pub enum Renewal {
@@ -76,14 +111,14 @@ pub enum Renewal {
 }
 
 /// What `send` has done.
-#[derive(Clone, Copy, Debug, PartialEq, Eq)]
+#[derive(Clone, Copy, PartialEq, Eq)]
 pub struct Sent {
     pub count: u64,
     pub outcomes: Outcomes,
 }
 
 /// What `receive` had.
-#[derive(Clone, Copy, Debug, PartialEq, Eq)]
+#[derive(Clone, Copy, PartialEq, Eq)]
 pub struct Received {
     pub count: u64,
     /// Of whole messages, with the heads of their sections.
@@ -91,6 +126,23 @@ pub struct Received {
     /// Of these messages, those that the peer was not told to be accepted, since the link was gone: it may send them again. With a journal those of which it is
     /// not known that the peer has heard so: it may ask for that again.
     pub unsettled: u64,
+}
+
+impl Sent {
+    /// Nothing was sent yet.
+    pub(crate) const NONE: Sent = Sent {
+        count: 0,
+        outcomes: Outcomes::NONE,
+    };
+}
+
+impl Received {
+    /// Nothing was had yet.
+    pub(crate) const NONE: Received = Received {
+        count: 0,
+        octets: 0,
+        unsettled: 0,
+    };
 }
 
 /// Why an exchange fails.
@@ -138,8 +190,6 @@ impl From<AllocError> for ExchangeFault {
     }
 }
 
-type Tcp = Client<TcpStream, TcpStream>;
-
 /// Sends messages, learns what became of each, and tells in six lines how many there were, and how many were accepted, rejected, released, modified, and settled
 /// without an outcome. True where each was accepted, or they went settled.
 ///
@@ -158,42 +208,17 @@ where
     R: AllocGlobal + Net<Stream = TcpStream> + Eprint + Clock + Files,
 {
     let file = file_of(rt, exchange.file)?;
-    let mut progress = Progress::new(rt, is_told(exchange), wanted_of(exchange));
+    let mut progress = Progress::new(rt, exchange.is_told(), exchange.count_known());
+    let mut output = Output::new(alloc, exchange.printed, out, &mut progress);
     let sent = match exchange.journal {
-        Some(path) => send_again(rt, exchange, path, file, input, out, &mut progress),
-        None => send_once(rt, alloc, exchange, file, input, out, &mut progress),
+        Some(path) => send_again(rt, exchange, path, file, input, &mut output),
+        None => send_once(rt, alloc, exchange, file, input, &mut output),
     };
-    progress.end();
+    output.end();
+    drop(output);
     let sent = sent?;
-    tell_sent(out, &sent).map_err(ExchangeFault::Out)?;
+    tell_sent(out, &sent)?;
     Ok(exchange.is_settled || sent.outcomes.accepted == sent.count)
-}
-
-/// Sends them over one connection.
-fn send_once<R, I: BufRead, W: Write, P: Watch>(
-    rt: &R,
-    alloc: Global,
-    exchange: &Exchange<'_>,
-    file: Option<Vec<u8>>,
-    input: &mut I,
-    out: &mut W,
-    watch: &mut P,
-) -> Result<Sent, ExchangeFault>
-where
-    R: Net<Stream = TcpStream> + Eprint + Clock,
-{
-    let mut client = match meet(rt, alloc, exchange, None) {
-        Ok(client) => client,
-        Err(fault) => {
-            drop(file);
-            return Err(fault);
-        }
-    };
-    let sent = send_all(alloc, &mut client, exchange, file, input, watch);
-    let told = tell_error(out, &client, sent.is_err());
-    drop(client);
-    told.map_err(ExchangeFault::Out)?;
-    sent
 }
 
 /// Takes messages, prints what is asked for of each, accepts it, and tells in three lines how many there were, how many octets they had, and how many could not be
@@ -211,45 +236,33 @@ pub fn run_receive<R, W: Write>(
 where
     R: AllocGlobal + Net<Stream = TcpStream> + Eprint + Clock + Files,
 {
-    let mut progress = Progress::new(rt, is_told(exchange), wanted_of(exchange));
+    let mut progress = Progress::new(rt, exchange.is_told(), exchange.count_known());
+    let mut output = Output::new(alloc, exchange.printed, out, &mut progress);
     let received = match exchange.journal {
-        Some(path) => receive_again(rt, exchange, path, out, &mut progress),
-        None => receive_once(rt, alloc, exchange, out, &mut progress),
+        Some(path) => receive_again(rt, exchange, path, &mut output),
+        None => receive_once(rt, alloc, exchange, &mut output),
     };
-    progress.end();
+    output.end();
+    drop(output);
     let received = received?;
-    if !is_alone(exchange.printed) {
-        tell_received(out, received).map_err(ExchangeFault::Out)?;
-    } else if received.unsettled != 0 {
-        return Err(unsettled(exchange, received.unsettled));
-    }
+    tell_unless_alone(exchange, received, out)?;
     Ok(received.unsettled == 0)
 }
 
-fn unsettled(exchange: &Exchange<'_>, count: u64) -> ExchangeFault {
-    match exchange.journal {
-        Some(_) => ExchangeFault::Doubted(count),
-        None => ExchangeFault::Unsettled(count),
-    }
-}
-
-/// Takes them over one connection.
-fn receive_once<R, W: Write, P: Watch>(
-    rt: &R,
-    alloc: Global,
+/// Tells what was had, but where nothing is printed beside the messages.
+fn tell_unless_alone<W: Write>(
     exchange: &Exchange<'_>,
+    received: Received,
     out: &mut W,
-    watch: &mut P,
-) -> Result<Received, ExchangeFault>
-where
-    R: Net<Stream = TcpStream> + Eprint + Clock,
-{
-    let mut client = meet(rt, alloc, exchange, None)?;
-    let received = receive_all(alloc, &mut client, exchange, out, watch);
-    let told = tell_error(out, &client, received.is_err());
-    drop(client);
-    told.map_err(ExchangeFault::Out)?;
-    received
+) -> Result<(), ExchangeFault> {
+    if !matches!(exchange.printed, Printed::Bodies | Printed::Json) {
+        return tell_received(out, received);
+    }
+    match exchange.journal {
+        _ if received.unsettled == 0 => Ok(()),
+        Some(_) => Err(ExchangeFault::Doubted(received.unsettled)),
+        None => Err(ExchangeFault::Unsettled(received.unsettled)),
+    }
 }
 
 /// The octets of the file, if there is one.
@@ -258,381 +271,24 @@ fn file_of<R: AllocGlobal + Files>(
     file: Option<&str>,
 ) -> Result<Option<Vec<u8>>, ExchangeFault> {
     match file {
-        Some(path) => Ok(Some(fs::read(rt, path).map_err(ExchangeFault::File)?)),
+        Some(path) => match fs::read(rt, path) {
+            Ok(octets) => Ok(Some(octets)),
+            Err(error) => Err(ExchangeFault::File(error)),
+        },
         None => Ok(None),
     }
 }
 
-/// How far it is is told.
-fn is_told(exchange: &Exchange<'_>) -> bool {
-    !exchange.is_quiet && exchange.trace.is_none() && matches!(exchange.printed, Printed::Nothing)
-}
-
-/// How many messages there are to be; none: lines say that.
-fn wanted_of(exchange: &Exchange<'_>) -> Option<u32> {
-    if exchange.is_lines {
-        None
-    } else {
-        Some(exchange.count)
-    }
-}
-
-/// Nothing is printed beside it.
-fn is_alone(printed: Printed) -> bool {
-    matches!(printed, Printed::Bodies | Printed::Json)
-}
-
-/// Where it failed: the error that the peer told by its close, or by the frame that came last.
-pub(crate) fn tell_error<R: Read, W: Write, O: Write>(
-    out: &mut O,
-    client: &Client<R, W>,
-    has_failed: bool,
-) -> io::Result<()> {
-    match last_error(client.conn()) {
-        Some(error) if has_failed => tell_condition(out, error),
-        _ => Ok(()),
-    }
-}
-
-fn last_error(conn: &Conn) -> Option<&AmqpError> {
-    if let Some(error) = conn.ended_by() {
-        return Some(error);
-    }
-    match conn.heard() {
-        Some(frame) => error_of(frame),
-        None => None,
-    }
-}
-
-fn tell_condition<W: Write>(out: &mut W, error: &AmqpError) -> io::Result<()> {
-    let condition = Shown(error.condition.as_str());
-    match &error.description {
-        Some(description) => writeln!(out, "told {condition} {}", Shown(description.as_str()))?,
-        None => writeln!(out, "told {condition}")?,
-    }
-    out.flush()
-}
-
-/// A text of the peer's in a line of ours: what could end that, or steer a terminal, is escaped.
-#[derive(Clone, Copy)]
-struct Shown<'a>(&'a str);
-
-impl Display for Shown<'_> {
-    fn fmt<W: fmt::Write>(&self, f: &mut Formatter<W>) -> fmt::Result {
-        for it in self.0.chars() {
-            if it.is_control() || it == '\\' {
-                write!(f, "\\x{:02x}", u32::from(it))?;
-            } else {
-                f.write_char(it)?;
-            }
-        }
-        Ok(())
-    }
-}
-
-fn tell_sent<W: Write>(out: &mut W, sent: &Sent) -> io::Result<()> {
-    let outcomes = &sent.outcomes;
-    write!(
-        out,
-        "sent {}\naccepted {}\nrejected {}\nreleased {}\nmodified {}\nunknown {}\n",
-        sent.count,
-        outcomes.accepted,
-        outcomes.rejected,
-        outcomes.released,
-        outcomes.modified,
-        outcomes.unknown
-    )?;
-    out.flush()
-}
-
-fn tell_received<W: Write>(out: &mut W, received: Received) -> io::Result<()> {
-    write!(
-        out,
-        "received {}\noctets {}\nunsettled {}\n",
-        received.count, received.octets, received.unsettled
-    )?;
-    out.flush()
-}
-
-/// An end over the stream. Its reads wait for a [`TICK`](crate::TICK); the peer is told half of what it is waited for (part 2, 2.4.5).
-pub fn client_over(
-    alloc: Global,
-    stream: TcpStream,
-    exchange: &Exchange<'_>,
-) -> Result<Tcp, ExchangeFault> {
-    let reader = reader_of(&stream, exchange.patience).map_err(ExchangeFault::Socket)?;
-    client_of(alloc, reader, stream, exchange)
-}
-
 /// The session and its link.
-fn begin<R: Read, W: Write>(
-    alloc: Global,
-    client: &mut Client<R, W>,
+pub(crate) fn begin<S: Session>(
+    session: &mut S,
     exchange: &Exchange<'_>,
     role: Role,
 ) -> Result<(), ExchangeFault> {
-    if exchange.is_listening {
-        return Ok(client.answer(role)?);
-    }
-    let name = Text::new(alloc, exchange.container_id)?;
-    let address = Text::new(alloc, exchange.address)?;
-    Ok(client.open(&name, role, &address)?)
-}
-
-/// Sends all messages over this end, each with these octets of a file as its body, where there are some, learns what became of each, and ends link, session and
-/// connection.
-///
-/// # Errors
-///
-/// Where the peer ends, an operation is refused, a line cannot be read, a message cannot be written, or memory is refused.
-pub fn send_all<R: Read, W: Write, I: BufRead, P: Watch>(
-    alloc: Global,
-    client: &mut Client<R, W>,
-    exchange: &Exchange<'_>,
-    file: Option<Vec<u8>>,
-    input: &mut I,
-    watch: &mut P,
-) -> Result<Sent, ExchangeFault> {
-    let mut bodies = Bodies::new(alloc, exchange, file)?;
-    let sent = send_bodies(alloc, client, exchange, &mut bodies, input, watch);
-    drop(bodies);
-    sent
-}
-
-fn send_bodies<R: Read, W: Write, I: BufRead, P: Watch>(
-    alloc: Global,
-    client: &mut Client<R, W>,
-    exchange: &Exchange<'_>,
-    bodies: &mut Bodies<'_>,
-    input: &mut I,
-    watch: &mut P,
-) -> Result<Sent, ExchangeFault> {
-    begin(alloc, client, exchange, Role::Sender)?;
-    let mut sent = Sent {
-        count: 0,
-        outcomes: Outcomes::NONE,
+    let begun = if exchange.is_listening {
+        answer(session, role)
+    } else {
+        open(session, exchange.wanted(role))
     };
-    for first in (0..u32::MAX).step_by(BATCH as usize) {
-        let count = send_batch(client, exchange, bodies, input, first, watch)?;
-        if count < BATCH {
-            client.give_up();
-        }
-        if !exchange.is_settled {
-            learn_batch(client, first, count, &mut sent.outcomes)?;
-        }
-        sent.count = sent.count.saturating_add(u64::from(count));
-        if count < BATCH {
-            break;
-        }
-    }
-    client.finish()?;
-    Ok(sent)
-}
-
-/// Sends messages from this number on, `BATCH` at most: how many. Fewer are the last ones.
-fn send_batch<R: Read, W: Write, I: BufRead, P: Watch>(
-    client: &mut Client<R, W>,
-    exchange: &Exchange<'_>,
-    bodies: &mut Bodies<'_>,
-    input: &mut I,
-    first: u32,
-    watch: &mut P,
-) -> Result<u32, ExchangeFault> {
-    for place in 0..BATCH {
-        let number = first.saturating_add(place);
-        if !send_next(client, exchange, bodies, input, number)? {
-            return Ok(place);
-        }
-        watch.note(u64::from(number).saturating_add(1));
-    }
-    Ok(BATCH)
-}
-
-/// False where there is no message more.
-fn send_next<R: Read, W: Write, I: BufRead>(
-    client: &mut Client<R, W>,
-    exchange: &Exchange<'_>,
-    bodies: &mut Bodies<'_>,
-    input: &mut I,
-    number: u32,
-) -> Result<bool, ExchangeFault> {
-    let next = bodies.next(input)?;
-    match next {
-        Some(message) => {
-            let sent = client.send(number, &message, exchange.is_settled);
-            drop(message);
-            match sent {
-                Ok(()) => Ok(true),
-                Err(fault) => Err(ExchangeFault::Client(fault)),
-            }
-        }
-        None => Ok(false),
-    }
-}
-
-/// Learns what became of so many messages from this number on: `BATCH` at most. What is told of one once more is passed over.
-fn learn_batch<R: Read, W: Write>(
-    client: &mut Client<R, W>,
-    first: u32,
-    count: u32,
-    outcomes: &mut Outcomes,
-) -> Result<(), ClientFault> {
-    let mut known = [false; BATCH as usize];
-    let mut left = count;
-    for _ in 0..u64::MAX {
-        if left == 0 {
-            break;
-        }
-        let told = client.learn()?;
-        if is_new(&mut known, told.number.wrapping_sub(first)) {
-            outcomes.count(told.outcome);
-            left = left.saturating_sub(1);
-        }
-    }
-    Ok(())
-}
-
-/// Whether the one at this place was not marked yet; it is then.
-fn is_new(known: &mut [bool], place: u32) -> bool {
-    match known.get_mut(place as usize) {
-        Some(mark) => {
-            let was_known = *mark;
-            *mark = true;
-            !was_known
-        }
-        None => false,
-    }
-}
-
-/// Takes all messages over this end, prints what is asked for of each, accepts it, and ends link, session and connection.
-///
-/// # Errors
-///
-/// Where the peer ends, an operation is refused, a write fails, or memory is refused.
-pub fn receive_all<R: Read, W: Write, O: Write, P: Watch>(
-    alloc: Global,
-    client: &mut Client<R, W>,
-    exchange: &Exchange<'_>,
-    out: &mut O,
-    watch: &mut P,
-) -> Result<Received, ExchangeFault> {
-    begin(alloc, client, exchange, Role::Receiver)?;
-    let mut received = Received {
-        count: 0,
-        octets: 0,
-        unsettled: 0,
-    };
-    match exchange.renewal {
-        Renewal::Drain => drain_all(alloc, client, exchange, &mut received, out, watch)?,
-        _ => take_all(alloc, client, exchange, &mut received, out, watch)?,
-    }
-    client.finish()?;
-    Ok(received)
-}
-
-/// Takes as many messages as are asked for.
-fn take_all<R: Read, W: Write, O: Write, P: Watch>(
-    alloc: Global,
-    client: &mut Client<R, W>,
-    exchange: &Exchange<'_>,
-    received: &mut Received,
-    out: &mut O,
-    watch: &mut P,
-) -> Result<(), ExchangeFault> {
-    for number in 0..exchange.count {
-        renew(client, exchange, exchange.count.saturating_sub(number))?;
-        let taken = client.take()?;
-        accept(alloc, client, exchange.printed, taken, received, out)?;
-        watch.note(received.count);
-    }
-    Ok(())
-}
-
-/// Takes messages until the peer has no more, or there were as many as are asked for.
-fn drain_all<R: Read, W: Write, O: Write, P: Watch>(
-    alloc: Global,
-    client: &mut Client<R, W>,
-    exchange: &Exchange<'_>,
-    received: &mut Received,
-    out: &mut O,
-    watch: &mut P,
-) -> Result<(), ExchangeFault> {
-    let mut given = 0;
-    for _ in 0..exchange.count {
-        renew_drain(client, exchange, received.count, &mut given)?;
-        match client.take_drained()? {
-            Some(taken) => accept(alloc, client, exchange.printed, taken, received, out)?,
-            None if last_error(client.conn()).is_some() => return Err(ClientFault::Ended.into()),
-            None => return Ok(()),
-        }
-        watch.note(received.count);
-    }
-    Ok(())
-}
-
-/// Credit is given again once so many messages were taken as were granted until now.
-fn renew_drain<R: Read, W: Write>(
-    client: &mut Client<R, W>,
-    exchange: &Exchange<'_>,
-    taken: u64,
-    given: &mut u64,
-) -> Result<(), ClientFault> {
-    if client.is_gone() {
-        return Ok(());
-    }
-    if taken != *given {
-        return Ok(());
-    }
-    let wanted = u64::from(exchange.count).saturating_sub(taken);
-    let credit = wanted.min(u64::from(exchange.credit)) as u32;
-    *given = given.saturating_add(u64::from(credit));
-    client.drain(credit)
-}
-
-/// Credit is given again as is asked for, and never for more messages than are still wanted.
-fn renew<R: Read, W: Write>(
-    client: &mut Client<R, W>,
-    exchange: &Exchange<'_>,
-    wanted: u32,
-) -> Result<(), ClientFault> {
-    if client.is_gone() {
-        return Ok(());
-    }
-    let credit = client.credit();
-    if credit >= wanted || credit > least_of(exchange.renewal, exchange.credit) {
-        return Ok(());
-    }
-    client.grant(exchange.credit.min(wanted))
-}
-
-/// With how much left of so much credit it is given again.
-pub(crate) fn least_of(renewal: Renewal, credit: u32) -> u32 {
-    match renewal {
-        Renewal::AtHalf => credit / 2,
-        _ => 0,
-    }
-}
-
-/// Counts the message, prints what is asked for of it, and accepts it unless it came settled.
-fn accept<R: Read, W: Write, O: Write>(
-    alloc: Global,
-    client: &mut Client<R, W>,
-    printed: Printed,
-    taken: Boxed<Taken>,
-    received: &mut Received,
-    out: &mut O,
-) -> Result<(), ExchangeFault> {
-    let (id, is_settled, octets) = {
-        let taken = taken.get();
-        (taken.id, taken.settled, taken.payload.len() as u64)
-    };
-    let written = write_taken(alloc, printed, &taken.get().payload, out);
-    drop(taken);
-    written?;
-    received.count = received.count.saturating_add(1);
-    received.octets = received.octets.saturating_add(octets);
-    if !is_settled && !client.settle_as(id, DeliveryState::Accepted)? {
-        received.unsettled = received.unsettled.saturating_add(1);
-    }
-    Ok(())
+    begun.map_err(ExchangeFault::Client)
 }

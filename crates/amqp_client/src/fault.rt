@@ -3,7 +3,7 @@ use amqp_conn::{CloseRefusal, PumpFault, Refusal, StartFault};
 use thiserror::Error;
 
 /// Why a client stops.
-#[derive(Clone, Copy, Debug, PartialEq, Eq, Error)]
+#[derive(Clone, Copy, Debug, Error)]
 pub enum ClientFault {
     #[error("the connection cannot start: {0}")]
     Start(StartFault),

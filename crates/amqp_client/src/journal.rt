@@ -10,7 +10,7 @@ use std::rt::Files;
 use std::{fmt, fs, io};
 
 /// What a line of a journal says.
-#[derive(Clone, Copy, Debug, PartialEq, Eq)]
+#[derive(Clone, Copy)]
 pub enum Line<'a> {
     /// `sender NAME` or `receiver NAME`: this end of the link with that name, which is in hexadecimal.
     Link(Role, &'a [u8]),
@@ -22,48 +22,6 @@ pub enum Line<'a> {
     Taken(Tag, u64),
     /// `settled TAG`: its sender knows that, or has settled it, and asks no more.
     Settled(Tag),
-}
-
-impl<'a> Line<'a> {
-    /// Our role on the link, and the link's name in hexadecimal, where it tells these.
-    pub(crate) fn link(&self) -> Option<(Role, &'a [u8])> {
-        match self {
-            Line::Link(role, name) => Some((*role, *name)),
-            _ => None,
-        }
-    }
-
-    /// The number of a message that begins.
-    pub(crate) fn begun(&self) -> Option<u32> {
-        match self {
-            Line::Begun(number) => Some(*number),
-            _ => None,
-        }
-    }
-
-    /// What became of the message with which number.
-    pub(crate) fn told(&self) -> Option<(Outcome, u32)> {
-        match self {
-            Line::Told(outcome, number) => Some((*outcome, *number)),
-            _ => None,
-        }
-    }
-
-    /// The tag of a message that was taken, and how many octets it has.
-    pub(crate) fn taken(&self) -> Option<(Tag, u64)> {
-        match self {
-            Line::Taken(tag, octets) => Some((*tag, *octets)),
-            _ => None,
-        }
-    }
-
-    /// The tag of a message that its sender knows to be accepted.
-    pub(crate) fn settled(&self) -> Option<Tag> {
-        match self {
-            Line::Settled(tag) => Some(*tag),
-            _ => None,
-        }
-    }
 }
 
 impl Display for Line<'_> {
@@ -223,9 +181,37 @@ pub(crate) fn is_front(torn: &[u8]) -> bool {
     false
 }
 
+/// Is noted what becomes of messages: a [`Journal`].
+pub(crate) trait Notes {
+    /// How many lines were noted since it was opened.
+    fn noted(&self) -> u64;
+
+    /// It goes on with the link of this name, for this role of ours.
+    ///
+    /// # Errors
+    ///
+    /// `OtherLink` where it was kept of a link of another name, and those of `note`.
+    fn join(&mut self, role: Role, name: &str) -> Result<(), ExchangeFault>;
+
+    /// Writes the line, behind those that stand there.
+    ///
+    /// # Errors
+    ///
+    /// `Journal` where the write fails.
+    fn note(&mut self, line: &Line<'_>) -> Result<(), ExchangeFault>;
+
+    /// What was noted is on the disk, and may be told.
+    ///
+    /// # Errors
+    ///
+    /// `Journal` where that fails.
+    fn sync(&mut self) -> Result<(), ExchangeFault>;
+}
+
 /// A journal, to be gone on with.
 #[derive(Drop)]
 pub(crate) struct Journal<F> {
+    alloc: Global,
     file: F,
     /// The line that is written next.
     line: Vec<u8>,
@@ -258,6 +244,7 @@ pub(crate) fn open_journal<R: AllocGlobal + Files>(
 ) -> Result<Journal<R::File>, ExchangeFault> {
     match open_file(rt, path, whole) {
         Ok(file) => Ok(Journal {
+            alloc: rt.alloc(),
             file,
             line: Vec::new(rt.alloc()),
             link,
@@ -290,45 +277,45 @@ fn digits_of(alloc: Global, name: &str) -> Result<Vec<u8>, ExchangeFault> {
     }
 }
 
-fn put<W: Write>(out: &mut W, line: &Line<'_>) -> io::Result<()> {
-    writeln!(out, "{line}")
-}
-
 impl<F: Write + OpenFile + Drop> Journal<F> {
-    /// How many lines were noted since it was opened.
-    pub(crate) fn noted(&self) -> u64 {
-        self.noted
+    /// In one write, so that a line is torn by nothing but a kill in its middle.
+    fn write(&mut self, line: &Line<'_>) -> io::Result<()> {
+        self.line.clear();
+        writeln!(&mut self.line, "{line}")?;
+        self.file.write_all(self.line.as_slice())?;
+        self.file.flush()
     }
 
-    /// It goes on with the link of this name, for this role of ours.
-    ///
-    /// # Errors
-    ///
-    /// `OtherLink` where it was kept of a link of another name, and those of `note`.
-    pub(crate) fn join(
-        &mut self,
-        alloc: Global,
-        role: Role,
-        name: &str,
-    ) -> Result<(), ExchangeFault> {
-        let digits = digits_of(alloc, name)?;
-        match &self.link {
-            Some(link) if link.as_slice() == digits.as_slice() => Ok(()),
-            Some(_) => Err(ExchangeFault::OtherLink),
-            None => {
-                self.note(&Line::Link(role, digits.as_slice()))?;
+    /// It tells its link first, by its name in hexadecimal.
+    fn begin(&mut self, role: Role, digits: Vec<u8>) -> Result<(), ExchangeFault> {
+        match self.note(&Line::Link(role, digits.as_slice())) {
+            Ok(()) => {
                 self.link = Some(digits);
                 self.sync()
             }
+            fault => {
+                drop(digits);
+                fault
+            }
+        }
+    }
+}
+
+impl<F: Write + OpenFile + Drop> Notes for Journal<F> {
+    fn noted(&self) -> u64 {
+        self.noted
+    }
+
+    fn join(&mut self, role: Role, name: &str) -> Result<(), ExchangeFault> {
+        let digits = digits_of(self.alloc, name)?;
+        match &self.link {
+            Some(link) if link.as_slice() == digits.as_slice() => Ok(()),
+            Some(_) => Err(ExchangeFault::OtherLink),
+            None => self.begin(role, digits),
         }
     }
 
-    /// Writes the line, behind those that stand there.
-    ///
-    /// # Errors
-    ///
-    /// `Journal` where the write fails.
-    pub(crate) fn note(&mut self, line: &Line<'_>) -> Result<(), ExchangeFault> {
+    fn note(&mut self, line: &Line<'_>) -> Result<(), ExchangeFault> {
         match self.write(line) {
             Ok(()) => {
                 self.noted = self.noted.saturating_add(1);
@@ -338,20 +325,7 @@ impl<F: Write + OpenFile + Drop> Journal<F> {
         }
     }
 
-    /// In one write, so that a line is torn by nothing but a kill in its middle.
-    fn write(&mut self, line: &Line<'_>) -> io::Result<()> {
-        self.line.clear();
-        put(&mut self.line, line)?;
-        self.file.write_all(self.line.as_slice())?;
-        self.file.flush()
-    }
-
-    /// What was noted is on the disk, and may be told.
-    ///
-    /// # Errors
-    ///
-    /// `Journal` where that fails.
-    pub(crate) fn sync(&mut self) -> Result<(), ExchangeFault> {
+    fn sync(&mut self) -> Result<(), ExchangeFault> {
         if self.synced == self.noted {
             return Ok(());
         }

@@ -2,6 +2,8 @@
 use crate::again::pause;
 use crate::client::Client;
 use crate::exchange::{Exchange, ExchangeFault};
+use crate::report::{Reports, tell_error};
+use crate::session::Session;
 use crate::traced::Traced;
 use crate::waits::TICK;
 use amqp_conn::{Config, Text};
@@ -15,6 +17,35 @@ use std::time::Duration;
 
 /// An end of which each frame may be told.
 type Told<'a, E> = Client<Traced<'a, TcpStream, E>, Traced<'a, TcpStream, E>>;
+
+/// An exchange, as it runs over one connection.
+pub(crate) trait Runs {
+    /// Does all of it, and ends link, session and connection.
+    fn run<S: Session, T: Reports>(
+        &mut self,
+        session: &mut S,
+        reports: &mut T,
+    ) -> Result<(), ExchangeFault>;
+}
+
+/// Meets the peer, and does the exchange. Where that fails the error is told that the peer told.
+pub(crate) fn run_over<R: Net<Stream = TcpStream> + Eprint + Clock, E: Runs, T: Reports>(
+    rt: &R,
+    alloc: Global,
+    exchange: &Exchange<'_>,
+    runs: &mut E,
+    reports: &mut T,
+) -> Result<(), ExchangeFault> {
+    match meet(rt, alloc, exchange, None) {
+        Ok(mut client) => {
+            let ended = runs.run(&mut client, reports);
+            let ended = tell_error(&client, ended, reports);
+            drop(client);
+            ended
+        }
+        Err(fault) => Err(fault),
+    }
+}
 
 /// The peer, over a socket. One that is to connect is waited for so many pauses; none: for good.
 pub(crate) fn meet<'a, R: Net<Stream = TcpStream> + Eprint + Clock>(
@@ -115,7 +146,17 @@ fn without_delay(stream: TcpStream) -> io::Result<TcpStream> {
     }
 }
 
-pub(crate) fn client_of<R: Drop, W: Drop>(
+/// An end over the stream. Its reads wait for a [`TICK`](crate::TICK); the peer is told half of what it is waited for (part 2, 2.4.5).
+pub fn client_over(
+    alloc: Global,
+    stream: TcpStream,
+    exchange: &Exchange<'_>,
+) -> Result<Client<TcpStream, TcpStream>, ExchangeFault> {
+    let reader = reader_of(&stream, exchange.patience).map_err(ExchangeFault::Socket)?;
+    client_of(alloc, reader, stream, exchange)
+}
+
+fn client_of<R: Drop, W: Drop>(
     alloc: Global,
     reader: R,
     writer: W,
@@ -131,7 +172,7 @@ pub(crate) fn client_of<R: Drop, W: Drop>(
 }
 
 /// A second hand on the stream, whose reads and writes have their limits.
-pub(crate) fn reader_of(stream: &TcpStream, patience: Option<u32>) -> io::Result<TcpStream> {
+fn reader_of(stream: &TcpStream, patience: Option<u32>) -> io::Result<TcpStream> {
     stream.set_read_timeout(Some(Duration::from_millis(u64::from(TICK))))?;
     if let Some(seconds) = patience {
         stream.set_write_timeout(Some(Duration::from_secs(u64::from(seconds))))?;

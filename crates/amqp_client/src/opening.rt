@@ -1,82 +1,20 @@
 //! The session and its one link.
-use crate::client::{Client, LINK, had};
+use crate::end::{Awaited, End, LINK};
 use crate::fault::ClientFault;
+use crate::session::{Session, perform, wait_for};
 use amqp_conn::{
-    Boxed, Brought, Conn, DeliveryState, LinkEnd, Op, Refusal, Rejoin, Role, SuspendedItem, Tag,
-    Text, Value, ops,
+    Boxed, Brought, DeliveryState, Link, Op, Refusal, Rejoin, Role, SuspendedItem, Tag, Text, ops,
 };
 use amqp_performatives::copying::copy_value;
 use amqp_types::Items;
 use std::alloc::{AllocError, Global};
-use std::io::{Read, Write};
 
-/// The peer has begun its session.
-fn has_begun(conn: &Conn) -> bool {
-    conn.logged().endpoint().windows().next_in.is_some()
-}
-
-/// The role that the peer leaves to us on the link that it offers.
-fn offered_role(conn: &Conn) -> Option<Role> {
-    match conn.logged().endpoint().status(LINK) {
-        Some(status) => Some(status.role),
-        None => None,
-    }
-}
-
-/// An attach that answers the peer's: with its name, its source and its target (part 2, 2.6.3), and deliveries of these tags. None where it offers no link.
-fn answer_of(alloc: Global, conn: &Conn, tags: &[Tag]) -> Result<Option<Op>, AllocError> {
-    let Some(link) = conn.logged().endpoint().link_of(LINK) else {
-        return Ok(None);
-    };
-    match link.theirs() {
-        Some(theirs) => {
-            let termini = termini_of(theirs)?;
-            Ok(Some(attach_of(alloc, link.name(), link.role(), termini, tags)?))
-        }
-        None => Ok(None),
-    }
-}
-
-/// A source and a target.
-type Termini = (Option<Boxed<Value>>, Option<Boxed<Value>>);
-
-/// An attach of a link of this name, with these ends, which brings in deliveries of these tags; without any it has no `unsettled`.
-fn attach_of(
-    alloc: Global,
-    name: &Text,
-    role: Role,
-    termini: Termini,
-    tags: &[Tag],
-) -> Result<Op, AllocError> {
-    let name = name.clone()?;
-    let items = brought(alloc, role, tags)?;
-    let (source, target) = termini;
-    let rejoin = Rejoin {
-        name,
-        role,
-        snd: ops::SENDER_MIXED,
-        rcv: ops::RECEIVER_FIRST,
-        source,
-        target,
-        count: 0,
-        max_message: 0,
-        items,
-    };
-    Ok(Op::Rejoin(Boxed::new(alloc, rejoin)?))
-}
-
-/// Copies of source and target.
-fn termini_of(end: &LinkEnd) -> Result<Termini, AllocError> {
-    let source = copy_value(&end.source)?;
-    let target = copy_value(&end.target)?;
-    Ok((source, target))
-}
-
-/// A source and a target with these addresses.
-fn termini_at(alloc: Global, source: &Text, target: &Text) -> Result<Termini, AllocError> {
-    let source = ops::source(alloc, source.clone()?)?;
-    let target = ops::target(alloc, target.clone()?)?;
-    Ok((Some(source), Some(target)))
+/// A link that is to be opened: of this name, which it has from us, for this role of ours, with this address at the peer.
+#[derive(Clone, Copy)]
+pub struct Wanted<'a> {
+    pub name: &'a str,
+    pub role: Role,
+    pub address: &'a str,
 }
 
 /// What this end has of each delivery that it brings in: it sent them, and knows no more, or it has accepted them (part 2, 2.6.13).
@@ -92,116 +30,169 @@ fn brought(alloc: Global, role: Role, tags: &[Tag]) -> Result<Brought, AllocErro
     Brought::new(alloc, items)
 }
 
-impl<R: Read, W: Write> Client<R, W> {
-    /// Begins the session, and attaches a link of this name, for this role of ours, with this address at the peer.
-    ///
-    /// # Errors
-    ///
-    /// Those of `apply`, and `NoMemory`.
-    pub fn open(&mut self, name: &Text, role: Role, address: &Text) -> Result<(), ClientFault> {
-        self.open_again(name, role, address, &[])
+/// An attach of a link of this name that has no ends yet, and brings in deliveries of these tags; without any it has no `unsettled`.
+fn attach_of(alloc: Global, name: Text, role: Role, tags: &[Tag]) -> Result<Rejoin, AllocError> {
+    match brought(alloc, role, tags) {
+        Ok(items) => Ok(Rejoin {
+            name,
+            role,
+            snd: ops::SENDER_MIXED,
+            rcv: ops::RECEIVER_FIRST,
+            source: None,
+            target: None,
+            count: 0,
+            max_message: 0,
+            items,
+        }),
+        Err(error) => {
+            drop(name);
+            Err(error)
+        }
     }
+}
 
-    fn attach(
-        &self,
-        name: &Text,
-        role: Role,
-        address: &Text,
-        tags: &[Tag],
-    ) -> Result<Op, AllocError> {
-        let (source, target) = match role {
-            Role::Sender => (name, address),
-            Role::Receiver => (address, name),
-        };
-        let termini = termini_at(self.alloc, source, target)?;
-        attach_of(self.alloc, name, role, termini, tags)
+/// The operation of that attach, whose ends were set so.
+fn attach_with(
+    alloc: Global,
+    rejoin: Rejoin,
+    ended: Result<(), AllocError>,
+) -> Result<Op, AllocError> {
+    match ended {
+        Ok(()) => Ok(Op::Rejoin(Boxed::new(alloc, rejoin)?)),
+        Err(error) => {
+            drop(rejoin);
+            Err(error)
+        }
     }
+}
 
-    fn perform_attach(&mut self, attach: Op) -> Result<(), ClientFault> {
-        self.perform(attach)?;
-        self.is_opened = true;
-        Ok(())
+/// An attach of a link that we ask for.
+fn asking(alloc: Global, wanted: Wanted<'_>, tags: &[Tag]) -> Result<Op, AllocError> {
+    let name = Text::new(alloc, wanted.name)?;
+    let mut rejoin = attach_of(alloc, name, wanted.role, tags)?;
+    let ended = match wanted.role {
+        Role::Sender => set_addresses(alloc, &mut rejoin, wanted.name, wanted.address),
+        Role::Receiver => set_addresses(alloc, &mut rejoin, wanted.address, wanted.name),
+    };
+    attach_with(alloc, rejoin, ended)
+}
+
+/// From the source with the one address to the target with the other.
+fn set_addresses(
+    alloc: Global,
+    rejoin: &mut Rejoin,
+    source: &str,
+    target: &str,
+) -> Result<(), AllocError> {
+    rejoin.source = Some(ops::source(alloc, Text::new(alloc, source)?)?);
+    rejoin.target = Some(ops::target(alloc, Text::new(alloc, target)?)?);
+    Ok(())
+}
+
+/// An attach that answers the peer's: with its name, its source and its target (part 2, 2.6.3).
+fn answering(alloc: Global, link: &Link, tags: &[Tag]) -> Result<Op, AllocError> {
+    let mut rejoin = attach_of(alloc, link.name().clone()?, link.role(), tags)?;
+    let ended = set_as_theirs(&mut rejoin, link);
+    attach_with(alloc, rejoin, ended)
+}
+
+/// Between the ends that the peer told.
+fn set_as_theirs(rejoin: &mut Rejoin, link: &Link) -> Result<(), AllocError> {
+    if let Some(theirs) = link.theirs() {
+        rejoin.source = copy_value(&theirs.source)?;
+        rejoin.target = copy_value(&theirs.target)?;
     }
+    Ok(())
+}
 
-    /// Waits until the peer has begun its session and offers a link, and answers both, for this role of ours.
-    ///
-    /// # Errors
-    ///
-    /// `Refused` by `WrongRole` where the peer has the same role, those of `apply`, and `NoMemory`.
-    pub fn answer(&mut self, role: Role) -> Result<(), ClientFault> {
-        self.await_link(role)?;
-        self.answer_again(&[])
-    }
-
-    /// As `open`, with a link that brings in deliveries of these tags (part 2, 2.6.13).
-    pub(crate) fn open_again(
-        &mut self,
-        name: &Text,
-        role: Role,
-        address: &Text,
-        tags: &[Tag],
-    ) -> Result<(), ClientFault> {
-        self.perform(Op::Begin)?;
-        let attach = had(self.attach(name, role, address, tags))?;
-        self.perform_attach(attach)
-    }
-
-    /// Answers the link that the peer offers, which brings in deliveries of these tags.
-    pub(crate) fn answer_again(&mut self, tags: &[Tag]) -> Result<(), ClientFault> {
-        match had(answer_of(self.alloc, &self.conn, tags))? {
-            Some(attach) => self.perform_attach(attach),
-            None => Err(ClientFault::Refused(Refusal::NoLink)),
+impl End {
+    /// The attach that answers the one which the peer offers.
+    fn answer_with(&self, tags: &[Tag]) -> Result<Op, ClientFault> {
+        match self.link() {
+            Some(link) if link.theirs().is_some() => {
+                answering(self.alloc, link, tags).map_err(unless_memory)
+            }
+            _ => Err(ClientFault::Refused(Refusal::NoLink)),
         }
     }
 
     /// The name of the link that the peer offers.
-    pub(crate) fn offered_name(&self) -> Result<Text, ClientFault> {
-        match self.conn.logged().endpoint().link_of(LINK) {
-            Some(link) => had(link.name().clone()),
+    ///
+    /// # Errors
+    ///
+    /// `Refused` where the peer has the same role, or offers none, and `NoMemory`.
+    fn offered_name(&self, role: Role) -> Result<Text, ClientFault> {
+        match self.link() {
+            Some(link) if link.role() == role => link.name().clone().map_err(unless_memory),
+            Some(_) => Err(ClientFault::Refused(Refusal::WrongRole)),
             None => Err(ClientFault::Refused(Refusal::NoLink)),
         }
     }
+}
 
-    /// Waits until the peer has attached our link, too.
-    pub(crate) fn await_attached(&mut self) -> Result<(), ClientFault> {
-        for _ in 0..u64::MAX {
-            match self.conn.logged().endpoint().link_of(LINK) {
-                Some(link) if link.is_attached() => return Ok(()),
-                Some(_) => {}
-                None => return Err(ClientFault::Refused(Refusal::NoLink)),
-            }
-            self.turn()?;
-        }
-        Err(ClientFault::Refused(Refusal::NotAttached))
-    }
+/// Want of memory is a fault like others.
+fn unless_memory(_: AllocError) -> ClientFault {
+    ClientFault::NoMemory
+}
 
-    /// Waits until the peer has begun its session, which is answered, and offers a link, which is to be for this role of ours.
-    pub(crate) fn await_link(&mut self, role: Role) -> Result<(), ClientFault> {
-        self.await_begin()?;
-        self.perform(Op::Begin)?;
-        if self.await_offer()? != role {
-            return Err(ClientFault::Refused(Refusal::WrongRole));
-        }
-        Ok(())
-    }
+/// Begins the session, and attaches a link that is wanted.
+///
+/// # Errors
+///
+/// Those of `apply`, and `NoMemory`.
+pub fn open<S: Session>(session: &mut S, wanted: Wanted<'_>) -> Result<(), ClientFault> {
+    open_again(session, wanted, &[])
+}
 
-    fn await_begin(&mut self) -> Result<(), ClientFault> {
-        for _ in 0..u64::MAX {
-            if has_begun(&self.conn) {
-                break;
-            }
-            self.turn()?;
-        }
-        Ok(())
-    }
+/// As `open`, with a link that brings in deliveries of these tags (part 2, 2.6.13).
+pub(crate) fn open_again<S: Session>(
+    session: &mut S,
+    wanted: Wanted<'_>,
+    tags: &[Tag],
+) -> Result<(), ClientFault> {
+    perform(session, Op::Begin)?;
+    let attach = asking(session.end().alloc, wanted, tags);
+    perform_attach(session, attach.map_err(unless_memory))
+}
 
-    fn await_offer(&mut self) -> Result<Role, ClientFault> {
-        for _ in 0..u64::MAX {
-            if let Some(role) = offered_role(&self.conn) {
-                return Ok(role);
-            }
-            self.turn()?;
-        }
-        Err(ClientFault::Refused(Refusal::NoLink))
+fn perform_attach<S: Session>(
+    session: &mut S,
+    attach: Result<Op, ClientFault>,
+) -> Result<(), ClientFault> {
+    perform(session, attach?)?;
+    session.end_mut().is_opened = true;
+    Ok(())
+}
+
+/// Waits until the peer has begun its session and offers a link, and answers both, for this role of ours.
+///
+/// # Errors
+///
+/// `Refused` by `WrongRole` where the peer has the same role, those of `apply`, and `NoMemory`.
+pub fn answer<S: Session>(session: &mut S, role: Role) -> Result<(), ClientFault> {
+    drop(await_link(session, role)?);
+    answer_again(session, &[])
+}
+
+/// Answers the link that the peer offers, which brings in deliveries of these tags.
+pub(crate) fn answer_again<S: Session>(session: &mut S, tags: &[Tag]) -> Result<(), ClientFault> {
+    let attach = session.end().answer_with(tags);
+    perform_attach(session, attach)
+}
+
+/// Waits until the peer has begun its session, which is answered, and offers a link, which is to be for this role of ours: the link's name.
+pub(crate) fn await_link<S: Session>(session: &mut S, role: Role) -> Result<Text, ClientFault> {
+    wait_for(session, Awaited::Begin)?;
+    perform(session, Op::Begin)?;
+    wait_for(session, Awaited::Offer)?;
+    session.end().offered_name(role)
+}
+
+/// Waits until the peer has attached our link, too.
+pub(crate) fn await_attached<S: Session>(session: &mut S) -> Result<(), ClientFault> {
+    wait_for(session, Awaited::Attach)?;
+    match session.end().link() {
+        Some(_) => Ok(()),
+        None => Err(ClientFault::Refused(Refusal::NoLink)),
     }
 }

@@ -1,17 +1,17 @@
 //! The command `receive` with a journal: each message is written out once, over as many connections as it takes, in as many runs.
-use crate::again::{Recalls, Tries, join, most_in_doubt, recall_journal, turn};
-use crate::client::Client;
-use crate::exchange::{Exchange, ExchangeFault, Received, least_of};
+use crate::again::{GoesOn, go_over_all, join, turn};
+use crate::end::End;
+use crate::ending::finish;
+use crate::exchange::{Exchange, ExchangeFault, Received};
 use crate::fault::ClientFault;
-use crate::journal::{Journal, Line};
-use crate::meeting::meet;
-use crate::printing::{Printed, write_taken};
-use crate::progress::Watch;
+use crate::journal::{Line, Notes};
+use crate::recalling::{Recalls, recall_journal};
+use crate::receiving::{grant, settle_as};
+use crate::report::{Reports, show_taken};
+use crate::session::Session;
 use amqp_conn::{Boxed, DeliveryState, Role, Tag, Taken};
 use std::alloc::Global;
 use std::collections::VecDeque;
-use std::fs::OpenFile;
-use std::io::{Read, Write};
 use std::net::{Net, TcpStream};
 use std::rt::{Clock, Files};
 
@@ -96,6 +96,11 @@ impl Known {
         self.brought.len().saturating_add(self.told.len())
     }
 
+    /// So many messages were written out as are asked for.
+    fn has_all(&self, exchange: &Exchange<'_>) -> bool {
+        self.count >= u64::from(exchange.count)
+    }
+
     fn received(&self) -> Received {
         Received {
             count: self.count,
@@ -103,17 +108,45 @@ impl Known {
             unsettled: self.doubts() as u64,
         }
     }
+
+    /// A message came: where it came by newer credit, so many of those that were told before are known to the sender.
+    fn confirmed(&mut self) -> Option<usize> {
+        match self.mark {
+            Some(mark) if mark.left == 0 => {
+                self.mark = None;
+                Some(mark.count)
+            }
+            Some(mark) => {
+                self.mark = Some(Mark {
+                    left: mark.left.saturating_sub(1),
+                    ..mark
+                });
+                None
+            }
+            None => None,
+        }
+    }
+
+    /// Credit was given while so much was left. A message that has begun may come beside what that stands for.
+    fn set_mark(&mut self, left: u32) {
+        if self.mark.is_none() {
+            self.mark = Some(Mark {
+                count: self.told.len(),
+                left: left.saturating_add(1),
+            });
+        }
+    }
 }
 
 impl Recalls for Known {
     fn recall(&mut self, line: &Line<'_>) -> Result<bool, ExchangeFault> {
-        if let Some((tag, octets)) = line.taken() {
-            self.take(tag, octets)?;
-            return Ok(true);
-        }
-        match line.settled() {
-            Some(tag) => Ok(self.settle(&tag)),
-            None => Ok(false),
+        match line {
+            Line::Taken(tag, octets) => {
+                self.take(*tag, *octets)?;
+                Ok(true)
+            }
+            Line::Settled(tag) => Ok(self.settle(tag)),
+            _ => Ok(false),
         }
     }
 }
@@ -129,34 +162,43 @@ struct Mark {
 
 /// The messages of an exchange, and its journal.
 #[derive(Drop)]
-struct Receives<F> {
-    journal: Journal<F>,
+struct Receives<'a, N> {
+    exchange: &'a Exchange<'a>,
+    notes: N,
     known: Known,
 }
 
 /// As `run_receive`, with the journal at this path: what came of it, in all runs.
-pub(crate) fn receive_again<R, W: Write, P: Watch>(
+pub(crate) fn receive_again<R, T: Reports>(
     rt: &R,
     exchange: &Exchange<'_>,
     path: &str,
-    out: &mut W,
-    watch: &mut P,
+    reports: &mut T,
 ) -> Result<Received, ExchangeFault>
 where
     R: AllocGlobal + Net<Stream = TcpStream> + Eprint + Clock + Files,
 {
-    match receives_of(rt, path) {
-        Ok(mut receives) => {
-            let ended = receive_on(rt, exchange, &mut receives, out, watch);
+    let mut known = Known::none(rt.alloc());
+    match recall_journal(rt, path, Role::Receiver, &mut known) {
+        Ok(notes) => {
+            let mut receives = Receives {
+                exchange,
+                notes,
+                known,
+            };
+            let ended = go_over_all(rt, exchange, &mut receives, reports);
             let received = receives.known.received();
-            let has_all = receives.has_all(exchange);
+            let has_all = receives.has_all();
             drop(receives);
             match ended {
                 Err(fault) if !has_all || !is_of_peer(&fault) => Err(fault),
                 _ => Ok(received),
             }
         }
-        Err(fault) => Err(fault),
+        Err(fault) => {
+            drop(known);
+            Err(fault)
+        }
     }
 }
 
@@ -168,348 +210,253 @@ fn is_of_peer(fault: &ExchangeFault) -> bool {
     }
 }
 
-/// What the journal at this path tells.
-fn receives_of<R: AllocGlobal + Files>(
-    rt: &R,
-    path: &str,
-) -> Result<Receives<R::File>, ExchangeFault> {
-    let mut known = Known::none(rt.alloc());
-    match recall_journal(rt, path, Role::Receiver, &mut known) {
-        Ok(journal) => Ok(Receives { journal, known }),
-        Err(fault) => {
-            drop(known);
-            Err(fault)
-        }
-    }
-}
-
-fn receive_on<R, F: Write + OpenFile + Drop, W: Write, P: Watch>(
-    rt: &R,
-    exchange: &Exchange<'_>,
-    receives: &mut Receives<F>,
-    out: &mut W,
-    watch: &mut P,
-) -> Result<(), ExchangeFault>
-where
-    R: AllocGlobal + Net<Stream = TcpStream> + Eprint + Clock + Files,
-{
-    let mut tries = Tries::new(exchange);
-    for _ in 0..u64::MAX {
-        if receives.is_done(exchange) {
-            break;
-        }
-        match receive_over(rt, exchange, receives, out, watch, &mut tries) {
-            Ok(()) => break,
-            Err(fault) => tries.again(rt, exchange, fault, watch)?,
-        }
-    }
-    Ok(())
-}
-
-/// Goes on over one connection.
-fn receive_over<R, F: Write + OpenFile + Drop, W: Write, P: Watch>(
-    rt: &R,
-    exchange: &Exchange<'_>,
-    receives: &mut Receives<F>,
-    out: &mut W,
-    watch: &mut P,
-    tries: &mut Tries,
-) -> Result<(), ExchangeFault>
-where
-    R: AllocGlobal + Net<Stream = TcpStream> + Eprint + Clock + Files,
-{
-    // Nobody may come who asks for what is done.
-    let pauses = if receives.has_all(exchange) {
-        Some(exchange.retries)
-    } else {
-        tries.pauses()
-    };
-    let mut client = meet(rt, rt.alloc(), exchange, pauses)?;
-    let ended = receives.go_on(rt.alloc(), &mut client, exchange, out, watch);
-    let ended = tries.end(&client, ended, receives.journal.noted(), out);
-    drop(client);
-    ended
-}
-
-impl<F: Write + OpenFile + Drop> Receives<F> {
-    /// As many messages were written out as are asked for.
-    fn has_all(&self, exchange: &Exchange<'_>) -> bool {
-        self.known.count >= u64::from(exchange.count)
+impl<N: Notes> GoesOn for Receives<'_, N> {
+    /// Each message was written out, and the sender knows of each that it is accepted.
+    fn is_done(&self) -> bool {
+        self.known.has_all(self.exchange) && self.known.doubts() == 0
     }
 
-    /// And the sender knows of each that it is accepted.
-    fn is_done(&self, exchange: &Exchange<'_>) -> bool {
-        self.has_all(exchange) && self.known.doubts() == 0
+    fn has_all(&self) -> bool {
+        self.known.has_all(self.exchange)
     }
 
-    /// Goes on over this end until all is done, and ends link, session and connection.
-    fn go_on<R: Read, W: Write, O: Write, P: Watch>(
+    fn noted(&self) -> u64 {
+        self.notes.noted()
+    }
+
+    fn go_on<S: Session, T: Reports>(
         &mut self,
-        alloc: Global,
-        client: &mut Client<R, W>,
-        exchange: &Exchange<'_>,
-        out: &mut O,
-        watch: &mut P,
+        session: &mut S,
+        reports: &mut T,
     ) -> Result<(), ExchangeFault> {
-        let ended = self.exchange(alloc, client, exchange, out, watch);
-        // Nothing is noted behind a line that may be torn.
-        if matches!(&ended, Err(ExchangeFault::Journal(_))) {
-            return ended;
-        }
-        // What came settled is had, also where a fault ended the connection in the same piece.
-        if matches!(&ended, Err(ExchangeFault::Client(_))) && client.is_gone() {
-            self.take_all(alloc, client, exchange, out, watch)?;
-        }
-        // Neither end keeps anything of a link that was detached for good, also where what came behind that is lost.
-        if client.is_gone_for_good() {
-            self.settle_all()?;
-        }
-        self.journal.sync()?;
-        match ended {
-            Err(fault) if self.is_done(exchange) => {
-                drop(fault);
-                Ok(())
-            }
-            ended => ended,
-        }
-    }
-
-    fn exchange<R: Read, W: Write, O: Write, P: Watch>(
-        &mut self,
-        alloc: Global,
-        client: &mut Client<R, W>,
-        exchange: &Exchange<'_>,
-        out: &mut O,
-        watch: &mut P,
-    ) -> Result<(), ExchangeFault> {
-        let tags = self.known.bring()?;
-        let role = Role::Receiver;
-        join(alloc, client, exchange, role, &mut self.journal, &tags)?;
+        self.join(session)?;
         for _ in 0..u64::MAX {
-            self.take_all(alloc, client, exchange, out, watch)?;
-            self.look_brought(client)?;
-            if self.has_all(exchange) && self.known.brought.is_empty() {
+            if self.step(session, reports)? {
                 break;
             }
-            self.renew(client, exchange)?;
-            turn(client, &mut self.journal)?;
+            turn(session, &mut self.notes)?;
         }
-        self.finish(client)
+        self.finish(session)
+    }
+
+    fn wind_up<S: Session, T: Reports>(
+        &mut self,
+        session: &mut S,
+        is_fault_of_it: bool,
+        reports: &mut T,
+    ) -> Result<(), ExchangeFault> {
+        // What came settled is had, also where a fault ended the connection in the same piece.
+        if is_fault_of_it && session.end().is_gone() {
+            self.take_all(session, reports)?;
+        }
+        // Neither end keeps anything of a link that was detached for good, also where what came behind that is lost.
+        if session.end().is_gone_for_good() {
+            self.settle_all()?;
+        }
+        self.notes.sync()
+    }
+}
+
+impl<N: Notes> Receives<'_, N> {
+    /// Session and link are there, which brings in what is in doubt.
+    fn join<S: Session>(&mut self, session: &mut S) -> Result<(), ExchangeFault> {
+        let tags = self.known.bring()?;
+        let joined = join(
+            session,
+            self.exchange,
+            Role::Receiver,
+            &mut self.notes,
+            tags.as_slice(),
+        );
+        drop(tags);
+        joined
+    }
+
+    /// Takes what is there, and gives credit for more. True where nothing more is to come.
+    fn step<S: Session, T: Reports>(
+        &mut self,
+        session: &mut S,
+        reports: &mut T,
+    ) -> Result<bool, ExchangeFault> {
+        self.take_all(session, reports)?;
+        self.look_brought(session)?;
+        if self.known.has_all(self.exchange) && self.known.brought.is_empty() {
+            return Ok(true);
+        }
+        match self.renew(session) {
+            Ok(()) => Ok(false),
+            Err(fault) => Err(ExchangeFault::Client(fault)),
+        }
     }
 
     /// The sender answers our detach behind all that it was told. Where it closes before, as agreed, it wants to know no more; where it leaves the link otherwise
     /// it may ask again.
-    fn finish<R: Read, W: Write>(
-        &mut self,
-        client: &mut Client<R, W>,
-    ) -> Result<(), ExchangeFault> {
-        self.journal.sync()?;
-        client.unless_aside()?;
-        client.finish()?;
-        if client.conn().ended_by().is_some() {
-            return Err(ExchangeFault::Client(ClientFault::Ended));
+    fn finish<S: Session>(&mut self, session: &mut S) -> Result<(), ExchangeFault> {
+        self.notes.sync()?;
+        match finish_as_agreed(session) {
+            Ok(()) => self.settle_all(),
+            Err(fault) => Err(ExchangeFault::Client(fault)),
         }
-        client.unless_aside()?;
-        self.settle_all()
     }
 
     /// Takes what is there, as far as it is asked for.
-    fn take_all<R: Read, W: Write, O: Write, P: Watch>(
+    fn take_all<S: Session, T: Reports>(
         &mut self,
-        alloc: Global,
-        client: &mut Client<R, W>,
-        exchange: &Exchange<'_>,
-        out: &mut O,
-        watch: &mut P,
+        session: &mut S,
+        reports: &mut T,
     ) -> Result<(), ExchangeFault> {
         for _ in 0..u64::MAX {
-            if self.has_all(exchange) || !self.take_one(alloc, client, exchange.printed, out)? {
+            if self.known.has_all(self.exchange) {
                 break;
             }
-            watch.note(self.known.count);
+            match take_or_left(session.end_mut()) {
+                Ok(Some(taken)) => self.keep(session, taken, reports)?,
+                Ok(None) => break,
+                Err(fault) => return Err(ExchangeFault::Client(fault)),
+            }
         }
         Ok(())
     }
 
-    /// False where no message is there.
-    fn take_one<R: Read, W: Write, O: Write>(
-        &mut self,
-        alloc: Global,
-        client: &mut Client<R, W>,
-        printed: Printed,
-        out: &mut O,
-    ) -> Result<bool, ExchangeFault> {
-        match client.take_ready()? {
-            Some(taken) => {
-                self.keep(alloc, client, printed, taken, out)?;
-                Ok(true)
-            }
-            None => self.take_left(alloc, client, printed, out),
-        }
-    }
-
-    /// Of what a link left that is gone only what came settled: the peer has all else.
-    fn take_left<R: Read, W: Write, O: Write>(
-        &mut self,
-        alloc: Global,
-        client: &mut Client<R, W>,
-        printed: Printed,
-        out: &mut O,
-    ) -> Result<bool, ExchangeFault> {
-        if !client.is_gone() {
-            return Ok(false);
-        }
-        match client.take_last()? {
-            Some(taken) if taken.get().settled => {
-                self.keep(alloc, client, printed, taken, out)?;
-                Ok(true)
-            }
-            Some(taken) => {
-                drop(taken);
-                Ok(true)
-            }
-            None => Ok(false),
-        }
-    }
-
     /// The message is written out, then noted, and then accepted.
-    fn keep<R: Read, W: Write, O: Write>(
+    fn keep<S: Session, T: Reports>(
         &mut self,
-        alloc: Global,
-        client: &mut Client<R, W>,
-        printed: Printed,
+        session: &mut S,
         taken: Boxed<Taken>,
-        out: &mut O,
+        reports: &mut T,
     ) -> Result<(), ExchangeFault> {
-        let (id, tag, is_settled, octets) = {
-            let taken = taken.get();
-            (
-                taken.id,
-                taken.tag,
-                taken.settled,
-                taken.payload.len() as u64,
-            )
-        };
-        let written = write_taken(alloc, printed, &taken.get().payload, out);
-        drop(taken);
-        written?;
+        let came = show_taken(reports, taken)?;
         self.confirm()?;
-        self.journal.note(&Line::Taken(tag, octets))?;
+        self.note_taken(came.tag, came.octets, came.is_settled)?;
+        if !came.is_settled {
+            // Where the link is gone the message stays in doubt.
+            settle_as(session, came.id, DeliveryState::Accepted)?;
+        }
+        reports.note(self.known.count);
+        Ok(())
+    }
+
+    /// It is noted that a message was written out, and where it came settled that, too.
+    fn note_taken(&mut self, tag: Tag, octets: u64, is_settled: bool) -> Result<(), ExchangeFault> {
+        self.notes.note(&Line::Taken(tag, octets))?;
         self.known.take(tag, octets)?;
         if is_settled {
             self.known.settle(&tag);
-            return self.journal.note(&Line::Settled(tag));
+            return self.notes.note(&Line::Settled(tag));
         }
-        // Where the link is gone the message stays in doubt.
-        client.settle_as(id, DeliveryState::Accepted)?;
         Ok(())
     }
 
     /// A message came: where it came by newer credit, what was told before that is known to the sender.
     fn confirm(&mut self) -> Result<(), ExchangeFault> {
-        match self.known.mark {
-            Some(mark) if mark.left == 0 => {
-                self.known.mark = None;
-                self.settle_told(mark.count)
-            }
-            Some(mark) => {
-                self.known.mark = Some(Mark {
-                    left: mark.left.saturating_sub(1),
-                    ..mark
-                });
-                Ok(())
-            }
+        match self.known.confirmed() {
+            Some(count) => self.settle_told(count),
             None => Ok(()),
         }
     }
 
     /// Of so many messages that were told the sender knows what became of them.
     fn settle_told(&mut self, count: usize) -> Result<(), ExchangeFault> {
-        for _ in 0..count {
-            match self.known.told.pop_front() {
-                Some(tag) => self.journal.note(&Line::Settled(tag))?,
-                None => break,
-            }
-        }
-        Ok(())
+        settle_first(&mut self.notes, &mut self.known.told, count)
     }
 
     /// Nothing is in doubt any more.
     fn settle_all(&mut self) -> Result<(), ExchangeFault> {
-        for _ in 0..u64::MAX {
-            match self.known.brought.pop_front() {
-                Some(tag) => self.journal.note(&Line::Settled(tag))?,
-                None => break,
-            }
-        }
+        let count = self.known.brought.len();
+        settle_first(&mut self.notes, &mut self.known.brought, count)?;
         let count = self.known.told.len();
         self.settle_told(count)
     }
 
     /// Looks, once round, for what was brought in and waits no longer: the sender has not told of it, or has resumed it, settled or not.
-    fn look_brought<R: Read, W: Write>(
-        &mut self,
-        client: &mut Client<R, W>,
-    ) -> Result<(), ExchangeFault> {
+    fn look_brought<S: Session>(&mut self, session: &mut S) -> Result<(), ExchangeFault> {
         for _ in 0..self.known.brought.len() {
             match self.known.brought.pop_front() {
-                Some(tag) if client.is_gone() || client.waits(&tag) => {
-                    push(&mut self.known.brought, tag)?
-                }
-                Some(tag) => self.settle_brought(client, tag)?,
+                Some(tag) => self.look_at(session, tag)?,
                 None => break,
             }
         }
         Ok(())
     }
 
-    fn settle_brought<R: Read, W: Write>(
-        &mut self,
-        client: &mut Client<R, W>,
-        tag: Tag,
-    ) -> Result<(), ExchangeFault> {
-        match client.held(&tag) {
+    /// Looks whether the delivery with this tag waits no longer.
+    fn look_at<S: Session>(&mut self, session: &mut S, tag: Tag) -> Result<(), ExchangeFault> {
+        let end = session.end();
+        if end.is_gone() || end.waits(&tag) {
+            return push(&mut self.known.brought, tag);
+        }
+        match end.held(&tag) {
             Some(id) => {
                 push(&mut self.known.told, tag)?;
-                client.settle_as(id, DeliveryState::Accepted)?;
+                settle_as(session, id, DeliveryState::Accepted)?;
                 Ok(())
             }
-            None => self.journal.note(&Line::Settled(tag)),
+            None => self.notes.note(&Line::Settled(tag)),
         }
     }
 
     /// Credit is given again for what is still wanted and for what waits to be resumed, as far as what is in doubt can be told of.
-    fn renew<R: Read, W: Write>(
-        &mut self,
-        client: &mut Client<R, W>,
-        exchange: &Exchange<'_>,
-    ) -> Result<(), ExchangeFault> {
-        if client.is_gone() {
+    fn renew<S: Session>(&mut self, session: &mut S) -> Result<(), ClientFault> {
+        if session.end().is_gone() {
             return Ok(());
         }
-        let waiting = client.waiting_len();
-        // What came by the credit before is in doubt until something comes by this one.
-        let most = most_in_doubt(client).saturating_sub(self.known.brought.len()) / 2;
-        let wanted = u64::from(exchange.count).saturating_sub(self.known.count);
-        let room = wanted
-            .min(most.max(1) as u64)
-            .saturating_add(u64::from(waiting));
-        let credit = room.min(u64::from(exchange.credit)) as u32;
-        let left = client.credit();
-        if left < credit && left <= least_of(exchange.renewal, credit) {
-            client.grant(credit)?;
-            self.set_mark(left);
+        let credit = self.credit_wanted(session.end());
+        let left = session.end().credit();
+        if left < credit && left <= self.exchange.least_of(credit) {
+            grant(session, credit)?;
+            self.known.set_mark(left);
         }
         Ok(())
     }
 
-    /// Credit was given while so much was left. A message that has begun may come beside what that stands for.
-    fn set_mark(&mut self, left: u32) {
-        if self.known.mark.is_none() {
-            self.known.mark = Some(Mark {
-                count: self.known.told.len(),
-                left: left.saturating_add(1),
-            });
+    /// For so many messages there is to be credit.
+    fn credit_wanted(&self, end: &End) -> u32 {
+        // What came by the credit before is in doubt until something comes by this one.
+        let most = end.most_in_doubt().saturating_sub(self.known.brought.len()) / 2;
+        let wanted = u64::from(self.exchange.count).saturating_sub(self.known.count);
+        let room = wanted
+            .min(most.max(1) as u64)
+            .saturating_add(u64::from(end.waiting_len()));
+        room.min(u64::from(self.exchange.credit)) as u32
+    }
+}
+
+/// Of the first of these tags, so many, it is noted that their sender asks no more.
+fn settle_first<N: Notes>(
+    notes: &mut N,
+    tags: &mut VecDeque<Tag>,
+    count: usize,
+) -> Result<(), ExchangeFault> {
+    for _ in 0..count {
+        match tags.pop_front() {
+            Some(tag) => notes.note(&Line::Settled(tag))?,
+            None => break,
         }
     }
+    Ok(())
+}
+
+/// The next message that is there. Of what a link left that is gone only what came settled: the peer has all else.
+fn take_or_left(end: &mut End) -> Result<Option<Boxed<Taken>>, ClientFault> {
+    match end.take_ready() {
+        Ok(None) if end.is_gone() => {}
+        taken => return taken,
+    }
+    for _ in 0..u64::MAX {
+        match end.take_last() {
+            Ok(Some(taken)) if !taken.get().settled => drop(taken),
+            left => return left,
+        }
+    }
+    Ok(None)
+}
+
+/// Ends link, session and connection, none of which the sender leaves otherwise.
+fn finish_as_agreed<S: Session>(session: &mut S) -> Result<(), ClientFault> {
+    session.end().unless_aside()?;
+    finish(session)?;
+    if session.end().conn().ended_by().is_some() {
+        return Err(ClientFault::Ended);
+    }
+    session.end().unless_aside()
 }

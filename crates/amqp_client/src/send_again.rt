@@ -1,17 +1,17 @@
 //! The command `send` with a journal: each message goes once, over as many connections as it takes, in as many runs.
-use crate::again::{Recalls, Tries, join, most_in_doubt, recall_journal, turn};
-use crate::bodies::Bodies;
-use crate::client::Client;
+use crate::again::{GoesOn, go_over_all, join, turn};
+use crate::bodies::{Bodies, Supply};
+use crate::ending::finish;
 use crate::exchange::{Exchange, ExchangeFault, Sent};
-use crate::journal::{Journal, Line};
-use crate::meeting::meet;
-use crate::progress::Watch;
-use crate::sending::{Outcome, Outcomes, number_of};
+use crate::journal::{Journal, Line, Notes};
+use crate::recalling::{Recalls, recall_journal};
+use crate::report::Reports;
+use crate::sending::{Outcome, Outcomes, number_of, resume, send, settle};
+use crate::session::Session;
 use amqp_conn::{Bytes, Role, Tag, Verdict};
 use std::alloc::Global;
 use std::collections::VecDeque;
-use std::fs::OpenFile;
-use std::io::{BufRead, Read, Write};
+use std::io::BufRead;
 use std::net::{Net, TcpStream};
 use std::rt::{Clock, Files};
 
@@ -74,6 +74,17 @@ impl Known {
         }
     }
 
+    /// The octets of the message with this number, where it is in doubt.
+    fn keep(&mut self, number: u32, message: Bytes) {
+        if let Some(place) = self.place_of(number) {
+            if let Some(doubt) = self.doubts.get_mut(place) {
+                doubt.message = Some(message);
+                return;
+            }
+        }
+        drop(message);
+    }
+
     /// The tags of what is in doubt.
     fn tags(&self) -> Result<Vec<Tag>, ExchangeFault> {
         let mut tags = Vec::new(self.alloc);
@@ -108,11 +119,9 @@ fn shared(message: &Option<Bytes>) -> Result<Option<Bytes>, ExchangeFault> {
 
 impl Recalls for Known {
     fn recall(&mut self, line: &Line<'_>) -> Result<bool, ExchangeFault> {
-        if let Some((outcome, number)) = line.told() {
-            return Ok(self.end(number, outcome));
-        }
-        match line.begun() {
-            Some(number) if number == self.next && number < u32::MAX => {
+        match line {
+            Line::Told(outcome, number) => Ok(self.end(*number, *outcome)),
+            Line::Begun(number) if *number == self.next && *number < u32::MAX => {
                 self.begin(None)?;
                 Ok(true)
             }
@@ -123,9 +132,10 @@ impl Recalls for Known {
 
 /// The messages of an exchange, and its journal.
 #[derive(Drop)]
-struct Sends<'a, F> {
-    journal: Journal<F>,
-    bodies: Bodies<'a>,
+struct Sends<'a, N, B> {
+    exchange: &'a Exchange<'a>,
+    notes: N,
+    bodies: B,
     known: Known,
     /// The message that is to begin next, where it was looked for.
     pending: Option<Bytes>,
@@ -134,22 +144,21 @@ struct Sends<'a, F> {
 }
 
 /// As `run_send`, with the journal at this path.
-pub(crate) fn send_again<R, I: BufRead, W: Write, P: Watch>(
+pub(crate) fn send_again<R, I: BufRead, T: Reports>(
     rt: &R,
     exchange: &Exchange<'_>,
     path: &str,
     file: Option<Vec<u8>>,
     input: &mut I,
-    out: &mut W,
-    watch: &mut P,
+    reports: &mut T,
 ) -> Result<Sent, ExchangeFault>
 where
     R: AllocGlobal + Net<Stream = TcpStream> + Eprint + Clock + Files,
 {
-    let bodies = Bodies::new(rt.alloc(), exchange, file)?;
-    match sends_of(rt, path, bodies) {
+    let bodies = Bodies::new(rt.alloc(), exchange, file, input)?;
+    match sends_of(rt, exchange, path, bodies) {
         Ok(mut sends) => {
-            let sent = send_on(rt, exchange, &mut sends, input, out, watch);
+            let sent = send_on(rt, exchange, &mut sends, reports);
             drop(sends);
             sent
         }
@@ -157,16 +166,18 @@ where
     }
 }
 
-/// What the journal at this path tells.
-fn sends_of<'a, R: AllocGlobal + Files>(
+/// These messages, with what the journal at this path tells of them.
+fn sends_of<'a, R: AllocGlobal + Files, B: Drop>(
     rt: &R,
+    exchange: &'a Exchange<'a>,
     path: &str,
-    bodies: Bodies<'a>,
-) -> Result<Sends<'a, R::File>, ExchangeFault> {
+    bodies: B,
+) -> Result<Sends<'a, Journal<R::File>, B>, ExchangeFault> {
     let mut known = Known::none(rt.alloc());
     match recall_journal(rt, path, Role::Sender, &mut known) {
-        Ok(journal) => Ok(Sends {
-            journal,
+        Ok(notes) => Ok(Sends {
+            exchange,
+            notes,
             bodies,
             known,
             pending: None,
@@ -180,155 +191,118 @@ fn sends_of<'a, R: AllocGlobal + Files>(
     }
 }
 
-fn send_on<R, F: Write + OpenFile + Drop, I: BufRead, W: Write, P: Watch>(
+fn send_on<R, N: Notes, B: Supply, T: Reports>(
     rt: &R,
     exchange: &Exchange<'_>,
-    sends: &mut Sends<'_, F>,
-    input: &mut I,
-    out: &mut W,
-    watch: &mut P,
+    sends: &mut Sends<'_, N, B>,
+    reports: &mut T,
 ) -> Result<Sent, ExchangeFault>
 where
-    R: AllocGlobal + Net<Stream = TcpStream> + Eprint + Clock + Files,
+    R: AllocGlobal + Net<Stream = TcpStream> + Eprint + Clock,
 {
-    sends.skip(input)?;
-    let mut tries = Tries::new(exchange);
-    for _ in 0..u64::MAX {
-        if sends.is_done() {
-            break;
-        }
-        match send_over(rt, exchange, sends, input, out, watch, &mut tries) {
-            Ok(()) => break,
-            Err(fault) => tries.again(rt, exchange, fault, watch)?,
-        }
+    sends.skip()?;
+    match go_over_all(rt, exchange, sends, reports) {
+        Ok(()) => Ok(Sent {
+            count: u64::from(sends.known.next),
+            outcomes: sends.known.outcomes,
+        }),
+        Err(fault) => Err(fault),
     }
-    Ok(Sent {
-        count: u64::from(sends.known.next),
-        outcomes: sends.known.outcomes,
-    })
 }
 
-/// Goes on over one connection.
-fn send_over<R, F: Write + OpenFile + Drop, I: BufRead, W: Write, P: Watch>(
-    rt: &R,
-    exchange: &Exchange<'_>,
-    sends: &mut Sends<'_, F>,
-    input: &mut I,
-    out: &mut W,
-    watch: &mut P,
-    tries: &mut Tries,
-) -> Result<(), ExchangeFault>
-where
-    R: AllocGlobal + Net<Stream = TcpStream> + Eprint + Clock + Files,
-{
-    let mut client = meet(rt, rt.alloc(), exchange, tries.pauses())?;
-    let ended = sends.go_on(rt.alloc(), &mut client, exchange, input, watch);
-    let ended = tries.end(&client, ended, sends.journal.noted(), out);
-    drop(client);
-    ended
-}
-
-impl<F: Write + OpenFile + Drop> Sends<'_, F> {
+impl<N: Notes, B: Supply> GoesOn for Sends<'_, N, B> {
     /// Each message was sent, and has its outcome.
     fn is_done(&self) -> bool {
         self.is_over && self.known.doubts.is_empty()
     }
 
+    fn has_all(&self) -> bool {
+        false
+    }
+
+    fn noted(&self) -> u64 {
+        self.notes.noted()
+    }
+
+    fn go_on<S: Session, T: Reports>(
+        &mut self,
+        session: &mut S,
+        reports: &mut T,
+    ) -> Result<(), ExchangeFault> {
+        self.join(session)?;
+        self.resume_all(session)?;
+        self.send_rest(session, reports)?;
+        session.end_mut().give_up();
+        self.await_outcomes(session)?;
+        finish(session).map_err(ExchangeFault::Client)
+    }
+
+    /// What was told before the end is known, too, and only then the peer's detach is answered.
+    fn wind_up<S: Session, T: Reports>(
+        &mut self,
+        session: &mut S,
+        _is_fault_of_it: bool,
+        _reports: &mut T,
+    ) -> Result<(), ExchangeFault> {
+        self.learn(session)?;
+        self.notes.sync()?;
+        if session.end().is_gone() {
+            session.write_out();
+        }
+        Ok(())
+    }
+}
+
+impl<N: Notes, B: Supply> Sends<'_, N, B> {
     /// Reads over what has begun, and keeps of it what is in doubt.
-    fn skip<I: BufRead>(&mut self, input: &mut I) -> Result<(), ExchangeFault> {
+    fn skip(&mut self) -> Result<(), ExchangeFault> {
         if self.known.next == 0 {
             return Ok(());
         }
         for number in 0..self.known.next {
-            match self.bodies.next(input)? {
-                Some(message) => self.keep(number, message),
-                None => return Err(ExchangeFault::TooFew),
+            match self.bodies.next() {
+                Ok(Some(message)) => self.known.keep(number, message),
+                Ok(None) => return Err(ExchangeFault::TooFew),
+                Err(fault) => return Err(fault),
             }
         }
-        self.look(input)
-    }
-
-    fn keep(&mut self, number: u32, message: Bytes) {
-        if let Some(place) = self.known.place_of(number) {
-            if let Some(doubt) = self.known.doubts.get_mut(place) {
-                doubt.message = Some(message);
-                return;
-            }
-        }
-        drop(message);
+        self.look()
     }
 
     /// Looks for the message that is to begin next.
-    fn look<I: BufRead>(&mut self, input: &mut I) -> Result<(), ExchangeFault> {
+    fn look(&mut self) -> Result<(), ExchangeFault> {
         if self.pending.is_none() && !self.is_over {
-            self.pending = self.bodies.next(input)?;
+            self.pending = self.bodies.next()?;
             self.is_over = self.pending.is_none();
         }
         Ok(())
     }
 
-    /// Goes on over this end until each message has its outcome, and ends link, session and connection.
-    fn go_on<R: Read, W: Write, I: BufRead, P: Watch>(
-        &mut self,
-        alloc: Global,
-        client: &mut Client<R, W>,
-        exchange: &Exchange<'_>,
-        input: &mut I,
-        watch: &mut P,
-    ) -> Result<(), ExchangeFault> {
-        let ended = self.exchange(alloc, client, exchange, input, watch);
-        // What is known and could not be noted is not done, and nothing is noted behind a line that may be torn.
-        if matches!(&ended, Err(ExchangeFault::Journal(_))) {
-            return ended;
-        }
-        // What was told before the end is known, too, and only then the peer's detach is answered.
-        self.learn(client)?;
-        self.journal.sync()?;
-        if client.is_gone() {
-            client.write_out();
-        }
-        match ended {
-            Err(fault) if self.is_done() => {
-                drop(fault);
-                Ok(())
-            }
-            ended => ended,
-        }
-    }
-
-    fn exchange<R: Read, W: Write, I: BufRead, P: Watch>(
-        &mut self,
-        alloc: Global,
-        client: &mut Client<R, W>,
-        exchange: &Exchange<'_>,
-        input: &mut I,
-        watch: &mut P,
-    ) -> Result<(), ExchangeFault> {
+    /// Session and link are there, which brings in what is in doubt.
+    fn join<S: Session>(&mut self, session: &mut S) -> Result<(), ExchangeFault> {
         let tags = self.known.tags()?;
-        join(
-            alloc,
-            client,
-            exchange,
+        let joined = join(
+            session,
+            self.exchange,
             Role::Sender,
-            &mut self.journal,
+            &mut self.notes,
             tags.as_slice(),
-        )?;
-        self.resume_all(client)?;
-        self.send_rest(client, input, watch)?;
-        client.give_up();
-        self.await_outcomes(client)?;
-        Ok(client.finish()?)
+        );
+        drop(tags);
+        joined
     }
 
     /// Notes what the peer has told until now, and settles it.
-    fn learn<R: Read, W: Write>(&mut self, client: &mut Client<R, W>) -> Result<(), ExchangeFault> {
+    fn learn<S: Session>(&mut self, session: &mut S) -> Result<(), ExchangeFault> {
         for _ in 0..u64::MAX {
-            let Some(told) = client.told()? else {
-                break;
-            };
-            if told.is_last() {
-                self.note_end(told.number, told.outcome)?;
-                client.settle(told)?;
+            match session.end_mut().told() {
+                Ok(Some(told)) if told.is_last() => {
+                    self.note_end(told.number, told.outcome)?;
+                    settle(session, told)?;
+                }
+                Ok(Some(_)) => {}
+                Ok(None) => break,
+                Err(fault) => return Err(ExchangeFault::Client(fault)),
             }
         }
         Ok(())
@@ -337,132 +311,126 @@ impl<F: Write + OpenFile + Drop> Sends<'_, F> {
     /// What is told of a message once more is passed over.
     fn note_end(&mut self, number: u32, outcome: Outcome) -> Result<(), ExchangeFault> {
         if self.known.end(number, outcome) {
-            return self.journal.note(&Line::Told(outcome, number));
+            return self.notes.note(&Line::Told(outcome, number));
         }
         Ok(())
     }
 
-    fn await_room<R: Read, W: Write>(
-        &mut self,
-        client: &mut Client<R, W>,
-    ) -> Result<(), ExchangeFault> {
+    fn await_room<S: Session>(&mut self, session: &mut S) -> Result<(), ExchangeFault> {
         for _ in 0..u64::MAX {
-            self.learn(client)?;
-            if client.has_room() {
+            self.learn(session)?;
+            if session.end().has_room() {
                 break;
             }
-            turn(client, &mut self.journal)?;
+            turn(session, &mut self.notes)?;
         }
         Ok(())
     }
 
-    fn await_outcomes<R: Read, W: Write>(
-        &mut self,
-        client: &mut Client<R, W>,
-    ) -> Result<(), ExchangeFault> {
+    fn await_outcomes<S: Session>(&mut self, session: &mut S) -> Result<(), ExchangeFault> {
         for _ in 0..u64::MAX {
-            self.learn(client)?;
+            self.learn(session)?;
             if self.known.doubts.is_empty() {
                 break;
             }
-            turn(client, &mut self.journal)?;
+            turn(session, &mut self.notes)?;
         }
-        self.journal.sync()
+        self.notes.sync()
     }
 
     /// What is in doubt is resumed, or sent again, in its order.
-    fn resume_all<R: Read, W: Write>(
-        &mut self,
-        client: &mut Client<R, W>,
-    ) -> Result<(), ExchangeFault> {
+    fn resume_all<S: Session>(&mut self, session: &mut S) -> Result<(), ExchangeFault> {
         for _ in 0..u64::MAX {
-            let Some((tag, verdict)) = client.waiting() else {
-                break;
-            };
-            self.resume_one(client, tag, verdict)?;
+            match session.end().waiting() {
+                Some((tag, verdict)) => self.resume_one(session, tag, verdict)?,
+                None => break,
+            }
         }
         Ok(())
     }
 
     /// What the peer has stays there, what it has not goes once more, and what became of it is noted where the peer tells that.
-    fn resume_one<R: Read, W: Write>(
+    fn resume_one<S: Session>(
         &mut self,
-        client: &mut Client<R, W>,
+        session: &mut S,
         tag: Tag,
         verdict: Verdict,
     ) -> Result<(), ExchangeFault> {
-        let number = number_of(&tag);
-        self.await_room(client)?;
-        self.journal.sync()?;
-        let outcome = client.resume(tag, verdict == Verdict::Outcome)?;
+        self.await_room(session)?;
+        self.notes.sync()?;
+        let outcome = resume(session, tag, verdict == Verdict::Outcome)?;
         match verdict {
-            Verdict::Outcome => self.note_end(number, outcome),
-            Verdict::Absent | Verdict::Partial => self.send_once_more(client, number),
+            Verdict::Outcome => self.note_end(number_of(&tag), outcome),
+            Verdict::Absent | Verdict::Partial => self.send_once_more(session, number_of(&tag)),
             Verdict::Held | Verdict::Unclear => Ok(()),
         }
     }
 
-    fn send_once_more<R: Read, W: Write>(
+    fn send_once_more<S: Session>(
         &mut self,
-        client: &mut Client<R, W>,
+        session: &mut S,
         number: u32,
     ) -> Result<(), ExchangeFault> {
-        match self.known.message(number)? {
-            Some(message) => {
-                let sent = self.put(client, number, &message);
+        match self.known.message(number) {
+            Ok(Some(message)) => {
+                let sent = self.put(session, number, &message);
                 drop(message);
                 sent
             }
-            None => Ok(()),
+            Ok(None) => Ok(()),
+            Err(fault) => Err(fault),
         }
     }
 
     /// Puts the message out, as soon as there is room for it.
-    fn put<R: Read, W: Write>(
+    fn put<S: Session>(
         &mut self,
-        client: &mut Client<R, W>,
+        session: &mut S,
         number: u32,
         message: &Bytes,
     ) -> Result<(), ExchangeFault> {
-        self.await_room(client)?;
-        if !client.is_short(message) {
-            self.journal.sync()?;
+        self.await_room(session)?;
+        if !session.end().is_short(message) {
+            self.notes.sync()?;
         }
-        Ok(client.send(number, message, false)?)
+        send(session, number, message, false).map_err(ExchangeFault::Client)
     }
 
     /// Sends what has not begun.
-    fn send_rest<R: Read, W: Write, I: BufRead, P: Watch>(
+    fn send_rest<S: Session, T: Reports>(
         &mut self,
-        client: &mut Client<R, W>,
-        input: &mut I,
-        watch: &mut P,
+        session: &mut S,
+        reports: &mut T,
     ) -> Result<(), ExchangeFault> {
-        let most = most_in_doubt(client);
+        let most = session.end().most_in_doubt();
         for _ in 0..u64::MAX {
-            self.look(input)?;
+            self.look()?;
             if self.is_over || self.known.next == u32::MAX {
                 break;
             }
-            self.await_room(client)?;
-            if self.known.doubts.len() < most {
-                self.send_next(client)?;
-                watch.note(u64::from(self.known.next));
-            } else {
-                turn(client, &mut self.journal)?;
-            }
+            self.send_or_wait(session, most, reports)?;
         }
         Ok(())
     }
 
-    /// Sends the message that was looked for.
-    fn send_next<R: Read, W: Write>(
+    /// Sends the message that was looked for, unless so many are in doubt.
+    fn send_or_wait<S: Session, T: Reports>(
         &mut self,
-        client: &mut Client<R, W>,
+        session: &mut S,
+        most: usize,
+        reports: &mut T,
     ) -> Result<(), ExchangeFault> {
+        self.await_room(session)?;
+        if self.known.doubts.len() >= most {
+            return turn(session, &mut self.notes);
+        }
         let number = self.known.next;
-        self.journal.note(&Line::Begun(number))?;
+        self.notes.note(&Line::Begun(number))?;
         self.known.begin(self.pending.take())?;
-        self.send_once_more(client, number)
+        let sent = self.send_once_more(session, number);
+        if sent.is_ok() {
+            reports.note(u64::from(self.known.next));
+        }
+        sent
     }
 }

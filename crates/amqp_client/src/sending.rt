@@ -1,10 +1,10 @@
 //! Messages go out, and what became of each is learnt.
 ghost use Rattle.std.specs.Prelude.{◌<◌};
 
-use crate::client::{Client, LINK};
+use crate::end::{End, LINK};
 use crate::fault::ClientFault;
+use crate::session::{Session, apply, perform};
 use amqp_conn::{Bytes, DeliveryState, Given, Learned, Left, Op, Refusal, Role, Tag, Verdict, ops};
-use std::io::{Read, Write};
 
 /// What a transfer takes of a frame beside its payload, in octets, and more.
 const HEAD: u32 = 128;
@@ -13,7 +13,7 @@ const HEAD: u32 = 128;
 const MOST: u32 = 65536;
 
 /// What became of messages.
-#[derive(Clone, Copy, Debug, PartialEq, Eq)]
+#[derive(Clone, Copy, PartialEq, Eq)]
 pub struct Outcomes {
     pub accepted: u64,
     pub rejected: u64,
@@ -36,12 +36,12 @@ pub struct Told {
 impl Told {
     /// The peer is done with the message.
     pub(crate) fn is_last(&self) -> bool {
-        self.settled || self.outcome != Outcome::Unknown
+        self.settled || !matches!(self.outcome, Outcome::Unknown)
     }
 }
 
 /// What became of a message (part 3, 3.4).
-#[derive(Clone, Copy, Debug, PartialEq, Eq)]
+#[derive(Clone, Copy)]
 pub enum Outcome {
     Accepted,
     Rejected,
@@ -84,11 +84,13 @@ fn outcome_of(state: &Option<DeliveryState>) -> Outcome {
     }
 }
 
-fn told_by(given: &Given) -> Option<Told> {
-    match given {
+fn told_by(given: Given) -> Option<Told> {
+    let told = match &given {
         Given::Learned(learned) => Some(told_of(learned.get())),
         _ => None,
-    }
+    };
+    drop(given);
+    told
 }
 
 fn told_of(learned: &Learned) -> Told {
@@ -109,11 +111,13 @@ pub(crate) fn number_of(tag: &Tag) -> u32 {
 }
 
 /// The outcome that the peer told of a delivery that was resumed.
-fn outcome_resumed(given: &Given) -> Outcome {
-    match given {
+fn outcome_resumed(given: Given) -> Outcome {
+    let outcome = match &given {
         Given::Resumed(resumed) => outcome_of(&resumed.get().state),
         _ => Outcome::Unknown,
-    }
+    };
+    drop(given);
+    outcome
 }
 
 /// What a link that is gone left. Nothing is settled on it any more.
@@ -140,7 +144,7 @@ fn part(message: &Bytes, from: usize, most: usize) -> Result<Bytes, ClientFault>
     }
 }
 
-impl<R: Read, W: Write> Client<R, W> {
+impl End {
     /// How many octets of a message one transfer takes: as the peer's frames have room.
     fn in_a_transfer(&self) -> usize
         ensures { 0 < result }
@@ -149,104 +153,31 @@ impl<R: Read, W: Write> Client<R, W> {
         frame.min(MOST).saturating_sub(HEAD).max(1) as usize
     }
 
-    /// Sends a message as one delivery, in as many transfers as the peer's frames ask for, as its credit and its window allow. Its tag is the number in four
-    /// octets.
-    ///
-    /// # Errors
-    ///
-    /// Those of `apply`, and `NoMemory`. A message that was begun may be unfinished then.
-    pub fn send(&mut self, number: u32, message: &Bytes, settled: bool) -> Result<(), ClientFault> {
-        let most = self.in_a_transfer();
-        self.start(number, message, most, settled)?;
-        for from in (most..message.len()).step_by(most) {
-            self.carry(message, from, most)?;
-        }
-        Ok(())
+    /// A message may begin: there is credit, and room in the window.
+    pub(crate) fn has_room(&self) -> bool {
+        self.credit() > 0 && self.conn.logged().endpoint().windows().remote_in > 0
     }
 
-    fn start(
-        &mut self,
-        number: u32,
-        message: &Bytes,
-        most: usize,
-        settled: bool,
-    ) -> Result<(), ClientFault> {
-        let Some(tag) = Tag::new(&number.to_be_bytes()) else {
-            return Err(ClientFault::Refused(Refusal::NotWritable));
-        };
-        let more = most < message.len();
-        match part(message, 0, most) {
-            Ok(payload) => self.perform(Op::Start {
-                link: LINK,
-                tag,
-                format: 0,
-                settled,
-                payload,
-                more,
-            }),
-            Err(fault) => Err(fault),
+    /// The message goes in one transfer.
+    pub(crate) fn is_short(&self, message: &Bytes) -> bool {
+        message.len() <= self.in_a_transfer()
+    }
+
+    /// The first delivery that waits to be resumed, by its tag, and what becomes of it.
+    pub(crate) fn waiting(&self) -> Option<(Tag, Verdict)> {
+        match self.conn.logged().endpoint().waiting_at(LINK, 0) {
+            Some((tag, verdict)) => Some((*tag, verdict)),
+            None => None,
         }
     }
 
-    fn carry(&mut self, message: &Bytes, from: usize, most: usize) -> Result<(), ClientFault> {
-        let more = from.saturating_add(most) < message.len();
-        match part(message, from, most) {
-            Ok(payload) => self.perform(Op::Carry {
-                link: LINK,
-                payload,
-                more,
-            }),
-            Err(fault) => Err(fault),
-        }
-    }
-
-    /// Learns of which message the peer tells next that it is settled or what became of it, and settles it where the peer has not. A peer may tell the one
-    /// behind the other: then both are learnt. What came before an end of the link is had, too.
-    ///
-    /// # Errors
-    ///
-    /// Those of `apply`.
-    pub fn learn(&mut self) -> Result<Told, ClientFault> {
-        for _ in 0..u64::MAX {
-            if let Some(told) = self.learn_once()? {
-                if told.is_last() {
-                    self.settle(told)?;
-                    return Ok(told);
-                }
-            }
-        }
-        Err(ClientFault::Refused(Refusal::Nothing))
-    }
-
-    /// What is told next: by the link, or by what it left where it is gone.
-    fn learn_once(&mut self) -> Result<Option<Told>, ClientFault> {
-        let op = ops::learn(LINK);
-        let answer = self.apply(&op);
-        drop(op);
-        match answer {
-            Ok(given) => {
-                let told = told_by(&given);
-                drop(given);
-                Ok(told)
-            }
-            Err(fault) => match self.told_left()? {
-                Some(told) => Ok(Some(told)),
-                None => Err(fault),
-            },
-        }
-    }
-
-    /// What the peer has told of a message, by the link, or by what it left where it is gone; none where it has told nothing more. It waits for nothing.
+    /// What the peer has told of a message, by the link, or by what it left where it is gone; none where it has told nothing more.
     pub(crate) fn told(&mut self) -> Result<Option<Told>, ClientFault> {
         let op = ops::learn(LINK);
         let answer = self.conn.apply(&op);
         drop(op);
         match answer {
-            Ok(given) => {
-                let told = told_by(&given);
-                drop(given);
-                Ok(told)
-            }
+            Ok(given) => Ok(told_by(given)),
             Err(Refusal::NoMemory) => Err(ClientFault::NoMemory),
             Err(_) => self.told_left(),
         }
@@ -264,60 +195,136 @@ impl<R: Read, W: Write> Client<R, W> {
             Err(_) => Err(ClientFault::NoMemory),
         }
     }
+}
 
-    /// A message may begin: there is credit, and room in the window.
-    pub(crate) fn has_room(&self) -> bool {
-        let windows = self.conn.logged().endpoint().windows();
-        self.credit() > 0 && windows.remote_in > 0
-    }
-
-    /// The message goes in one transfer.
-    pub(crate) fn is_short(&self, message: &Bytes) -> bool {
-        message.len() <= self.in_a_transfer()
-    }
-
-    /// The first delivery that waits to be resumed, by its tag, and what becomes of it.
-    pub(crate) fn waiting(&self) -> Option<(Tag, Verdict)> {
-        match self.conn.logged().endpoint().waiting_at(LINK, 0) {
-            Some((tag, verdict)) => Some((*tag, verdict)),
-            None => None,
-        }
-    }
-
-    /// Resumes the delivery with this tag (part 2, 2.6.13), settled or not: the outcome that the peer told of it.
-    pub(crate) fn resume(&mut self, tag: Tag, settled: bool) -> Result<Outcome, ClientFault> {
-        let op = Op::Resume {
+/// The first transfer of a message, with so many octets of it at most.
+fn start_of(number: u32, message: &Bytes, most: usize, settled: bool) -> Result<Op, ClientFault> {
+    let Some(tag) = Tag::new(&number.to_be_bytes()) else {
+        return Err(ClientFault::Refused(Refusal::NotWritable));
+    };
+    match part(message, 0, most) {
+        Ok(payload) => Ok(Op::Start {
             link: LINK,
             tag,
+            format: 0,
             settled,
-        };
-        let answer = self.apply(&op);
-        drop(op);
-        match answer {
-            Ok(given) => {
-                let outcome = outcome_resumed(&given);
-                drop(given);
-                Ok(outcome)
-            }
-            Err(fault) => Err(fault),
-        }
+            payload,
+            more: most < message.len(),
+        }),
+        Err(fault) => Err(fault),
     }
+}
 
-    /// Settles the delivery, unless the peer has (part 2, 2.6.12), be it in a disposition that is not learnt yet.
-    pub(crate) fn settle(&mut self, told: Told) -> Result<(), ClientFault> {
-        if told.settled {
-            return Ok(());
-        }
-        let answer = self.perform(Op::Dispose {
-            role: Role::Sender,
-            first: told.id,
-            last: told.id,
-            settled: true,
-            state: None,
-        });
-        match answer {
-            Err(ClientFault::Refused(Refusal::NothingHeld)) => Ok(()),
-            answer => answer,
+/// A transfer behind the first one.
+fn carry_of(message: &Bytes, from: usize, most: usize) -> Result<Op, ClientFault> {
+    match part(message, from, most) {
+        Ok(payload) => Ok(Op::Carry {
+            link: LINK,
+            payload,
+            more: from.saturating_add(most) < message.len(),
+        }),
+        Err(fault) => Err(fault),
+    }
+}
+
+/// Sends a message as one delivery, in as many transfers as the peer's frames ask for, as its credit and its window allow. Its tag is the number in four
+/// octets.
+///
+/// # Errors
+///
+/// Those of `apply`, and `NoMemory`. A message that was begun may be unfinished then.
+pub fn send<S: Session>(
+    session: &mut S,
+    number: u32,
+    message: &Bytes,
+    settled: bool,
+) -> Result<(), ClientFault> {
+    let most = session.end().in_a_transfer();
+    perform(session, start_of(number, message, most, settled)?)?;
+    for from in (most..message.len()).step_by(most) {
+        perform(session, carry_of(message, from, most)?)?;
+    }
+    Ok(())
+}
+
+/// Learns of which message the peer tells next that it is settled or what became of it, and settles it where the peer has not. A peer may tell the one
+/// behind the other: then both are learnt. What came before an end of the link is had, too.
+///
+/// # Errors
+///
+/// Those of `apply`.
+pub fn learn<S: Session>(session: &mut S) -> Result<Told, ClientFault> {
+    for _ in 0..u64::MAX {
+        match learn_once(session)? {
+            Some(told) if told.is_last() => {
+                settle(session, told)?;
+                return Ok(told);
+            }
+            _ => {}
         }
     }
+    Err(ClientFault::Refused(Refusal::Nothing))
+}
+
+/// What is told next: by the link, or by what it left where it is gone.
+fn learn_once<S: Session>(session: &mut S) -> Result<Option<Told>, ClientFault> {
+    let op = ops::learn(LINK);
+    let answer = apply(session, &op);
+    drop(op);
+    match answer {
+        Ok(given) => Ok(told_by(given)),
+        Err(fault) => match session.end_mut().told_left() {
+            Ok(None) => Err(fault),
+            left => left,
+        },
+    }
+}
+
+/// Resumes the delivery with this tag (part 2, 2.6.13), settled or not: the outcome that the peer told of it.
+pub(crate) fn resume<S: Session>(
+    session: &mut S,
+    tag: Tag,
+    settled: bool,
+) -> Result<Outcome, ClientFault> {
+    let op = Op::Resume {
+        link: LINK,
+        tag,
+        settled,
+    };
+    let answer = apply(session, &op);
+    drop(op);
+    match answer {
+        Ok(given) => Ok(outcome_resumed(given)),
+        Err(fault) => Err(fault),
+    }
+}
+
+/// Settles the delivery, unless the peer has (part 2, 2.6.12), be it in a disposition that is not learnt yet.
+pub(crate) fn settle<S: Session>(session: &mut S, told: Told) -> Result<(), ClientFault> {
+    if told.settled {
+        return Ok(());
+    }
+    match dispose(session, Role::Sender, told.id, None) {
+        Err(ClientFault::Refused(Refusal::NothingHeld)) => Ok(()),
+        answer => answer,
+    }
+}
+
+/// Settles the delivery with this id, on which we have this role.
+pub(crate) fn dispose<S: Session>(
+    session: &mut S,
+    role: Role,
+    id: u32,
+    state: Option<DeliveryState>,
+) -> Result<(), ClientFault> {
+    perform(
+        session,
+        Op::Dispose {
+            role,
+            first: id,
+            last: id,
+            settled: true,
+            state,
+        },
+    )
 }
