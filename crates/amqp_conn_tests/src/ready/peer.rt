@@ -33,7 +33,7 @@ pub(crate) fn connection(alloc: Global) -> Option<Conn> {
         host: None,
         idle_time_out: None,
         window: 2048,
-        journal_limit: 1000,
+        journal_limit: 9999,
     };
     crate::act::connection(alloc, settings)
 }

@@ -1,7 +1,7 @@
 //! Slots by key over fake streams.
 use crate::ready::fake::{Counts, Fake};
 use crate::ready::peer::{CONTENT, OURS, PATIENT, TWICE, WHOLE, connection};
-use amqp_conn::ConnFault;
+use amqp_conn::{ConnFault, Op};
 use amqp_ready::{Limits, Next, SlotFault, Slots, Stage};
 use std::alloc::Global;
 
@@ -25,6 +25,8 @@ enum Do {
     NoneIsDue,
     /// The clock shows so many milliseconds.
     Tick(u64),
+    /// So many empty frames of eight octets are put out under the key.
+    Beat(usize, u32),
     /// The slot under the key is so far.
     Stage(usize, Stage),
     /// So many octets went out under the key.
@@ -37,12 +39,12 @@ enum Do {
     None,
 }
 
-/// A slot more over a peer that says this, and takes so many octets: its key.
+/// A slot more over a peer that says this, the octets that open it in two parts, and takes so many octets: its key.
 fn add(alloc: Global, slots: &mut Fakes, says: &'static [u8], room: usize) -> Option<usize> {
     let stays = says.len() < WHOLE.len();
     match connection(alloc) {
         Some(conn) => {
-            let fake = Fake::new(alloc, says, stays, 16, room);
+            let fake = Fake::new(alloc, says, stays, 17, room);
             slots.add(fake, conn, Counts::new(Next::Feed)).ok()
         }
         None => None,
@@ -112,6 +114,15 @@ fn tick(slots: &mut Fakes, now: u64) -> bool {
     true
 }
 
+fn beat(slots: &mut Fakes, key: usize, count: u32) -> bool {
+    for _ in 0..count {
+        if slots.perform(key, Op::Beat) != Some(Ok(())) {
+            return false;
+        }
+    }
+    true
+}
+
 /// It is done, or shown.
 fn holds(alloc: Global, slots: &mut Fakes, what: Do) -> bool {
     match what {
@@ -120,6 +131,7 @@ fn holds(alloc: Global, slots: &mut Fakes, what: Do) -> bool {
         Do::ServeDue(turns) => slots.serve_due().turns == turns,
         Do::NoneIsDue => !slots.is_any_due(),
         Do::Tick(now) => tick(slots, now),
+        Do::Beat(key, count) => beat(slots, key, count),
         Do::Stage(key, stage) => slots.stage(key) == Some(stage),
         Do::Out(key, count) => out(slots, key) == count,
         Do::Takes => matches!(take(slots), Some(End::Well)),
@@ -147,15 +159,42 @@ fn goes(alloc: Global, steps: &[Do]) -> bool {
 
 const TWICE_OPEN: SlotFault = SlotFault::Conn(ConnFault::OutOfPlace);
 
-/// A fault ends its slot alone.
+/// A fault ends its slot alone: the others are open meanwhile, and end well.
 const FAULT: &[Do] = &[
-    Do::Add(WHOLE, 999, 0),
-    Do::Add(TWICE, 999, 1),
+    Do::Add(TWICE, 999, 0),
+    Do::Add(WHOLE, 999, 1),
     Do::Add(WHOLE, 999, 2),
+    Do::Serve(3, 4),
+    Do::Serve(1, 99),
+    Do::Stage(0, Stage::Over(Some(TWICE_OPEN))),
+    Do::Stage(1, Stage::Works),
+    Do::Out(1, 34),
     Do::Serve(3, 99),
-    Do::Stage(1, Stage::Over(Some(TWICE_OPEN))),
     Do::Ends(2, 1, TWICE_OPEN),
     Do::None,
+];
+
+/// Each slot that is to be served has its turn: our header goes out.
+const EACH: &[Do] = &[
+    Do::Add(WHOLE, 999, 0),
+    Do::Add(WHOLE, 999, 1),
+    Do::Add(WHOLE, 999, 2),
+    Do::ServeDue(3),
+    Do::Out(0, 8),
+    Do::Out(1, 8),
+    Do::Out(2, 8),
+];
+
+/// Of a peer that takes no more nothing is read while 65536 octets wait for it; with eight fewer its second open is read.
+const LAGS: &[Do] = &[
+    Do::Add(TWICE, 34, 0),
+    Do::Add(TWICE, 34, 1),
+    Do::Serve(2, 4),
+    Do::Beat(0, 8192),
+    Do::Beat(1, 8191),
+    Do::Serve(2, 99),
+    Do::Stage(0, Stage::Works),
+    Do::Stage(1, Stage::Leaves(TWICE_OPEN)),
 ];
 
 /// A key names no other slot until it is taken out.
@@ -214,7 +253,7 @@ const BEATS: &[Do] = &[
 
 #[test]
 fn slots_go_so(rt: HostRuntime) {
-    for steps in [FAULT, KEYS, READY, SILENT, BEATS] {
+    for steps in [FAULT, EACH, LAGS, KEYS, READY, SILENT, BEATS] {
         assert!(rt; goes(rt.alloc(), steps));
     }
 }
