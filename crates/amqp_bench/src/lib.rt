@@ -6,17 +6,20 @@
 //! | `codec` | frames written and read |
 //! | `session` | messages between two ends in memory, and what is asked for of messages |
 //! | `sockets` | messages over sockets, each end with one thread for all of its connections |
+//! | `drivers` | both of these ends in one process |
 //! | `end` | an end of a connection in memory |
 //! | `hand` | what an end does that is measured, in memory and over sockets |
 #![tactic(auto)]
 
 mod codec;
+mod drivers;
 mod end;
 mod hand;
 mod session;
 mod sockets;
 
 use codec::run_codec;
+pub use drivers::run_drivers;
 pub use session::Messages;
 use session::run_sessions;
 use sockets::run_sockets;

@@ -7,13 +7,14 @@ use amqp_conn::{Bytes, Conn, Role};
 use amqp_ready::{Driver, Limits, Round, SlotFault, Welcome};
 use mio::net::{TcpListener, TcpStream};
 use std::alloc::{AllocError, Global};
+use std::io;
 use std::io::Write;
 use std::net::{IpAddr, Ipv4Addr, Net, SocketAddr};
 use std::rt::Clock;
 use std::time::{Duration, Instant};
 
 /// How many events a turn takes at most.
-const EVENTS: usize = 1024;
+pub(crate) const EVENTS: usize = 1024;
 
 /// How often the clock is looked at for all connections, in milliseconds.
 const TICK: u64 = 1000;
@@ -49,16 +50,27 @@ pub struct Sockets {
 
 /// What the ends have done.
 #[derive(Clone, Copy, Debug, PartialEq, Eq)]
-struct Totals {
-    begun: u64,
-    learnt: u64,
-    taken: u64,
+pub(crate) struct Totals {
+    pub(crate) begun: u64,
+    pub(crate) learnt: u64,
+    pub(crate) taken: u64,
     octets: u64,
     /// How many connections did not end as they may.
-    faults: u64,
+    pub(crate) faults: u64,
 }
 
 impl Totals {
+    /// What two ends have done.
+    pub(crate) fn with(self, other: Totals) -> Totals {
+        Totals {
+            begun: self.begun.saturating_add(other.begun),
+            learnt: self.learnt.saturating_add(other.learnt),
+            taken: self.taken.saturating_add(other.taken),
+            octets: self.octets.saturating_add(other.octets),
+            faults: self.faults.saturating_add(other.faults),
+        }
+    }
+
     fn add(&mut self, counts: Counts, fault: Option<SlotFault>) {
         self.begun = self.begun.saturating_add(u64::from(counts.begun));
         self.learnt = self.learnt.saturating_add(u64::from(counts.learnt));
@@ -100,7 +112,7 @@ where
     R: AllocGlobal + Eprint + Clock + Net,
     W: Write,
 {
-    let mut driver = Driver::new(rt, rt.alloc(), EVENTS)?;
+    let mut driver = new_driver(rt)?;
     let ran = run_driver(rt, &mut driver, sockets);
     drop(driver);
     let (totals, took) = ran?;
@@ -123,7 +135,14 @@ fn tell<R: Eprint>(rt: &R, totals: Totals, took: Duration) -> anyhow::Result<()>
     Ok(())
 }
 
-/// The time is from the first connection to the end of the last one.
+/// A driver without connections.
+pub(crate) fn new_driver<R>(rt: &R) -> io::Result<Driver<Hand>>
+where
+    R: AllocGlobal + Net,
+{
+    Driver::new(rt, rt.alloc(), EVENTS)
+}
+
 fn run_driver<R>(
     rt: &R,
     driver: &mut Driver<Hand>,
@@ -133,6 +152,18 @@ where
     R: AllocGlobal + Clock + Net,
 {
     begin(rt, driver, sockets)?;
+    drive(rt, driver, sockets)
+}
+
+/// Drives all connections until they have ended. The time is from the first connection to the end of the last one.
+pub(crate) fn drive<R>(
+    rt: &R,
+    driver: &mut Driver<Hand>,
+    sockets: Sockets,
+) -> anyhow::Result<(Totals, Duration)>
+where
+    R: AllocGlobal + Clock,
+{
     let mut receives = Receives {
         alloc: rt.alloc(),
         messages: sockets.messages,
@@ -149,18 +180,36 @@ fn begin<R>(rt: &R, driver: &mut Driver<Hand>, sockets: Sockets) -> anyhow::Resu
 where
     R: AllocGlobal + Net,
 {
-    let mut there = SocketAddr::new(IpAddr::V4(Ipv4Addr::new(127, 0, 0, 1)), sockets.port);
+    let mut there = loopback(sockets.port);
     if sockets.ends != Ends::Sender {
         let listener = TcpListener::bind(rt, there)?;
         there = listener.local_addr()?;
         driver.listen(listener)?;
     }
     if sockets.ends != Ends::Receiver {
-        let size = sockets.messages.size as usize;
-        let payload = Bytes::from_vec(vec![in rt.alloc(); 0x78u8; size]?)?;
-        connect_all(rt, driver, there, sockets, &payload)?;
+        connect_senders(rt, driver, there, sockets)?;
     }
     Ok(())
+}
+
+/// A port of this machine; 0: any that is free.
+pub(crate) fn loopback(port: u16) -> SocketAddr {
+    SocketAddr::new(IpAddr::V4(Ipv4Addr::new(127, 0, 0, 1)), port)
+}
+
+/// Connects as many ends that send as there are to be.
+pub(crate) fn connect_senders<R>(
+    rt: &R,
+    driver: &mut Driver<Hand>,
+    there: SocketAddr,
+    sockets: Sockets,
+) -> anyhow::Result<()>
+where
+    R: AllocGlobal + Net,
+{
+    let size = sockets.messages.size as usize;
+    let payload = Bytes::from_vec(vec![in rt.alloc(); 0x78u8; size]?)?;
+    connect_all(rt, driver, there, sockets, &payload)
 }
 
 fn connect_all<R>(

@@ -1,7 +1,7 @@
 use Rattle.amqp_rules.specs.Limits.{IsWithinLimits}
 use Rattle.amqp_pair.specs.Ranges.{IsInRange}
 use Rattle.amqp_peer.specs.declared.command_line.Request.{Request}
-use Rattle.amqp_peer.specs.declared.command_line.Request.TheVariants.{Script, Conn, Frames, Trace, Explain, Pair, Rows, Send, Receive, Serve, Example, Bench}
+use Rattle.amqp_peer.specs.declared.command_line.Request.TheVariants.{Script, Conn, Frames, Trace, Explain, Pair, Drivers, Rows, Send, Receive, Serve, Example, Bench}
 
 -- each setting that a command is run with is within its limits
 abbrev pub IsAllowed : Request → Type 0
@@ -11,6 +11,7 @@ IsAllowed Frames = Unit {0}
 IsAllowed (Trace direction look is_raw) = Unit {0}
 IsAllowed (Explain explained) = Unit {0}
 IsAllowed (Pair options) = IsInRange options
+IsAllowed (Drivers sockets) = Unit {0}
 IsAllowed Rows = Unit {0}
 IsAllowed (Send exchange) = Unit {0}
 IsAllowed (Receive exchange) = Unit {0}

@@ -3,19 +3,21 @@ ghost use Rattle.std.specs.Prelude.{IfOk, IfSome};
 ghost use Rattle.amqp_peer.specs.Requests.{IsAllowed};
 
 use crate::bench_options::{bench, bench_of};
-use crate::options;
+use crate::choice::put;
 use crate::options::{
-    USUAL, config_of, direction_of, explained_of, look_of, receive_of, send_of, serve_of, with,
+    USUAL, config_of, direction_of, drivers_of, explained_of, look_of, pair_of, receive_of,
+    send_of, serve_of,
 };
-use amqp_bench::Bench;
+use crate::tables;
+use amqp_bench::{Bench, Sockets};
 use amqp_client::exchange::Exchange;
 use amqp_endpoint::config::Config;
-use amqp_pair::{MAX_CONSUMERS, MAX_COUNT, MAX_CREDIT, MAX_SIZE, Options};
+use amqp_pair::Options;
 use amqp_script::explain::Explained;
 use amqp_serve::Serve;
 use amqp_trace::{Direction, Look};
 use clap::error::ErrorKind;
-use clap::{Arg, ArgMatches, Command, Error};
+use clap::{ArgMatches, Command, Error};
 use std::alloc::{AllocError, Global};
 use std::convert::AsStr;
 
@@ -34,6 +36,8 @@ pub enum Request<'a> {
     Explain(Explained),
     /// A run of `pair`.
     Pair(Options),
+    /// A run of `pair` by two drivers.
+    Drivers(Sockets),
     /// A run of `rows`.
     Rows,
     /// A run of `send`.
@@ -130,7 +134,10 @@ fn request_of<'a>(matches: &ArgMatches<'a>) -> Option<Request<'a>>
             return Some(Request::Explain(explained));
         }
     } else if let Some(options) = matches.subcommand_matches("pair") {
-        let options = pair_options(options);
+        if options.get_flag("drivers") {
+            return Some(Request::Drivers(drivers_of(options)));
+        }
+        let options = pair_of(options);
         if options.are_in_range() {
             return Some(Request::Pair(options));
         }
@@ -149,78 +156,45 @@ fn request_of<'a>(matches: &ArgMatches<'a>) -> Option<Request<'a>>
 }
 
 fn program<'a>(alloc: Global) -> Result<Command<'a>, AllocError> {
-    let command = Command::new(alloc, "amqp_peer")
+    let commands = commands(alloc)?;
+    Command::new(alloc, "amqp_peer")
         .about("One end of an AMQP 1.0 connection")
-        .subcommand_required(true);
-    let command = with(command, options::script(alloc))?;
-    let command = with(command, options::conn(alloc))?;
-    let command = command.subcommand(options::frames(alloc))?;
-    let command = with(command, options::trace(alloc))?;
-    let command = with(command, options::explain(alloc))?;
-    let command = with(command, pair(alloc))?;
-    let command = with(command, options::send(alloc))?;
-    let command = with(command, options::receive(alloc))?;
-    let command = with(command, options::serve(alloc))?;
-    let command = command.subcommand(options::example(alloc))?;
-    let command = with(command, bench(alloc))?;
-    command.subcommand(options::rows(alloc))
+        .subcommand_required(true)
+        .subcommands(commands)
 }
 
-fn pair<'a>(alloc: Global) -> Result<Command<'a>, AllocError> {
-    Command::new(alloc, "pair")
-        .about("Sends messages from one end of a connection to another, over the loopback")
-        .arg(number(alloc, "count", "How many messages", 1, MAX_COUNT))?
-        .arg(number(
-            alloc,
-            "consumers",
-            "How many threads consume them",
-            1,
-            MAX_CONSUMERS,
-        ))?
-        .arg(number(
-            alloc,
-            "credit",
-            "How many messages may come at a time",
-            1,
-            MAX_CREDIT,
-        ))?
-        .arg(number(alloc, "size", "The octets of a message", 0, MAX_SIZE))?
-        .arg(number(
-            alloc,
-            "first-id",
-            "The first transfer id and delivery id",
-            0,
-            u32::MAX,
-        ))?
-        .arg(options::keep(alloc))?
-        .arg(options::flag(
-            alloc,
-            "settled",
-            "The messages go settled: nothing is told of them",
-        ))
+fn commands<'a>(alloc: Global) -> Result<Vec<Command<'a>>, AllocError> {
+    let mut commands = Vec::new(alloc);
+    add_readers(alloc, &mut commands)?;
+    add_peers(alloc, &mut commands)?;
+    add_others(alloc, &mut commands)?;
+    Ok(commands)
 }
 
-/// An option that has to be there: a number between these.
-fn number<'a>(
-    alloc: Global,
-    name: &'static str,
-    help: &'static str,
-    least: u32,
-    most: u32,
-) -> Arg<'a> {
-    options::number(alloc, name, help, least, most).required(true)
+/// Adds the commands that read what standard input gives, and `explain`.
+fn add_readers<'a>(alloc: Global, commands: &mut Vec<Command<'a>>) -> Result<(), AllocError> {
+    put(commands, tables::script(alloc))?;
+    put(commands, tables::conn(alloc))?;
+    put(commands, Ok(tables::frames(alloc)))?;
+    put(commands, tables::trace(alloc))?;
+    put(commands, tables::explain(alloc))?;
+    Ok(())
 }
 
-fn pair_options(options: &ArgMatches<'_>) -> Options {
-    Options {
-        count: options.get_one::<u32>("count").unwrap_or(1),
-        consumers: options.get_one::<u32>("consumers").unwrap_or(1),
-        credit: options.get_one::<u32>("credit").unwrap_or(1),
-        size: options.get_one::<u32>("size").unwrap_or(0),
-        first_id: options.get_one::<u32>("first-id").unwrap_or(0),
-        keep: options.get_one::<u32>("keep"),
-        settled: options.get_flag("settled"),
-    }
+/// Adds the commands that talk over sockets.
+fn add_peers<'a>(alloc: Global, commands: &mut Vec<Command<'a>>) -> Result<(), AllocError> {
+    put(commands, tables::pair(alloc))?;
+    put(commands, tables::send(alloc))?;
+    put(commands, tables::receive(alloc))?;
+    put(commands, tables::serve(alloc))?;
+    Ok(())
+}
+
+fn add_others<'a>(alloc: Global, commands: &mut Vec<Command<'a>>) -> Result<(), AllocError> {
+    put(commands, Ok(tables::example(alloc)))?;
+    put(commands, bench(alloc))?;
+    put(commands, Ok(tables::rows(alloc)))?;
+    Ok(())
 }
 
 /// The settings of a `script`.

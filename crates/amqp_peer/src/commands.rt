@@ -2,7 +2,7 @@
 ghost use Rattle.amqp_peer.specs.Requests.{IsAllowed};
 
 use crate::command_line::Request;
-use amqp_bench::run_bench;
+use amqp_bench::{run_bench, run_drivers};
 use amqp_client::exchange::{run_receive, run_send};
 use amqp_example::run_examples;
 use amqp_pair::run_pair;
@@ -64,6 +64,7 @@ where
             run_pair(rt, alloc, &options, writer)?;
             Ok(DONE)
         }
+        Request::Drivers(sockets) => done(run_drivers(rt, sockets, writer)),
         Request::Send(exchange) => Ok(status_if(run_send(rt, alloc, &exchange, reader, writer)?)),
         Request::Receive(exchange) => Ok(status_if(run_receive(rt, alloc, &exchange, writer)?)),
         Request::Serve(serve) => {

@@ -3,8 +3,10 @@
 //! | module | what it holds |
 //! |---|---|
 //! | `command_line` | what the words of a command line ask for |
-//! | `options` | the commands with their options |
-//! | `bench_options` | the command `bench` with its options |
+//! | `choice` | an option as the row of a table, and the command that has it |
+//! | `tables` | the commands with their options |
+//! | `options` | what is asked for by the options that were given |
+//! | `bench_options` | the command `bench` with its options, and what is asked for by them |
 //! | `commands` | what each command does, from its input to its output |
 //! | `memory` | how much memory that was given back is kept |
 //! | `rows` | the command `rows`: cases of command lines with their inputs, and whether they are answered as they want |
@@ -29,11 +31,13 @@
 ghost use Rattle.amqp_peer.specs.Requests.{IsAllowed};
 
 pub mod bench_options;
+pub mod choice;
 pub mod command_line;
 pub mod commands;
 pub mod memory;
 pub mod options;
 pub mod rows;
+pub mod tables;
 
 use command_line::{Request, read_request};
 use commands::{FAULT, answer, status_of_words};

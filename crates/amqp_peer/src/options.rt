@@ -1,17 +1,14 @@
-//! The commands `script`, `conn`, `frames`, `rows`, `example`, `trace`, `explain`, `send`, `receive` and `serve` with their options. Each option is made where it is added: one that is owned over
-//! the way out of another costs its proof there.
+//! What is asked for by the options that were given.
 
+use amqp_bench::{Ends, Messages, Sockets};
 use amqp_client::exchange::{Exchange, Renewal};
-use amqp_client::{Labels, MIN_MAX_FRAME, Printed};
-use amqp_rules::config::{Config, MAX_JOURNAL_LIMIT, MAX_WINDOW};
+use amqp_client::{Labels, Printed};
+use amqp_pair::Options;
+use amqp_rules::config::{Config, MAX_JOURNAL_LIMIT};
 use amqp_script::explain::{Explained, find_fault, find_refusal, find_violation};
-use amqp_serve::{MAX_THREADS, Serve};
+use amqp_serve::Serve;
 use amqp_trace::{Direction, Look};
-use clap::{Arg, ArgAction, ArgMatches, Command, value_parser};
-use std::alloc::{AllocError, Global};
-
-/// The most seconds that a peer may be waited for, half of which it is told in milliseconds.
-const MAX_PATIENCE: i64 = 8_589_934;
+use clap::ArgMatches;
 
 /// The settings where no option is given.
 pub const USUAL: Config = Config {
@@ -29,51 +26,6 @@ pub fn config_of(options: &ArgMatches<'_>) -> Config {
             .get_one::<u32>("limit")
             .unwrap_or(USUAL.journal_limit),
     }
-}
-
-/// The command `script` with its options.
-pub fn script<'a>(alloc: Global) -> Result<Command<'a>, AllocError> {
-    let about = "Reads lines from standard input and answers each with a line";
-    with_config(alloc, Command::new(alloc, "script").about(about))?.arg(keep(alloc))
-}
-
-/// The command `conn` with its options.
-pub fn conn<'a>(alloc: Global) -> Result<Command<'a>, AllocError> {
-    let conn = Command::new(alloc, "conn").about(
-        "Reads lines from standard input, drives a connection by them, and answers each with a line",
-    );
-    with_config(alloc, conn)
-}
-
-/// The command `frames`, which has none.
-pub fn frames<'a>(alloc: Global) -> Command<'a> {
-    let about = "Reads octets in hexadecimal from standard input and names the frames in them";
-    Command::new(alloc, "frames").about(about)
-}
-
-/// The command `rows`, which has none.
-pub fn rows<'a>(alloc: Global) -> Command<'a> {
-    let about =
-        "Reads cases from standard input and tells which of them are answered otherwise than they want";
-    Command::new(alloc, "rows").about(about)
-}
-
-/// The command `example`, which has none.
-pub fn example<'a>(alloc: Global) -> Command<'a> {
-    let about =
-        "Runs the examples of how the crates are embedded, each of which tells what it does";
-    Command::new(alloc, "example").about(about)
-}
-
-/// The command `trace` with its options.
-pub fn trace<'a>(alloc: Global) -> Result<Command<'a>, AllocError> {
-    Command::new(alloc, "trace")
-        .about(
-            "Reads octets in hexadecimal from standard input and prints a line for each frame in them",
-        )
-        .arg(flag(alloc, "heard", "The octets were heard, and not sent"))?
-        .arg(flag(alloc, "raw", "Standard input has the octets as they are"))?
-        .arg(flag(alloc, "color", "The lines are in colour"))
 }
 
 /// Which way the octets of a `trace` went.
@@ -103,38 +55,6 @@ fn traced_of(options: &ArgMatches<'_>) -> Option<Look> {
     }
 }
 
-/// The command, with the options that have each frame told.
-fn with_trace<'a>(alloc: Global, command: Command<'a>) -> Result<Command<'a>, AllocError> {
-    command
-        .arg(flag(alloc, "trace", "Tells each frame on standard error"))?
-        .arg(color(alloc)?)
-}
-
-fn color<'a>(alloc: Global) -> Result<Arg<'a>, AllocError> {
-    flag(alloc, "color", "Tells them in colour").requires_arg("trace")
-}
-
-/// The command `explain` with its options.
-pub fn explain<'a>(alloc: Global) -> Result<Command<'a>, AllocError> {
-    Command::new(alloc, "explain")
-        .about("Says in words what a number of an answer means")
-        .arg(explained(alloc))?
-        .arg(flag(alloc, "violation", "It is the number of a violation"))?
-        .arg(fault(alloc)?)
-}
-
-fn explained<'a>(alloc: Global) -> Arg<'a> {
-    Arg::new(alloc, "number")
-        .value_name("N")
-        .value_parser(value_parser!(u32))
-        .required(true)
-        .help("The number of a refusal")
-}
-
-fn fault<'a>(alloc: Global) -> Result<Arg<'a>, AllocError> {
-    flag(alloc, "fault", "It is that of a fault of framing").conflicts_with("violation")
-}
-
 /// What the number stands for, if for anything.
 pub fn explained_of(options: &ArgMatches<'_>) -> Option<Explained> {
     let number = options.get_one::<u32>("number")?;
@@ -145,203 +65,6 @@ pub fn explained_of(options: &ArgMatches<'_>) -> Option<Explained> {
     } else {
         Some(Explained::Refusal(find_refusal(number)?))
     }
-}
-
-/// The command `send` with its options.
-pub fn send<'a>(alloc: Global) -> Result<Command<'a>, AllocError> {
-    let about = "Sends messages to a peer over TCP, and tells what became of them";
-    with_labels(
-        alloc,
-        with_peer(alloc, Command::new(alloc, "send").about(about))?,
-    )?
-    .arg(usual(alloc, "size", "The octets of a message's body", "16"))?
-    .arg(flag(alloc, "lines", "Each line of standard input is a message"))?
-    .arg(file(alloc)?)?
-    .arg(flag(
-        alloc,
-        "settled",
-        "The messages go settled: nothing is told of them",
-    ))?
-    .arg(journal(alloc, "settled")?)
-}
-
-/// The option of `send` and `receive` that says which file is their journal, which does not go with this other one.
-fn journal<'a>(alloc: Global, other: &'static str) -> Result<Arg<'a>, AllocError> {
-    let help =
-        "Keeps in this file what became of each message: lost connections, and runs that were killed, are taken up again";
-    Arg::new(alloc, "journal")
-        .long("journal")
-        .value_name("PATH")
-        .help(help)
-        .conflicts_with(other)
-}
-
-fn file<'a>(alloc: Global) -> Result<Arg<'a>, AllocError> {
-    Arg::new(alloc, "file")
-        .long("file")
-        .value_name("PATH")
-        .help("The octets of this file are each message's body")
-        .conflicts_with("lines")
-}
-
-/// The command, with the options that say what each message tells beside its body.
-fn with_labels<'a>(alloc: Global, command: Command<'a>) -> Result<Command<'a>, AllocError> {
-    command
-        .arg(label(alloc, "message-id", "The messages' message-id, a string"))?
-        .arg(label(alloc, "correlation-id", "Their correlation-id, a string"))?
-        .arg(label(alloc, "subject", "Their subject"))?
-        .arg(label(alloc, "reply-to", "Their reply-to"))?
-        .arg(label(alloc, "content-type", "Their content-type"))?
-        .arg(flag(alloc, "durable", "They are durable"))
-}
-
-/// A text that may be left off.
-fn label<'a>(alloc: Global, name: &'static str, help: &'static str) -> Arg<'a> {
-    Arg::new(alloc, name)
-        .long(name)
-        .value_name("TEXT")
-        .help(help)
-}
-
-/// The command `receive` with its options.
-pub fn receive<'a>(alloc: Global) -> Result<Command<'a>, AllocError> {
-    let about = "Takes messages from a peer over TCP, and accepts them";
-    let credit = "How many messages may come at a time";
-    let half = "Gives credit again once half of it is used, and not all";
-    let lines = "Prints the body of each message, and a line's end";
-    let sections = "Prints a line for each section of each message";
-    let json = "Prints a line of JSON for each message";
-    with_peer(alloc, Command::new(alloc, "receive").about(about))?
-        .arg(usual(alloc, "credit", credit, "10").value_parser(value_parser!(u32).range(1..)))?
-        .arg(flag(alloc, "half", half))?
-        .arg(drain(alloc)?)?
-        .arg(flag(alloc, "lines", lines))?
-        .arg(flag(alloc, "sections", sections))?
-        .arg(flag(alloc, "json", json))?
-        .arg(journal(alloc, "drain")?)
-}
-
-/// The command `serve` with its options.
-pub fn serve<'a>(alloc: Global) -> Result<Command<'a>, AllocError> {
-    let about =
-        "Listens for peers, keeps what they send in memory by address, and sends it to those that take it: for tests";
-    let count = "Ends once so many messages were sent and are done with";
-    let limit = "How many messages are kept at most";
-    with_trace(alloc, Command::new(alloc, "serve").about(about))?
-        .arg(text(
-            alloc,
-            "host",
-            "The address to listen at, in digits",
-            "127.0.0.1",
-        ))?
-        .arg(port(alloc))?
-        .arg(usual(
-            alloc,
-            "credit",
-            "How many messages may come at a time on each link",
-            "100",
-        )
-        .value_parser(value_parser!(u32).range(1..=2147483647)))?
-        .arg(usual(alloc, "limit", limit, "100000"))?
-        .arg(threads(alloc))?
-        .arg(
-            Arg::new(alloc, "count")
-                .long("count")
-                .value_name("N")
-                .value_parser(value_parser!(u32))
-                .help(count),
-        )
-}
-
-fn threads<'a>(alloc: Global) -> Arg<'a> {
-    let threads = usual(alloc, "threads", "How many threads drive connections", "1");
-    threads.value_parser(value_parser!(u32).range(1..=i64::from(MAX_THREADS)))
-}
-
-/// The command, with the options that say who the peer is, and of how many messages.
-fn with_peer<'a>(alloc: Global, command: Command<'a>) -> Result<Command<'a>, AllocError> {
-    let count = usual(alloc, "count", "How many messages", "1");
-    let retries =
-        "With a journal: how often in a row a peer is tried again where that brings nothing";
-    with_trace(alloc, command)?
-        .arg(text(
-            alloc,
-            "address",
-            "The address at the peer, where this end begins",
-            "q",
-        ))?
-        .arg(text(
-            alloc,
-            "host",
-            "The peer's host, or the one to listen at",
-            "127.0.0.1",
-        ))?
-        .arg(port(alloc))?
-        .arg(flag(alloc, "listen", "The peer connects and begins"))?
-        .arg(patience(alloc))?
-        .arg(text(alloc, "container-id", "This end's name", "amqp_peer"))?
-        .arg(max_frame(alloc))?
-        .arg(flag(alloc, "quiet", "Does not tell how far it is"))?
-        .arg(usual(alloc, "retries", retries, "20"))?
-        .arg(count.value_parser(value_parser!(u32).range(1..)))
-}
-
-fn text<'a>(alloc: Global, name: &'static str, help: &'static str, usual: &'static str) -> Arg<'a> {
-    Arg::new(alloc, name)
-        .long(name)
-        .value_name("TEXT")
-        .default_value(usual)
-        .help(help)
-}
-
-fn drain<'a>(alloc: Global) -> Result<Arg<'a>, AllocError> {
-    flag(
-        alloc,
-        "drain",
-        "Takes what is there, and waits for no message",
-    )
-    .conflicts_with("half")
-}
-
-fn max_frame<'a>(alloc: Global) -> Arg<'a> {
-    Arg::new(alloc, "max-frame")
-        .long("max-frame")
-        .value_name("N")
-        .value_parser(value_parser!(u32).range(i64::from(MIN_MAX_FRAME)..))
-        .default_value("65536")
-        .help("The longest frame that this end takes, in octets")
-}
-
-fn patience<'a>(alloc: Global) -> Arg<'a> {
-    Arg::new(alloc, "timeout")
-        .long("timeout")
-        .value_name("SECONDS")
-        .value_parser(value_parser!(u32).range(1..=MAX_PATIENCE))
-        .help("After so long without an octet the peer is left")
-}
-
-fn port<'a>(alloc: Global) -> Arg<'a> {
-    Arg::new(alloc, "port")
-        .long("port")
-        .value_name("N")
-        .value_parser(value_parser!(u16))
-        .default_value("5672")
-        .help("The peer's port, or the one to listen at")
-}
-
-/// A number that may be left off.
-fn usual<'a>(
-    alloc: Global,
-    name: &'static str,
-    help: &'static str,
-    usual: &'static str,
-) -> Arg<'a> {
-    Arg::new(alloc, name)
-        .long(name)
-        .value_name("N")
-        .value_parser(value_parser!(u32))
-        .default_value(usual)
-        .help(help)
 }
 
 /// What a `send` is to do.
@@ -438,83 +161,32 @@ fn printed_of(options: &ArgMatches<'_>) -> Printed {
     }
 }
 
-/// The command with this one under it.
-pub fn with<'a>(
-    command: Command<'a>,
-    under: Result<Command<'a>, AllocError>,
-) -> Result<Command<'a>, AllocError> {
-    match under {
-        Ok(under) => command.subcommand(under),
-        Err(error) => {
-            drop(command);
-            Err(error)
-        }
+/// What a `pair` is to do.
+pub fn pair_of(options: &ArgMatches<'_>) -> Options {
+    Options {
+        count: options.get_one::<u32>("count").unwrap_or(1),
+        consumers: options.get_one::<u32>("consumers").unwrap_or(1),
+        credit: options.get_one::<u32>("credit").unwrap_or(1),
+        size: options.get_one::<u32>("size").unwrap_or(0),
+        first_id: options.get_one::<u32>("first-id").unwrap_or(0),
+        keep: options.get_one::<u32>("keep"),
+        settled: options.get_flag("settled"),
     }
 }
 
-/// An option whose value is a number between these.
-pub fn number<'a>(
-    alloc: Global,
-    name: &'static str,
-    help: &'static str,
-    least: u32,
-    most: u32,
-) -> Arg<'a> {
-    Arg::new(alloc, name)
-        .long(name)
-        .value_name("N")
-        .value_parser(value_parser!(u32).range(i64::from(least)..=i64::from(most)))
-        .help(help)
-}
-
-/// An option without a value.
-pub fn flag<'a>(alloc: Global, name: &'static str, help: &'static str) -> Arg<'a> {
-    Arg::new(alloc, name)
-        .long(name)
-        .action(ArgAction::SetTrue)
-        .help(help)
-}
-
-/// The command, with the options of an endpoint's settings.
-fn with_config<'a>(alloc: Global, command: Command<'a>) -> Result<Command<'a>, AllocError> {
-    command
-        .arg(first_id(alloc))?
-        .arg(window(alloc))?
-        .arg(limit(alloc))
-}
-
-/// The option of `script` and `pair` that says how many of a journal's entries are kept.
-pub fn keep<'a>(alloc: Global) -> Arg<'a> {
-    Arg::new(alloc, "keep")
-        .long("keep")
-        .value_name("N")
-        .value_parser(value_parser!(u32).range(1..=i64::from(MAX_JOURNAL_LIMIT)))
-        .help("How many entries of the journal stay at most; all where it is left off")
-}
-
-fn first_id<'a>(alloc: Global) -> Arg<'a> {
-    Arg::new(alloc, "first-id")
-        .long("first-id")
-        .value_name("N")
-        .value_parser(value_parser!(u32))
-        .default_value("0")
-        .help("The first transfer id and delivery id")
-}
-
-fn window<'a>(alloc: Global) -> Arg<'a> {
-    Arg::new(alloc, "window")
-        .long("window")
-        .value_name("W")
-        .value_parser(value_parser!(u32).range(1..=i64::from(MAX_WINDOW)))
-        .default_value("2048")
-        .help("The incoming window, in transfers")
-}
-
-fn limit<'a>(alloc: Global) -> Arg<'a> {
-    Arg::new(alloc, "limit")
-        .long("limit")
-        .value_name("L")
-        .value_parser(value_parser!(u32).range(1..=i64::from(MAX_JOURNAL_LIMIT)))
-        .default_value("1073741824")
-        .help("How many steps the journal may have")
+/// What a `pair` of drivers is to do, of which no option is out of its range.
+pub fn drivers_of(options: &ArgMatches<'_>) -> Sockets {
+    Sockets {
+        ends: Ends::Both,
+        port: 0,
+        connections: options.get_one::<u32>("connections").unwrap_or(1),
+        messages: Messages {
+            count: options.get_one::<u32>("count").unwrap_or(1),
+            size: options.get_one::<u32>("size").unwrap_or(0),
+            settled: options.get_flag("settled"),
+            credit: options.get_one::<u32>("credit").unwrap_or(1),
+            range: u32::MAX,
+            keep: options.get_one::<u32>("keep"),
+        },
+    }
 }
