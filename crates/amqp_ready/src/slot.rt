@@ -25,7 +25,7 @@ pub enum Brought {
     End,
     /// It would wait.
     Waits,
-    /// Nothing was read: octets are unfed, or many are left to be written.
+    /// Nothing was read: octets are unfed, or many stand in the outbox.
     Held,
     /// Nothing was read: there was no room to read to.
     NoRoom,
@@ -47,7 +47,7 @@ pub enum Served {
 }
 
 /// A connection with its stream and the application's part. It has at most one room of octets that were read and not fed, and reads no more while 65536
-/// octets or more are left to be written.
+/// octets or more stand in its outbox; units that wait in the connection behind those are not counted.
 #[derive(Drop)]
 pub struct Slot<S, H> {
     stream: S,
@@ -169,7 +169,7 @@ impl<S: NonBlocking, H: Handler> Slot<S, H> {
         self.outbox.len() >= GATHERED
     }
 
-    /// Reads once, where all is fed and few octets are left to be written.
+    /// Reads once, where all is fed and few octets stand in the outbox.
     ///
     /// # Errors
     ///
