@@ -363,6 +363,7 @@ impl Hand {
         let is_ready = matches!(&given, Given::Ready(_, _));
         drop(given);
         if !is_ready {
+            self.make_room(conn);
             return Ok(false);
         }
         self.take_one(conn)?;

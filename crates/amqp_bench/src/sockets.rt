@@ -16,7 +16,7 @@ use std::time::{Duration, Instant};
 /// How many events a turn takes at most.
 pub(crate) const EVENTS: usize = 1024;
 
-/// How often the clock is looked at for all connections, in milliseconds.
+/// How seldom the clock is looked at for all connections, in milliseconds.
 const TICK: u64 = 1000;
 
 /// A peer opens within ten seconds, and closes within five; how long it is silent does not matter.
@@ -296,14 +296,18 @@ fn turn_to_the_end<R: Clock>(
         }
         let _: Round = driver.turn(Some(Duration::from_millis(TICK)))?;
         admit(driver, receives);
-        let now = begun.elapsed(rt)?.as_secs().saturating_mul(1000);
+        let now = milliseconds(begun.elapsed(rt)?);
         if now >= next {
-            driver.tick(LIMITS, now);
-            next = now.saturating_add(TICK);
+            let soonest = driver.tick(LIMITS, now).unwrap_or(u64::MAX);
+            next = soonest.min(now.saturating_add(TICK));
         }
         left = left.saturating_sub(count_ended(driver, &mut totals));
     }
     Ok(totals)
+}
+
+fn milliseconds(span: Duration) -> u64 {
+    u64::try_from(span.as_millis()).unwrap_or(u64::MAX)
 }
 
 /// Counts what those have done that have ended: how many these are.

@@ -9,7 +9,9 @@ use crate::recalling::{Recalls, recall_journal};
 use crate::receiving::{grant, settle_as};
 use crate::report::{Reports, show_taken};
 use crate::session::Session;
-use amqp_conn::{Boxed, DeliveryState, Role, Tag, Taken};
+use amqp_conn::{
+    Boxed, CloseRefusal, ConnFault, DeliveryState, PumpFault, Refusal, Role, Tag, Taken,
+};
 use std::alloc::Global;
 use std::collections::VecDeque;
 use std::net::{Net, TcpStream};
@@ -205,9 +207,22 @@ where
 /// The peer is gone: what it has not settled is in doubt, and all else is done.
 fn is_of_peer(fault: &ExchangeFault) -> bool {
     match fault {
-        ExchangeFault::Socket(_) | ExchangeFault::NoPeer | ExchangeFault::Client(_) => true,
+        ExchangeFault::Socket(_) | ExchangeFault::NoPeer => true,
+        ExchangeFault::Client(fault) => !wants_memory(fault),
         _ => false,
     }
+}
+
+/// Memory was refused, which says nothing of the peer.
+fn wants_memory(fault: &ClientFault) -> bool {
+    matches!(
+        fault,
+        ClientFault::NoMemory
+            | ClientFault::Start(_)
+            | ClientFault::Refused(Refusal::NoMemory)
+            | ClientFault::Close(CloseRefusal::NoMemory)
+            | ClientFault::Pump(PumpFault::Conn(ConnFault::NoMemory))
+    )
 }
 
 impl<N: Notes> GoesOn for Receives<'_, N> {

@@ -1,5 +1,5 @@
 -- What holds of an endpoint with its journal at all times.
-use Rattle.std.specs.Prelude.{ℕ, ◌≡◌, ◌≤◌, ◌+◌, List, length, drop}
+use Rattle.std.specs.Prelude.{ℕ, ◌≡◌, ◌≤◌, ◌+◌, ◌^◌, List, All, length, drop, sum_by}
 use Rattle.amqp_rules.specs.Limits.{IsWithinLimits}
 use Rattle.amqp_rules.specs.View.{View}
 use Rattle.amqp_laws.specs.Past.{past}
@@ -19,3 +19,8 @@ pub record IsKept (l : Log) (endpoint : View) (queue : List (List ℕ)) : Type 0
   pub some : l.popped ≤ length (units l)
   pub few : length (units l) ≤ length l.journal + length l.put
   pub forgot : l.forgotten ≤ length l.journal
+
+-- The count is that of the octets of all units, each of which has a length that a machine tells.
+pub record IsCounted (octets : ℕ) (queue : List (List ℕ)) : Type 0 where
+  pub sum : octets ≡ sum_by length queue
+  pub short : All (λ u. length u ≤ 2 ^ 64) queue

@@ -1,5 +1,5 @@
 //! An endpoint with the journal of its steps and the units that wait.
-ghost use Rattle.std.specs.Prelude.{ℕ, List, ◌≡◌, ◌≢◌, ◌<◌, ◌≤◌, ◌^◌, ◌⊎◌, ◌+◌, ◌-◌, ◌++◌, ◌∷◌, ◌↔◌, length, [], drop, take, find, remove, map, vec_len, vec_capacity, option_to_list, Option, Some, None, Ok, IsTrue, IfErr, IfSome, IfNone, OnOk, OnErr, IfOk, slice_get};
+ghost use Rattle.std.specs.Prelude.{ℕ, List, ◌≡◌, ◌≢◌, ◌<◌, ◌≤◌, ◌^◌, ◌⊎◌, ◌+◌, ◌-◌, ◌++◌, ◌∷◌, ◌↔◌, length, [], drop, take, find, remove, map, min, sum_by, vec_len, vec_capacity, option_to_list, Option, Some, None, Ok, IsTrue, IfErr, IfSome, IfNone, OnOk, OnErr, IfOk, slice_get};
 ghost use Rattle.std.specs.VecDeque.{deque_len, deque_capacity};
 ghost use Rattle.amqp_rules.specs.declared.config.Config.{Config};
 ghost use Rattle.amqp_rules.specs.Limits.{IsWithinLimits};
@@ -15,6 +15,7 @@ ghost use Rattle.amqp_laws.specs.Lawful.{IsLawful, NeverWithoutCredit};
 ghost use Rattle.amqp_laws.specs.DeliveryLaws.{AreLeft, NeverTwice, SendsSerials};
 ghost use Rattle.amqp_laws.specs.declared.entry.Step.TheVariants as step;
 ghost use Rattle.amqp_journal.specs.Log.{Log, Appends, Extends, IsRefusal, opened_due, own_due, heard_due, new_log, logging, putting, popping, forgetting, leaving, is_left_by};
+ghost use Rattle.amqp_journal.specs.Kept.{IsCounted};
 ghost use Rattle.amqp_journal.specs.Units.{units, waiting, Stands, PutWithin, given_link, given_id};
 
 use crate::receipt::{Receipt, id_of, link_of};
@@ -54,6 +55,8 @@ pub struct Logged {
     /// What was put, each with the number of entries before it.
     put: Vec<(u64, Bytes)>,
     waiting: VecDeque<Bytes>,
+    /// How many octets wait.
+    octets: u128,
     popped: u64,
     /// What links left that are gone.
     left: VecDeque<Left>,
@@ -69,6 +72,7 @@ impl Drop for Logged {
             journal,
             put,
             waiting,
+            octets: _,
             popped: _,
             left,
         } = self;
@@ -84,7 +88,7 @@ impl Drop for Logged {
 impl Model for Logged {
     ghost use Rattle.std.specs.Prelude.{◌++◌, length};
     ghost use Rattle.amqp_journal.specs.Log.{Log};
-    ghost use Rattle.amqp_journal.specs.Kept.{IsKept};
+    ghost use Rattle.amqp_journal.specs.Kept.{IsKept, IsCounted};
     ghost use Rattle.amqp_types.specs.contracts.value.Value as value;
     ghost use Rattle.std.specs.Coded.{codes};
 
@@ -94,7 +98,7 @@ impl Model for Logged {
 
     ghost view = { λ l. record { config = l.config; journal = l.gone.items ++ l.journal.items; forgotten = length l.gone.items; put = l.put.items; popped = l.popped; left = l.left.items } };
 
-    ghost invariant = { λ l. IsKept (record { config = l.config; journal = l.gone.items ++ l.journal.items; forgotten = length l.gone.items; put = l.put.items; popped = l.popped; left = l.left.items }) l.endpoint l.waiting.items };
+    ghost invariant = { λ l. IsKept (record { config = l.config; journal = l.gone.items ++ l.journal.items; forgotten = length l.gone.items; put = l.put.items; popped = l.popped; left = l.left.items }) l.endpoint l.waiting.items × IsCounted l.octets l.waiting.items };
 }
 
 impl Logged {
@@ -111,6 +115,7 @@ impl Logged {
             journal: Vec::new(alloc),
             put: Vec::new(alloc),
             waiting: VecDeque::new(alloc),
+            octets: 0,
             popped: 0,
             left: VecDeque::new(alloc),
         }
@@ -228,7 +233,7 @@ impl Logged {
                     given,
                 } = done;
                 self.journal.push_reserved(Entry { step: own, reply });
-                queue(&mut self.waiting, octets);
+                queue(&mut self.waiting, &mut self.octets, octets);
                 Ok(given)
             }
             Err(refusal) => {
@@ -274,7 +279,7 @@ impl Logged {
                     step: Step::Own(op),
                     reply,
                 });
-                queue(&mut self.waiting, octets);
+                queue(&mut self.waiting, &mut self.octets, octets);
                 Ok(())
             }
             Err(refusal) => {
@@ -339,7 +344,7 @@ impl Logged {
                     step: Step::Heard(frame),
                     reply,
                 });
-                queue(&mut self.waiting, octets);
+                queue(&mut self.waiting, &mut self.octets, octets);
                 Ok(given)
             }
             Err(violation) => {
@@ -359,7 +364,7 @@ impl Logged {
         room_for_put(&mut self.put, &mut self.waiting)?;
         self.put
             .push_reserved((self.endpoint.steps() as u64, octets));
-        self.waiting.push_back_reserved(copy);
+        queue(&mut self.waiting, &mut self.octets, Some(copy));
         Ok(())
     }
 
@@ -369,6 +374,7 @@ impl Logged {
         ensures none { result ≡ None → (waiting self.old ≡ []) × (self.new ≡ self.old) }
     {
         let bytes = self.waiting.pop_front()?;
+        self.octets = self.octets.saturating_sub(bytes.len() as u128);
         let number = self.popped;
         self.popped = number + 1;
         Some(Unit { number, bytes })
@@ -436,6 +442,20 @@ impl Logged {
         ensures some { self.now.popped ≤ length (units self.now) }
     {
         self.popped + self.waiting.len() as u64
+    }
+
+    /// How many units wait: those that were put out and not popped.
+    pub fn waiting_units(&self) -> usize
+        ensures { result ≡ length (waiting self.now) }
+    {
+        self.waiting.len()
+    }
+
+    /// How many octets the units have that wait, or as many as a u64 tells. No unit is looked at for it.
+    pub fn waiting_octets(&self) -> u64
+        ensures { result ≡ min (sum_by length (waiting self.now)) (2 ^ 64 - 1) }
+    {
+        self.octets.min(u64::MAX as u128) as u64
     }
 }
 
@@ -557,12 +577,16 @@ fn room_for_put(
     waiting.reserve(1)
 }
 
-/// The unit of a step waits behind the others; there is room for it.
-fn queue(waiting: &mut VecDeque<Bytes>, unit: Option<Bytes>)
+/// The unit of a step waits behind the others, and its octets are counted; there is room for it.
+fn queue(waiting: &mut VecDeque<Bytes>, octets: &mut u128, unit: Option<Bytes>)
     requires { deque_len waiting.old < deque_capacity waiting.old }
-    ensures { waiting.new.items ≡ waiting.old.items ++ option_to_list unit }
+    ensures waiting { waiting.new.items ≡ waiting.old.items ++ option_to_list unit }
+    ensures counted { IsCounted octets.old waiting.old.items → IsCounted octets.new waiting.new.items }
 {
     if let Some(bytes) = unit {
+        // Known of it is then that there are no more units than a machine counts.
+        let _units = waiting.len();
+        *octets = octets.saturating_add(bytes.len() as u128);
         waiting.push_back_reserved(bytes);
     }
 }

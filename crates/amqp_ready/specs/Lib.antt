@@ -12,6 +12,8 @@ pub mod Gathering
 pub mod Lending
 -- what was read is fed
 pub mod Serving
+-- octets that answer what was read, and are not written
+pub mod Answering
 -- what a slot does
 pub mod Slotting
 -- slots by key

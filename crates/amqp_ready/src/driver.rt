@@ -93,6 +93,11 @@ impl<H: Handler + Drop> Driver<H> {
         }
     }
 
+    /// Connections that are added from here on hold at so many octets (`Slot::hold_at`).
+    pub fn hold_at(&mut self, octets: u64) {
+        self.slots.hold_at(octets);
+    }
+
     /// The slots, to be read.
     pub fn slots(&self) -> &Slots<Socket, H> {
         &self.slots
@@ -303,9 +308,10 @@ impl<H: Handler + Drop> Driver<H> {
         Waker::new(self.poll.registry(), WAKER)
     }
 
-    /// The clock is looked at (`Slots::tick`), in milliseconds from whatever moment. It makes no turn: the next one writes what it put out.
-    pub fn tick(&mut self, limits: Limits, now: u64) {
-        self.slots.tick(limits, now);
+    /// The clock is looked at (`Slots::tick`), in milliseconds from whatever moment: when it is to be looked at next, so a turn waits no longer. It makes no turn:
+    /// the next one writes what it put out.
+    pub fn tick(&mut self, limits: Limits, now: u64) -> Option<u64> {
+        self.slots.tick(limits, now)
     }
 
     /// Each connection that is open is closed. A slot ends once its peer has closed, too; what is left of those that do not end is dropped with the driver.

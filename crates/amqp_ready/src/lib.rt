@@ -3,6 +3,7 @@
 //!
 //! | module | what it has |
 //! |---|---|
+//! | `answers` | how many octets that answer what was read are not written |
 //! | `device` | [`NonBlocking`]: a stream that reads and writes some octets, or tells that it would wait; [`Socket`]: one of mio's |
 //! | `tap` | what went over a stream, where that is recorded ([`Recorded`], [`Way`]) |
 //! | `inbox` | [`Unfed`]: octets that were read and not fed; [`Inbox`]: the room for what reads bring |
@@ -25,6 +26,7 @@
 //!           └── a fault ──► Leaves ── all is written ──► Over(Some(fault)) ──► take_ended
 //! ```
 
+mod answers;
 mod device;
 mod driver;
 mod fault;
@@ -41,6 +43,7 @@ mod slots;
 mod tap;
 mod times;
 
+pub use answers::ANSWERS;
 pub use device::{Moved, NonBlocking, Socket};
 pub use driver::{Driver, NotAdded};
 pub use fault::SlotFault;

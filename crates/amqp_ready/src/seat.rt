@@ -218,6 +218,16 @@ impl<S: NonBlocking, H: Handler> Seat<S, H> {
         times.due(self.slot.conn(), limits, now)
     }
 
+    /// When the clock asks something of it next, if nothing happens before; none once it has ended.
+    pub(crate) fn deadline(&self, limits: Limits) -> Option<u64> {
+        match (self.stage, self.times) {
+            (Stage::Works | Stage::Leaves(_), Some(times)) => {
+                Some(times.deadline(self.slot.conn(), limits))
+            }
+            _ => None,
+        }
+    }
+
     /// What the clock asks is done: whether that ended it now.
     pub(crate) fn act(&mut self, due: Due) -> bool
         ensures stage { IsTicked self.old.stage self.new.stage }

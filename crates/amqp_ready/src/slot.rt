@@ -1,18 +1,20 @@
 //! A connection with its stream.
-ghost use Rattle.std.specs.Prelude.{◌≡◌, ◌≢◌, ◌≤◌, ◌<◌, ◌⊎◌, [], Ok, None, length};
+ghost use Rattle.std.specs.Prelude.{◌≡◌, ◌≢◌, ◌≤◌, ◌<◌, [], Ok, None, length};
 ghost use Rattle.std.specs.Bool.{OnFalse};
 ghost use Rattle.amqp_conn.specs.Calling.{Closes, Performs};
 ghost use Rattle.amqp_conn.specs.Pumping.{AllWent, OnlyWrote};
+ghost use Rattle.amqp_ready.specs.Answering.{added, fresh, unsent, with_most, written};
 ghost use Rattle.amqp_ready.specs.Serving.{fault_in, IsNoFeeds};
 ghost use Rattle.amqp_ready.specs.Slotting.{parts, Sent, Serves};
 
+use crate::answers::Answers;
 use crate::device::{Moved, NonBlocking};
 use crate::fault::SlotFault;
 use crate::feeding::feed;
 use crate::handler::{Handler, Next};
 use crate::inbox::{Inbox, ReadFault, Unfed};
 use crate::lent::Lent;
-use crate::outbox::{GATHERED, Outbox};
+use crate::outbox::Outbox;
 use crate::sending::{Flushed, flush};
 use amqp_conn::{CloseRefusal, Conn, Op, Phase, Refusal};
 use std::alloc::Global;
@@ -25,7 +27,7 @@ pub enum Brought {
     End,
     /// It would wait.
     Waits,
-    /// Nothing was read: octets are unfed, or many stand in the outbox.
+    /// Nothing was read: octets are unfed, or many that answer what was read are not written (`Slot::hold_at`).
     Held,
     /// Nothing was read: there was no room to read to.
     NoRoom,
@@ -46,8 +48,11 @@ pub enum Served {
     Ended,
 }
 
-/// A connection with its stream and the application's part. It has at most one room of octets that were read and not fed, and reads no more while 65536
-/// octets or more stand in its outbox; units that wait in the connection behind those are not counted.
+/// A connection with its stream and the application's part.
+///
+/// What a peer can make it keep is bounded: at most one room of octets that were read and not fed; and of octets that answer what was read, and are not
+/// written, twice as many as `hold_at` says at most, with what one read more is answered by. What the handler puts out in `Handler::go_on`, and the
+/// program by `perform`, is bounded by their own care (`unsent` tells how much waits), and by the credit and the windows of the peer.
 #[derive(Drop)]
 pub struct Slot<S, H> {
     stream: S,
@@ -55,6 +60,7 @@ pub struct Slot<S, H> {
     handler: H,
     outbox: Outbox,
     unfed: Unfed,
+    answers: Answers,
     /// How many reads brought octets.
     reads: u64,
 }
@@ -80,6 +86,7 @@ impl<S: NonBlocking, H: Handler> Slot<S, H> {
         ensures conn { result.lent ≡ record { conn = conn } }
         ensures stream { result.stream ≡ stream }
         ensures handler { result.handler ≡ handler }
+        ensures answers { result.answers ≡ fresh }
     {
         Slot {
             stream,
@@ -87,8 +94,28 @@ impl<S: NonBlocking, H: Handler> Slot<S, H> {
             handler,
             outbox: Outbox::new(alloc),
             unfed: Unfed::new(alloc),
+            answers: Answers::new(),
             reads: 0,
         }
+    }
+
+    /// From here on nothing is read while so many octets that answer what was read, or more, are not written; 1048576 where nothing is said. So a peer that
+    /// goes on to speak and never reads is held back.
+    ///
+    /// It is to be more than what answers the messages that credit allows the peer, for each a disposition and a flow of at most 64 octets: else two ends that
+    /// both send may wait for each other to read.
+    pub fn hold_at(&mut self, octets: u64)
+        ensures { self.new ≡ record self.old { answers = with_most octets self.old.answers } }
+    {
+        self.answers.most = octets;
+    }
+
+    /// How many octets are not written: those of units that wait in the connection, and what is left of units that were popped.
+    pub fn unsent(&self) -> u64
+        ensures { result ≡ unsent self.now.lent.conn self.now.outbox }
+    {
+        let waiting = self.lent.conn.logged().waiting_octets();
+        waiting.saturating_add(self.outbox.len() as u64)
     }
 
     /// How many reads brought octets.
@@ -144,39 +171,47 @@ impl<S: NonBlocking, H: Handler> Slot<S, H> {
         ensures went { result ≡ Ok Flushed.All → AllWent self.new.lent.conn }
         ensures empty { result ≡ Ok Flushed.All → self.new.outbox ≡ [] }
         ensures kept { self.new.unfed ≡ self.old.unfed }
+        ensures answers { self.new.answers ≡ written (unsent self.old.lent.conn self.old.outbox) (unsent self.new.lent.conn self.new.outbox) self.old.answers }
     {
-        match flush(&mut self.outbox, &mut self.lent.conn, &mut self.stream) {
+        let before = self.unsent();
+        let answer = flush(&mut self.outbox, &mut self.lent.conn, &mut self.stream);
+        self.answers.take_off(before, self.unsent());
+        match answer {
             Ok(flushed) => Ok(flushed),
             Err(_) => Err(SlotFault::Write),
         }
     }
 
-    /// Feeds what is unfed.
+    /// Feeds what is unfed, and counts what that put out.
     fn feed(&mut self) -> Result<Next, SlotFault>
-        ensures { Serves (fault_in result) (parts (S.remaining self.old.stream) self.old.unfed self.old.lent.conn (H.told self.old.handler) self.old.outbox (S.written self.old.stream)) (parts (S.remaining self.new.stream) self.new.unfed self.new.lent.conn (H.told self.new.handler) self.new.outbox (S.written self.new.stream)) }
+        ensures serves { Serves (fault_in result) (parts (S.remaining self.old.stream) self.old.unfed self.old.lent.conn (H.told self.old.handler) self.old.outbox (S.written self.old.stream)) (parts (S.remaining self.new.stream) self.new.unfed self.new.lent.conn (H.told self.new.handler) self.new.outbox (S.written self.new.stream)) }
+        ensures answers { self.new.answers ≡ added (unsent self.old.lent.conn self.old.outbox) (unsent self.new.lent.conn self.new.outbox) self.old.answers }
     {
-        feed(&mut self.lent, &mut self.handler, &mut self.unfed)
+        let before = self.unsent();
+        let answer = feed(&mut self.lent, &mut self.handler, &mut self.unfed);
+        self.answers.add(before, self.unsent());
+        answer
     }
 
     /// Nothing is to be read now.
     fn is_held(&self) -> bool
         ensures none { OnFalse result (self.now.unfed ≡ []) }
-        ensures few { OnFalse result (length self.now.outbox < 65536) }
+        ensures few { OnFalse result (self.now.answers.since < self.now.answers.most) }
     {
         if !self.unfed.is_empty() {
             return true;
         }
-        self.outbox.len() >= GATHERED
+        self.answers.are_many()
     }
 
-    /// Reads once, where all is fed and few octets stand in the outbox.
+    /// Reads once, where all is fed, and few octets that answer are not written.
     ///
     /// # Errors
     ///
     /// `Read` where the stream failed.
     pub fn read(&mut self, inbox: &mut Inbox) -> Result<Brought, SlotFault>
         ensures serves { Serves (fault_in result) (parts (S.remaining self.old.stream) self.old.unfed self.old.lent.conn (H.told self.old.handler) self.old.outbox (S.written self.old.stream)) (parts (S.remaining self.new.stream) self.new.unfed self.new.lent.conn (H.told self.new.handler) self.new.outbox (S.written self.new.stream)) }
-        ensures limit { 65536 ≤ length self.old.outbox → self.new ≡ self.old }
+        ensures limit { self.old.answers.most ≤ self.old.answers.since → self.new ≡ self.old }
         ensures rest { self.old.unfed ≢ [] → self.new ≡ self.old }
         ensures fault { IsNoFeeds (fault_in result) }
     {
@@ -389,6 +424,3 @@ fn after(served: Served, brought: Brought) -> Served
         _ => served,
     }
 }
-
-// What clauses speak of.
-const _: () = prove!(GATHERED == 65536);

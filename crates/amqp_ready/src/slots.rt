@@ -3,13 +3,14 @@ ghost use Rattle.std.specs.Prelude.{◌≡◌, ◌==◌, [], None, Some, IfSome,
 ghost use Rattle.slab.specs.Slab.{HasRoomFor, slab_len};
 ghost use Rattle.amqp_ready.specs.Seating.{AllStay, IsLeft, IsNew, IsOverAt, LentAt, OthersStay, TicksAt, TurnsAt, held};
 
+use crate::answers::ANSWERS;
 use crate::device::NonBlocking;
 use crate::fault::SlotFault;
 use crate::handler::Handler;
 use crate::inbox::Inbox;
 use crate::seat::{Ended, Seat, Stage, Turned};
 use crate::slot::Slot;
-use crate::times::{Due, Limits};
+use crate::times::{Due, Limits, sooner};
 use amqp_conn::{Conn, Op, Refusal};
 use slab::Slab;
 use std::alloc::{AllocError, Global};
@@ -26,6 +27,8 @@ use std::collections::VecDeque;
 pub struct Slots<S, H> {
     alloc: Global,
     inbox: Inbox,
+    /// Where a slot that is added holds (`Slot::hold_at`).
+    most: u64,
     seats: Slab<Seat<S, H>>,
     /// The keys of those that are to be served. `add` makes room for all of them.
     due: VecDeque<usize>,
@@ -58,10 +61,18 @@ impl<S: NonBlocking, H: Handler> Slots<S, H> {
         Slots {
             alloc,
             inbox: Inbox::new(alloc),
+            most: ANSWERS,
             seats: Slab::new(alloc),
             due: VecDeque::new(alloc),
             ended: None,
         }
+    }
+
+    /// Slots that are added from here on hold at so many octets (`Slot::hold_at`).
+    pub fn hold_at(&mut self, octets: u64)
+        ensures { self.new ≡ record self.old { most = octets } }
+    {
+        self.most = octets;
     }
 
     /// How many there are, with those that ended and were not taken out.
@@ -172,7 +183,8 @@ impl<S: NonBlocking, H: Handler> Slots<S, H> {
         ensures added { IsNew (held self.new.seats result) stream conn handler }
         ensures others { OthersStay self.old.seats self.new.seats result }
     {
-        let seat = Seat::new(self.alloc, stream, conn, handler);
+        let mut seat = Seat::new(self.alloc, stream, conn, handler);
+        seat.slot.hold_at(self.most);
         let key = self.seats.insert_reserved(seat);
         self.wake(key);
         key
@@ -362,10 +374,22 @@ impl<S: NonBlocking, H: Handler> Slots<S, H> {
         }
     }
 
-    /// The clock is looked at (`tick_one`) for all slots. O(n) for n slots: some times a second is often enough.
-    pub fn tick(&mut self, limits: Limits, now: u64) {
+    /// The clock is looked at (`tick_one`) for all slots: when it is to be looked at next, if nothing happens before; none where no slot goes on. O(n) for n
+    /// slots, so with many of them a program may wait a little longer.
+    pub fn tick(&mut self, limits: Limits, now: u64) -> Option<u64> {
+        let mut next = None;
         for key in 0..self.seats.capacity() {
             self.tick_one(key, limits, now);
+            next = sooner(next, self.deadline(key, limits));
+        }
+        next
+    }
+
+    /// When the clock asks something of the slot under the key next, if nothing happens before.
+    fn deadline(&self, key: usize, limits: Limits) -> Option<u64> {
+        match self.seats.get(key) {
+            Some(seat) => seat.deadline(limits),
+            None => None,
         }
     }
 

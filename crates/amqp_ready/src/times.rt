@@ -111,6 +111,23 @@ impl Times {
         }
     }
 
+    /// When something is asked of it next, if nothing is seen before.
+    pub(crate) fn deadline(self, conn: &Conn, limits: Limits) -> u64 {
+        match self.seen.span {
+            Span::Open => self.since.saturating_add(limits.open),
+            Span::End => self.since.saturating_add(limits.close),
+            Span::Nothing => self.deadline_running(conn, limits),
+        }
+    }
+
+    fn deadline_running(self, conn: &Conn, limits: Limits) -> u64 {
+        let end = self.heard.saturating_add(limits.silence);
+        match peer_patience(conn) {
+            Some(patience) => end.min(self.sent.saturating_add(u64::from(patience) / 2)),
+            None => end,
+        }
+    }
+
     fn due_running(self, conn: &Conn, limits: Limits, now: u64) -> Due {
         if now.saturating_sub(self.heard) >= limits.silence {
             return Due::End;
@@ -119,6 +136,14 @@ impl Times {
             Some(patience) if now.saturating_sub(self.sent) >= u64::from(patience) / 2 => Due::Beat,
             _ => Due::Nothing,
         }
+    }
+}
+
+/// The sooner of two moments, where there are two.
+pub(crate) fn sooner(one: Option<u64>, other: Option<u64>) -> Option<u64> {
+    match (one, other) {
+        (Some(one), Some(other)) => Some(one.min(other)),
+        (None, one) | (one, None) => one,
     }
 }
 

@@ -17,6 +17,9 @@ use std::time::{Duration, Instant};
 /// How long a turn waits at most, in milliseconds.
 const TURN: u64 = 250;
 
+/// After how long the clock is looked at again at the soonest, in milliseconds.
+const LOOK: u64 = 10;
+
 /// How many events a turn takes at most.
 const EVENTS: usize = 256;
 
@@ -96,6 +99,10 @@ impl Door {
     }
 }
 
+fn milliseconds(span: Duration) -> u64 {
+    u64::try_from(span.as_millis()).unwrap_or(u64::MAX)
+}
+
 /// The connections of one thread.
 #[derive(Drop)]
 pub struct Server {
@@ -107,6 +114,8 @@ pub struct Server {
     tags: u64,
     /// Messages were put into queues, which the other threads have not been told.
     has_put: bool,
+    /// When the clock is looked at next, in milliseconds.
+    next_look: u64,
 }
 
 impl Server {
@@ -124,6 +133,7 @@ impl Server {
                 },
                 tags: 0,
                 has_put: false,
+                next_look: 0,
             }),
             Err(error) => Err(error),
         }
@@ -148,11 +158,22 @@ impl Server {
         hall: &Hall,
         begun: Instant,
     ) -> io::Result<()> {
-        let now = begun.elapsed(rt)?.as_secs().saturating_mul(1000);
-        self.driver.turn(Some(Duration::from_millis(TURN)))?;
+        let now = milliseconds(begun.elapsed(rt)?);
+        let wait = self.next_look.saturating_sub(now).min(TURN);
+        self.driver.turn(Some(Duration::from_millis(wait)))?;
         self.work(rt, hall);
-        self.driver.tick(LIMITS, now);
+        self.look(milliseconds(begun.elapsed(rt)?));
         Ok(())
+    }
+
+    /// The clock is looked at, where it is time: for all connections, so not more often than a hundred times a second.
+    fn look(&mut self, now: u64) {
+        if now < self.next_look {
+            return;
+        }
+        let soonest = self.driver.tick(LIMITS, now).unwrap_or(u64::MAX);
+        let (least, most) = (now.saturating_add(LOOK), now.saturating_add(TURN));
+        self.next_look = soonest.max(least).min(most);
     }
 
     fn work<R: Wait + Eprint>(&mut self, rt: &R, hall: &Hall) {

@@ -1,7 +1,8 @@
 //! A stream of a test's, and a handler.
 ghost use Rattle.std.specs.Prelude.{◌≡◌};
+ghost use Rattle.amqp_ready.specs.Lending.{kept};
 
-use amqp_conn::{Failed, Given, Refusal};
+use amqp_conn::{Failed, Given, Op, Refusal};
 use amqp_ready::{Handler, Lent, Moved, Next, NonBlocking};
 use std::alloc::Global;
 
@@ -83,13 +84,28 @@ impl NonBlocking for Fake {
 #[derive(Drop)]
 pub(crate) struct Counts {
     pub told: u32,
+    /// So many empty frames of eight octets answer what it is told next.
+    pub beats: u32,
     next: Next,
 }
 
 impl Counts {
     pub(crate) fn new(next: Next) -> Counts {
-        Counts { told: 0, next }
+        Counts {
+            told: 0,
+            beats: 0,
+            next,
+        }
     }
+}
+
+fn beat(conn: &mut Lent, count: u32) -> Result<(), Refusal>
+    ensures { kept conn.new.conn ≡ kept conn.old.conn }
+{
+    for _ in 0..count {
+        conn.perform(Op::Beat)?;
+    }
+    Ok(())
 }
 
 impl Handler for Counts {
@@ -100,6 +116,8 @@ impl Handler for Counts {
     fn take(&mut self, conn: &mut Lent, given: Given) -> Result<Next, Refusal> {
         drop(given);
         self.told = self.told.wrapping_add(1);
+        beat(conn, self.beats)?;
+        self.beats = 0;
         // What is left is popped, where there is anything: memory is there for that.
         match conn.pop_left() {
             Ok(left) => drop(left),

@@ -18,14 +18,18 @@ const LIMITS: Limits = Limits {
 enum Do {
     /// A slot more, over a peer that says this and takes so many octets, has this key.
     Add(&'static [u8], usize, usize),
+    /// Slots that are added from here on hold at so many octets.
+    HoldAt(u64),
+    /// So many empty frames of eight octets answer what the handler under the key is told next.
+    Answer(usize, u32),
     /// So many rounds, in which each of the first so many keys is told ready.
     Serve(usize, u32),
     /// Those that are to be served are, in so many turns.
     ServeDue(usize),
     NoneIsDue,
-    /// The clock shows so many milliseconds.
-    Tick(u64),
-    /// So many empty frames of eight octets are put out under the key.
+    /// The clock shows so many milliseconds, and is to be looked at again then.
+    Tick(u64, Option<u64>),
+    /// So many empty frames of eight octets are put out by the program under the key.
     Beat(usize, u32),
     /// The slot under the key is so far.
     Stage(usize, Stage),
@@ -109,11 +113,6 @@ fn out(slots: &Fakes, key: usize) -> usize {
     }
 }
 
-fn tick(slots: &mut Fakes, now: u64) -> bool {
-    slots.tick(LIMITS, now);
-    true
-}
-
 fn beat(slots: &mut Fakes, key: usize, count: u32) -> bool {
     for _ in 0..count {
         if slots.perform(key, Op::Beat) != Some(Ok(())) {
@@ -123,14 +122,31 @@ fn beat(slots: &mut Fakes, key: usize, count: u32) -> bool {
     true
 }
 
+fn hold_at(slots: &mut Fakes, octets: u64) -> bool {
+    slots.hold_at(octets);
+    true
+}
+
+fn answer(slots: &mut Fakes, key: usize, beats: u32) -> bool {
+    match slots.handler_mut(key) {
+        Some(counts) => {
+            counts.beats = beats;
+            true
+        }
+        None => false,
+    }
+}
+
 /// It is done, or shown.
 fn holds(alloc: Global, slots: &mut Fakes, what: Do) -> bool {
     match what {
         Do::Add(says, room, key) => add(alloc, slots, says, room) == Some(key),
+        Do::HoldAt(octets) => hold_at(slots, octets),
+        Do::Answer(key, beats) => answer(slots, key, beats),
         Do::Serve(keys, rounds) => serve(slots, keys, rounds),
         Do::ServeDue(turns) => slots.serve_due().turns == turns,
         Do::NoneIsDue => !slots.is_any_due(),
-        Do::Tick(now) => tick(slots, now),
+        Do::Tick(now, next) => slots.tick(LIMITS, now) == next,
         Do::Beat(key, count) => beat(slots, key, count),
         Do::Stage(key, stage) => slots.stage(key) == Some(stage),
         Do::Out(key, count) => out(slots, key) == count,
@@ -185,16 +201,24 @@ const EACH: &[Do] = &[
     Do::Out(2, 8),
 ];
 
-/// Of a peer that takes no more nothing is read while 65536 octets wait for it; with eight fewer its second open is read.
+/// Of a peer that takes no more nothing is read while 800 octets that answer it wait. With fewer, or where the program put them out, or where the peer takes
+/// them, its second open is read.
 const LAGS: &[Do] = &[
+    Do::HoldAt(800),
     Do::Add(TWICE, 34, 0),
     Do::Add(TWICE, 34, 1),
-    Do::Serve(2, 4),
-    Do::Beat(0, 8192),
-    Do::Beat(1, 8191),
-    Do::Serve(2, 99),
+    Do::Add(TWICE, 34, 2),
+    Do::Add(TWICE, 999, 3),
+    Do::Answer(0, 100),
+    Do::Answer(1, 90),
+    Do::Answer(3, 100),
+    Do::Serve(4, 4),
+    Do::Beat(2, 100),
+    Do::Serve(4, 99),
     Do::Stage(0, Stage::Works),
     Do::Stage(1, Stage::Leaves(TWICE_OPEN)),
+    Do::Stage(2, Stage::Leaves(TWICE_OPEN)),
+    Do::Stage(3, Stage::Over(Some(TWICE_OPEN))),
 ];
 
 /// A key names no other slot until it is taken out.
@@ -202,6 +226,7 @@ const KEYS: &[Do] = &[
     Do::Add(WHOLE, 999, 0),
     Do::Serve(1, 99),
     Do::Stage(0, Stage::Over(None)),
+    Do::Tick(5, None),
     Do::Add(WHOLE, 999, 1),
     Do::Takes,
     Do::Add(WHOLE, 999, 0),
@@ -223,12 +248,12 @@ const READY: &[Do] = &[
 const SILENT: &[Do] = &[
     Do::Add(b"", 999, 0),
     Do::Add(PATIENT, 999, 1),
-    Do::Tick(5),
+    Do::Tick(5, Some(1005)),
     Do::Serve(2, 99),
-    Do::Tick(1004),
+    Do::Tick(1004, Some(1005)),
     Do::Serve(2, 9),
     Do::Stage(0, Stage::Works),
-    Do::Tick(1005),
+    Do::Tick(1005, Some(1005)),
     Do::Serve(2, 9),
     Do::Stage(0, Stage::Over(Some(SlotFault::TimedOut))),
     Do::Stage(1, Stage::Works),
@@ -239,16 +264,17 @@ const BEATS: &[Do] = &[
     Do::Add(PATIENT, 999, 0),
     Do::Add(CONTENT, 999, 1),
     Do::Serve(2, 99),
-    Do::Tick(5),
+    Do::Tick(5, Some(505)),
     Do::Out(0, 34),
-    Do::Tick(504),
+    Do::Tick(504, Some(505)),
     Do::Serve(2, 9),
     Do::Out(0, 34),
-    Do::Tick(505),
+    Do::Tick(505, Some(505)),
     Do::Serve(2, 9),
     Do::Out(0, 42),
     Do::Out(1, 34),
     Do::Stage(1, Stage::Works),
+    Do::Tick(506, Some(1006)),
 ];
 
 #[test]

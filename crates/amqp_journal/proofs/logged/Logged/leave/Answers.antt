@@ -17,5 +17,5 @@ returns-clause-ok c =
     c.self.inside.endpoint
     c.self.inside.waiting.items
     c.self.view_is
-    c.self.invariant)
+    c.self.invariant.0)
     c.leave_all.ensures.ok

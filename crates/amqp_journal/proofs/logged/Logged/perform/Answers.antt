@@ -6,55 +6,58 @@ use Rattle.amqp_laws.specs.Past.{past}
 use Rattle.amqp_laws.specs.At.{at}
 use Rattle.amqp_journal.proofs.Due.{own-answers, own-next, own-extends, own-refused, own-full}
 use Rattle.amqp_journal.proofs.Keeping.{kept-step, steps-are, logged-parts, own-leaves}
+use Rattle.amqp_journal.proofs.Counting.{counted-same}
 use Rattle.amqp_journal.proofs.logged.Logged.perform.Goals as goal
 
 pub returns-then-steps-self-clause-refusal : goal.returns-then-steps-self-clause-refusal
 returns-then-steps-self-clause-refusal c =
-    let s = steps-are _ c.self.inside.endpoint c.self.inside.waiting.items c.self.invariant in inl (own-full c.args.self.now c.args.op (subst (λ (l : Log). l.config.journal_limit ≤ length l.journal) c.self.view_is (search (rules, s))))
+    let s = steps-are _ c.self.inside.endpoint c.self.inside.waiting.items c.self.invariant.0 in inl (own-full c.args.self.now c.args.op (subst (λ (l : Log). l.config.journal_limit ≤ length l.journal) c.self.view_is (search (rules, s))))
 
 pub invariant_of-self-in-Ok-own_once : goal.invariant_of-self-in-Ok-own_once
 invariant_of-self-in-Ok-own_once c =
-    let s = steps-are _ c.self.inside.endpoint c.self.inside.waiting.items c.self.invariant in
-    let w = at c.self.inside.config (past (c.self.inside.gone.items ++ c.self.inside.journal.items)) in
-    kept-step
-    c.self.inside.config
-    c.self.inside.gone.items
-    c.self.inside.journal.items
-    c.push_reserved.new.self.items
-    c.self.inside.put.items
-    c.self.inside.popped
-    c.self.inside.left.items
-    c.room_to_do.new.left.items
-    c.self.inside.endpoint
-    c.own_once.new.self
-    c.self.inside.waiting.items
-    c.queue.new.waiting.items
-    (Own c.args.op)
-    c.in-Ok-own_once.both.0
-    c.in-Ok-own_once.both.1
-    (c.laws.ensures.goes_on c.self.inside.config)
-    c.self.invariant
-    (search (rules, s))
-    (own-answers c.self.inside.endpoint w c.args.op (Own c.args.op) c.in-Ok-own_once.both.0 c.self.invariant.is_at refl c.in-Ok-own_once.ensures.done.due)
-    (own-next c.self.inside.endpoint w c.own_once.new.self c.args.op (Own c.args.op) c.self.invariant.is_at refl c.in-Ok-own_once.ensures.done.leaves)
-    c.in-Ok-own_once.ensures.done.sends
-    (search rules)
-    (search rules)
+    let s = steps-are _ c.self.inside.endpoint c.self.inside.waiting.items c.self.invariant.0 in
+    let w = at c.self.inside.config (past (c.self.inside.gone.items ++ c.self.inside.journal.items)) in (
+      kept-step
+          c.self.inside.config
+          c.self.inside.gone.items
+          c.self.inside.journal.items
+          c.push_reserved.new.self.items
+          c.self.inside.put.items
+          c.self.inside.popped
+          c.self.inside.left.items
+          c.room_to_do.new.left.items
+          c.self.inside.endpoint
+          c.own_once.new.self
+          c.self.inside.waiting.items
+          c.queue.new.waiting.items
+          (Own c.args.op)
+          c.in-Ok-own_once.both.0
+          c.in-Ok-own_once.both.1
+          (c.laws.ensures.goes_on c.self.inside.config)
+          c.self.invariant.0
+          (search (rules, s))
+          (own-answers c.self.inside.endpoint w c.args.op (Own c.args.op) c.in-Ok-own_once.both.0 c.self.invariant.0.is_at refl c.in-Ok-own_once.ensures.done.due)
+          (own-next c.self.inside.endpoint w c.own_once.new.self c.args.op (Own c.args.op) c.self.invariant.0.is_at refl c.in-Ok-own_once.ensures.done.leaves)
+          c.in-Ok-own_once.ensures.done.sends
+          (search rules)
+          (search rules),
+      c.queue.ensures.counted (counted-same c.self.inside.octets c.self.inside.waiting.items c.room_to_do.new.waiting.items (search rules) c.self.invariant.1),
+    )
 
 pub returns-in-Ok-own_once-clause-step : goal.returns-in-Ok-own_once-clause-step
 returns-in-Ok-own_once-clause-step c =
-    let s = steps-are _ c.self.inside.endpoint c.self.inside.waiting.items c.self.invariant in
-    let k = subst (λ (l : Log). IsKept l c.self.inside.endpoint c.self.inside.waiting.items) c.self.view_is c.self.invariant in
-    own-extends c.args.self.now _ c.self.inside.endpoint c.own_once.new.self c.self.inside.waiting.items c.args.op c.in-Ok-own_once.both.0 c.in-Ok-own_once.both.1 k (subst (λ (l : Log). length l.journal < l.config.journal_limit) c.self.view_is (search (rules, s))) c.in-Ok-own_once.ensures.done (logged-parts c.args.self.now c.self.inside.config c.self.inside.gone.items c.self.inside.journal.items c.push_reserved.new.self.items c.self.inside.put.items c.self.inside.popped c.self.inside.left.items c.room_to_do.new.left.items (Own c.args.op) c.in-Ok-own_once.both.0 c.self.view_is (search rules) (own-leaves c.self.inside.config (c.self.inside.gone.items ++ c.self.inside.journal.items) c.self.inside.endpoint c.args.op (Own c.args.op) c.self.inside.left.items c.room_to_do.new.left.items c.self.invariant.is_at refl c.in-Ok.ensures.left))
+    let s = steps-are _ c.self.inside.endpoint c.self.inside.waiting.items c.self.invariant.0 in
+    let k = subst (λ (l : Log). IsKept l c.self.inside.endpoint c.self.inside.waiting.items) c.self.view_is c.self.invariant.0 in
+    own-extends c.args.self.now _ c.self.inside.endpoint c.own_once.new.self c.self.inside.waiting.items c.args.op c.in-Ok-own_once.both.0 c.in-Ok-own_once.both.1 k (subst (λ (l : Log). length l.journal < l.config.journal_limit) c.self.view_is (search (rules, s))) c.in-Ok-own_once.ensures.done (logged-parts c.args.self.now c.self.inside.config c.self.inside.gone.items c.self.inside.journal.items c.push_reserved.new.self.items c.self.inside.put.items c.self.inside.popped c.self.inside.left.items c.room_to_do.new.left.items (Own c.args.op) c.in-Ok-own_once.both.0 c.self.view_is (search rules) (own-leaves c.self.inside.config (c.self.inside.gone.items ++ c.self.inside.journal.items) c.self.inside.endpoint c.args.op (Own c.args.op) c.self.inside.left.items c.room_to_do.new.left.items c.self.invariant.0.is_at refl c.in-Ok.ensures.left))
 
 pub returns-in-Err-own_once-clause-refusal : goal.returns-in-Err-own_once-clause-refusal
 returns-in-Err-own_once-clause-refusal c =
-    let s = steps-are _ c.self.inside.endpoint c.self.inside.waiting.items c.self.invariant in
-    let k = subst (λ (l : Log). IsKept l c.self.inside.endpoint c.self.inside.waiting.items) c.self.view_is c.self.invariant in
+    let s = steps-are _ c.self.inside.endpoint c.self.inside.waiting.items c.self.invariant.0 in
+    let k = subst (λ (l : Log). IsKept l c.self.inside.endpoint c.self.inside.waiting.items) c.self.view_is c.self.invariant.0 in
     own-refused c.args.self.now c.self.inside.endpoint c.self.inside.waiting.items c.args.op c.in-Err-own_once.refusal k (subst (λ (l : Log). length l.journal < l.config.journal_limit) c.self.view_is (search (rules, s))) c.in-Err-own_once.ensures.done
 
 pub returns-in-Err-clause-refusal : goal.returns-in-Err-clause-refusal
 returns-in-Err-clause-refusal c =
-    let s = steps-are _ c.self.inside.endpoint c.self.inside.waiting.items c.self.invariant in
-    let k = subst (λ (l : Log). IsKept l c.self.inside.endpoint c.self.inside.waiting.items) c.self.view_is c.self.invariant in
+    let s = steps-are _ c.self.inside.endpoint c.self.inside.waiting.items c.self.invariant.0 in
+    let k = subst (λ (l : Log). IsKept l c.self.inside.endpoint c.self.inside.waiting.items) c.self.view_is c.self.invariant.0 in
     own-refused c.args.self.now c.self.inside.endpoint c.self.inside.waiting.items c.args.op c.own_refused-refusal.result k (subst (λ (l : Log). length l.journal < l.config.journal_limit) c.self.view_is (search (rules, s))) c.own_refused-refusal.ensures

@@ -2,8 +2,8 @@ use Rattle.amqp_ready.specs.Serving.{fault_in}
 use Rattle.amqp_ready.proofs.Turning.{serves-fed}
 use Rattle.amqp_ready.proofs.slot.Slot.feed.Goals as goal
 
-pub returns : goal.returns
-returns g c =
+pub returns-clause-serves : goal.returns-clause-serves
+returns-clause-serves g c =
     let s = c.args.self.now in
     serves-fed (fault_in c.feed.result) (g.S.NonBlocking.remaining s.stream) (g.S.NonBlocking.written s.stream) s.lent.conn c.feed.new.lent.conn s.unfed c.feed.new.unfed s.outbox
     (g.H.Handler.told s.handler) (g.H.Handler.told c.feed.new.handler) c.feed.ensures.feeds c.feed.ensures.gone
