@@ -6,7 +6,7 @@ use amqp_conn::{
     Bytes, CloseRefusal, Conn, DeliveryState, Given, Op, Phase, Refusal, Role, Tag, Text,
 };
 use amqp_endpoint::status::LinkPhase;
-use amqp_ready::{Handler, Lent, Next};
+use amqp_ready::{ANSWERS, Handler, Lent, Next};
 use std::alloc::Global;
 
 /// The one link of the session.
@@ -326,7 +326,7 @@ impl Hand {
                 dispose(conn, first, last)?;
             }
         }
-        if self.is_half_used() && self.counts.taken < self.messages.count {
+        if self.is_half_used() && self.counts.taken < self.messages.count && !lags(conn.conn()) {
             self.grant(conn)?;
         }
         Ok(())
@@ -413,6 +413,11 @@ impl Handler for Hand {
     fn go_on(&mut self, conn: &mut Lent) -> Result<bool, Refusal> {
         self.advance(conn)
     }
+}
+
+/// The peer does not read, or not so fast: it gets no credit meanwhile.
+fn lags(conn: &Conn) -> bool {
+    conn.logged().waiting_octets() >= ANSWERS
 }
 
 fn dispose<C: Operated>(conn: &mut C, first: u32, last: u32) -> Result<(), Refusal>

@@ -4,7 +4,7 @@ use crate::end::connection;
 use crate::hand::{Counts, Hand};
 use crate::session::Messages;
 use amqp_conn::{Bytes, Conn, Role};
-use amqp_ready::{Driver, Limits, Round, SlotFault, Welcome};
+use amqp_ready::{Driver, Limits, Round, SlotFault, Welcome, milliseconds};
 use mio::net::{TcpListener, TcpStream};
 use std::alloc::{AllocError, Global};
 use std::io;
@@ -16,8 +16,10 @@ use std::time::{Duration, Instant};
 /// How many events a turn takes at most.
 pub(crate) const EVENTS: usize = 1024;
 
-/// How seldom the clock is looked at for all connections, in milliseconds.
+/// The longest and the shortest time between two looks at the clock, in milliseconds.
 const TICK: u64 = 1000;
+
+const LEAST: u64 = 10;
 
 /// A peer opens within ten seconds, and closes within five; how long it is silent does not matter.
 const LIMITS: Limits = Limits {
@@ -289,25 +291,28 @@ fn turn_to_the_end<R: Clock>(
     if sockets.ends == Ends::Both {
         left = left.saturating_mul(2);
     }
-    let mut next = 0;
+    let (mut now, mut next) = (0u64, 0u64);
     for _ in 0..u64::MAX {
         if left == 0 {
             break;
         }
-        let _: Round = driver.turn(Some(Duration::from_millis(TICK)))?;
+        let wait = next.saturating_sub(now).min(TICK);
+        let _: Round = driver.turn(Some(Duration::from_millis(wait)))?;
         admit(driver, receives);
-        let now = milliseconds(begun.elapsed(rt)?);
+        now = milliseconds(begun.elapsed(rt)?);
         if now >= next {
-            let soonest = driver.tick(LIMITS, now).unwrap_or(u64::MAX);
-            next = soonest.min(now.saturating_add(TICK));
+            next = look(driver, now);
         }
         left = left.saturating_sub(count_ended(driver, &mut totals));
     }
     Ok(totals)
 }
 
-fn milliseconds(span: Duration) -> u64 {
-    u64::try_from(span.as_millis()).unwrap_or(u64::MAX)
+/// The clock is looked at: when it is to be looked at next.
+fn look(driver: &mut Driver<Hand>, now: u64) -> u64 {
+    let soonest = driver.tick(LIMITS, now).unwrap_or(u64::MAX);
+    let (least, most) = (now.saturating_add(LEAST), now.saturating_add(TICK));
+    soonest.max(least).min(most)
 }
 
 /// Counts what those have done that have ended: how many these are.

@@ -208,20 +208,20 @@ where
 fn is_of_peer(fault: &ExchangeFault) -> bool {
     match fault {
         ExchangeFault::Socket(_) | ExchangeFault::NoPeer => true,
-        ExchangeFault::Client(fault) => !wants_memory(fault),
+        ExchangeFault::Client(fault) => !is_ours(fault),
         _ => false,
     }
 }
 
-/// Memory was refused, which says nothing of the peer.
-fn wants_memory(fault: &ClientFault) -> bool {
+/// It says nothing of the peer: memory was refused, a journal is full, or the connection could not start.
+fn is_ours(fault: &ClientFault) -> bool {
     matches!(
         fault,
         ClientFault::NoMemory
             | ClientFault::Start(_)
-            | ClientFault::Refused(Refusal::NoMemory)
+            | ClientFault::Refused(Refusal::NoMemory | Refusal::JournalFull)
             | ClientFault::Close(CloseRefusal::NoMemory)
-            | ClientFault::Pump(PumpFault::Conn(ConnFault::NoMemory))
+            | ClientFault::Pump(PumpFault::Conn(ConnFault::NoMemory | ConnFault::JournalFull))
     )
 }
 

@@ -20,7 +20,7 @@ pub record IsKept (l : Log) (endpoint : View) (queue : List (List ℕ)) : Type 0
   pub few : length (units l) ≤ length l.journal + length l.put
   pub forgot : l.forgotten ≤ length l.journal
 
--- The count is that of the octets of all units, each of which has a length that a machine tells.
+-- The count is that of the octets of all units, each of which has 2 ^ 64 at most.
 pub record IsCounted (octets : ℕ) (queue : List (List ℕ)) : Type 0 where
   pub sum : octets ≡ sum_by length queue
   pub short : All (λ u. length u ≤ 2 ^ 64) queue

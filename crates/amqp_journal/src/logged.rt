@@ -584,7 +584,7 @@ fn queue(waiting: &mut VecDeque<Bytes>, octets: &mut u128, unit: Option<Bytes>)
     ensures counted { IsCounted octets.old waiting.old.items → IsCounted octets.new waiting.new.items }
 {
     if let Some(bytes) = unit {
-        // Known of it is then that there are no more units than a machine counts.
+        // For the proof: there are no more units than a machine counts.
         let _units = waiting.len();
         *octets = octets.saturating_add(bytes.len() as u128);
         waiting.push_back_reserved(bytes);

@@ -13,6 +13,7 @@ use Rattle.amqp_ready.specs.declared.slot.Slot.{Slot}
 use Rattle.amqp_ready.specs.declared.seat.Seat.{Seat}
 use Rattle.amqp_ready.specs.declared.seat.Stage.{Stage}
 use Rattle.amqp_ready.specs.declared.seat.Stage.TheVariants as stage
+use Rattle.amqp_ready.specs.Answering.{fresh, with_most}
 use Rattle.amqp_ready.specs.Slotting.{Parts, parts, Serves}
 
 -- the octets have ended
@@ -82,6 +83,11 @@ module _ {S H : Type 0} where
   IsNew None stream conn handler = ⊥
   IsNew (Some p) stream conn handler =
       (p.1 ≡ stage.Works) × (p.0.stream ≡ stream) × (p.0.lent.conn ≡ conn) × (p.0.handler ≡ handler) × (p.0.unfed ≡ []) × (p.0.outbox ≡ [])
+
+  -- a slot of which nothing is counted, and that holds at so many octets
+  abbrev pub HoldsAt : ℕ → Option (Slot S H × Stage) → Type 0
+  HoldsAt most None = ⊥
+  HoldsAt most (Some p) = p.0.answers ≡ with_most most fresh
 
   -- this is left of what had ended so
   abbrev pub IsLeft : Option (Slot S H × Stage) → S → Connection → H → Option SlotFault → Type 0

@@ -1,8 +1,8 @@
-//! How many octets wait to be written that answer what was read.
-ghost use Rattle.std.specs.Prelude.{nat_le};
+//! How many octets wait to be written that were put out while what was read was fed.
+ghost use Rattle.std.specs.Prelude.{◌≡◌, nat_le};
 ghost use Rattle.amqp_ready.specs.Answering.{added, fresh, written};
 
-/// At so many octets that answer what was read, and are not written, nothing more is read, where a program says nothing else.
+/// Where a slot holds (`Slot::hold_at`), where a program says nothing else.
 pub const ANSWERS: u64 = 1048576;
 
 /// Octets that were put out while what was read was fed, and wait to be written. What a handler puts out in `Handler::go_on` is not among them, nor what the

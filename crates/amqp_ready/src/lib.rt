@@ -57,4 +57,4 @@ pub use sending::Flushed;
 pub use slot::{Brought, Served, Slot};
 pub use slots::{Returned, Round, Slots};
 pub use tap::{Recorded, Way};
-pub use times::Limits;
+pub use times::{Limits, milliseconds};

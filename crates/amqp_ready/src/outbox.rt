@@ -15,7 +15,7 @@ use std::marker::Model;
 const LONG: usize = 8192;
 
 /// No more units are gathered where so many octets are left.
-pub const GATHERED: usize = 65536;
+const GATHERED: usize = 65536;
 
 /// Octets of units that were popped and not written: those of short units, of which so many went out, and behind them the rest of a long one.
 #[derive(Drop)]

@@ -1,5 +1,6 @@
 //! A slot of the table, and how far it is.
 ghost use Rattle.std.specs.Prelude.{◌≡◌, ◌≢◌, [], None, Some, Ok, IfSome};
+ghost use Rattle.amqp_ready.specs.Answering.{fresh};
 ghost use Rattle.amqp_ready.specs.Seating.{IsOver, IsTicked, IsTold, Turns, Worked, fault_of, late, lost, parts_of};
 ghost use Rattle.amqp_ready.specs.Serving.{fault_in};
 ghost use Rattle.amqp_ready.specs.Slotting.{Serves};
@@ -148,6 +149,7 @@ impl<S: NonBlocking, H: Handler> Seat<S, H> {
         ensures conn { result.slot.lent.conn ≡ conn }
         ensures stream { result.slot.stream ≡ stream }
         ensures handler { result.slot.handler ≡ handler }
+        ensures answers { result.slot.answers ≡ fresh }
     {
         Seat {
             slot: Slot::new(alloc, stream, conn, handler),

@@ -1,6 +1,6 @@
 //! A connection with its stream.
-ghost use Rattle.std.specs.Prelude.{◌≡◌, ◌≢◌, ◌≤◌, ◌<◌, [], Ok, None, length};
-ghost use Rattle.std.specs.Bool.{OnFalse};
+ghost use Rattle.std.specs.Prelude.{◌≡◌, ◌≢◌, ◌≤◌, ◌<◌, ◌⊎◌, [], Ok, None, length};
+ghost use Rattle.std.specs.Bool.{OnFalse, OnTrue};
 ghost use Rattle.amqp_conn.specs.Calling.{Closes, Performs};
 ghost use Rattle.amqp_conn.specs.Pumping.{AllWent, OnlyWrote};
 ghost use Rattle.amqp_ready.specs.Answering.{added, fresh, unsent, with_most, written};
@@ -27,7 +27,7 @@ pub enum Brought {
     End,
     /// It would wait.
     Waits,
-    /// Nothing was read: octets are unfed, or many that answer what was read are not written (`Slot::hold_at`).
+    /// Nothing was read: octets are unfed, or the slot holds (`Slot::hold_at`).
     Held,
     /// Nothing was read: there was no room to read to.
     NoRoom,
@@ -50,9 +50,9 @@ pub enum Served {
 
 /// A connection with its stream and the application's part.
 ///
-/// What a peer can make it keep is bounded: at most one room of octets that were read and not fed; and of octets that answer what was read, and are not
-/// written, twice as many as `hold_at` says at most, with what one read more is answered by. What the handler puts out in `Handler::go_on`, and the
-/// program by `perform`, is bounded by their own care (`unsent` tells how much waits), and by the credit and the windows of the peer.
+/// What a peer can make it keep is bounded: at most one room of octets that were read and not fed; and of octets that were put out while what was read was
+/// fed, and are not written, twice as many as `hold_at` says at most, with what two reads more are answered by. What the handler puts out in
+/// `Handler::go_on`, and the program by `perform`, they have to bound themselves: `unsent` tells how much waits.
 #[derive(Drop)]
 pub struct Slot<S, H> {
     stream: S,
@@ -67,7 +67,8 @@ pub struct Slot<S, H> {
 
 /// What a read came to, for a slot.
 fn as_brought(answer: Result<Moved, ReadFault>) -> Result<Brought, SlotFault>
-    ensures { IsNoFeeds (fault_in result) }
+    ensures fault { IsNoFeeds (fault_in result) }
+    ensures held { result ≢ Ok Brought.Held }
 {
     match answer {
         Ok(Moved::Octets(0)) => Ok(Brought::End),
@@ -99,11 +100,11 @@ impl<S: NonBlocking, H: Handler> Slot<S, H> {
         }
     }
 
-    /// From here on nothing is read while so many octets that answer what was read, or more, are not written; 1048576 where nothing is said. So a peer that
-    /// goes on to speak and never reads is held back.
+    /// From here on the slot holds, which is that nothing is read, while so many octets or more are counted as not written that were put out while what was
+    /// read was fed; 1048576 where nothing is said. So a peer that goes on to speak and never reads is held back. At 0 nothing is read any more.
     ///
-    /// It is to be more than what answers the messages that credit allows the peer, for each a disposition and a flow of at most 64 octets: else two ends that
-    /// both send may wait for each other to read.
+    /// It is to be more than what `Handler::take` puts out for all that the peer may send before it reads again: where that is a disposition and a flow for each
+    /// message, 128 octets for each that its credit allows. Else two ends that both send may wait for each other to read.
     pub fn hold_at(&mut self, octets: u64)
         ensures { self.new ≡ record self.old { answers = with_most octets self.old.answers } }
     {
@@ -175,7 +176,8 @@ impl<S: NonBlocking, H: Handler> Slot<S, H> {
     {
         let before = self.unsent();
         let answer = flush(&mut self.outbox, &mut self.lent.conn, &mut self.stream);
-        self.answers.take_off(before, self.unsent());
+        let left = self.unsent();
+        self.answers.take_off(before, left);
         match answer {
             Ok(flushed) => Ok(flushed),
             Err(_) => Err(SlotFault::Write),
@@ -189,12 +191,14 @@ impl<S: NonBlocking, H: Handler> Slot<S, H> {
     {
         let before = self.unsent();
         let answer = feed(&mut self.lent, &mut self.handler, &mut self.unfed);
-        self.answers.add(before, self.unsent());
+        let after = self.unsent();
+        self.answers.add(before, after);
         answer
     }
 
     /// Nothing is to be read now.
     fn is_held(&self) -> bool
+        ensures held { OnTrue result ((self.now.unfed ≢ []) ⊎ (self.now.answers.most ≤ self.now.answers.since)) }
         ensures none { OnFalse result (self.now.unfed ≡ []) }
         ensures few { OnFalse result (self.now.answers.since < self.now.answers.most) }
     {
@@ -204,7 +208,7 @@ impl<S: NonBlocking, H: Handler> Slot<S, H> {
         self.answers.are_many()
     }
 
-    /// Reads once, where all is fed, and few octets that answer are not written.
+    /// Reads once, where all is fed, and the slot does not hold.
     ///
     /// # Errors
     ///
@@ -213,6 +217,8 @@ impl<S: NonBlocking, H: Handler> Slot<S, H> {
         ensures serves { Serves (fault_in result) (parts (S.remaining self.old.stream) self.old.unfed self.old.lent.conn (H.told self.old.handler) self.old.outbox (S.written self.old.stream)) (parts (S.remaining self.new.stream) self.new.unfed self.new.lent.conn (H.told self.new.handler) self.new.outbox (S.written self.new.stream)) }
         ensures limit { self.old.answers.most ≤ self.old.answers.since → self.new ≡ self.old }
         ensures rest { self.old.unfed ≢ [] → self.new ≡ self.old }
+        ensures held { result ≡ Ok Brought.Held → (self.old.unfed ≢ []) ⊎ (self.old.answers.most ≤ self.old.answers.since) }
+        ensures answers { self.new.answers ≡ self.old.answers }
         ensures fault { IsNoFeeds (fault_in result) }
     {
         if self.is_held() {
@@ -330,7 +336,7 @@ impl<S: NonBlocking, H: Handler> Slot<S, H> {
         ensures ended { result ≡ Ok Served.Ended → (self.new.lent.conn.core.phase ≡ Phase.Closed) × AllWent self.new.lent.conn × (self.new.outbox ≡ []) }
     {
         match self.finish() {
-            Ok(served) => Ok(after(served, brought)),
+            Ok(served) => Ok(after(served, brought, self.is_held())),
             Err(fault) => Err(fault),
         }
     }
@@ -360,8 +366,12 @@ impl<S: NonBlocking, H: Handler> Slot<S, H> {
         ensures remaining { S.remaining self.new.stream ≡ S.remaining self.old.stream }
         ensures unfed { self.new.unfed ≡ self.old.unfed }
         ensures handler { self.new.handler ≡ self.old.handler }
+        ensures answers { self.new.answers ≡ written (unsent self.old.lent.conn self.old.outbox) (unsent self.new.lent.conn self.new.outbox) self.old.answers }
     {
+        let before = self.unsent();
         let _ = flush(&mut self.outbox, &mut self.lent.conn, &mut self.stream);
+        let left = self.unsent();
+        self.answers.take_off(before, left);
         fault
     }
 
@@ -372,6 +382,7 @@ impl<S: NonBlocking, H: Handler> Slot<S, H> {
     /// Those of `Conn::close`: nothing has changed then.
     pub fn close(&mut self) -> Result<(), CloseRefusal>
         ensures closes { Closes self.old.lent.conn.core None result self.new.lent.conn.core }
+        ensures answers { self.new.answers ≡ self.old.answers }
         ensures serves { Serves None (parts (S.remaining self.old.stream) self.old.unfed self.old.lent.conn (H.told self.old.handler) self.old.outbox (S.written self.old.stream)) (parts (S.remaining self.new.stream) self.new.unfed self.new.lent.conn (H.told self.new.handler) self.new.outbox (S.written self.new.stream)) }
     {
         self.lent.close(None)
@@ -384,6 +395,7 @@ impl<S: NonBlocking, H: Handler> Slot<S, H> {
     /// Those of `Conn::apply`: nothing has changed then.
     pub fn perform(&mut self, op: Op) -> Result<(), Refusal>
         ensures performs { Performs self.old.lent.conn.core op result self.new.lent.conn.core }
+        ensures answers { self.new.answers ≡ self.old.answers }
         ensures serves { Serves None (parts (S.remaining self.old.stream) self.old.unfed self.old.lent.conn (H.told self.old.handler) self.old.outbox (S.written self.old.stream)) (parts (S.remaining self.new.stream) self.new.unfed self.new.lent.conn (H.told self.new.handler) self.new.outbox (S.written self.new.stream)) }
     {
         self.lent.perform(op)
@@ -413,13 +425,14 @@ impl<S: NonBlocking, H: Handler> Slot<S, H> {
     }
 }
 
-/// What a turn came to that brought this.
-fn after(served: Served, brought: Brought) -> Served
+/// What a turn came to that brought this, behind which nothing is to be read, or something.
+fn after(served: Served, brought: Brought, is_held: bool) -> Served
     ensures { result ≡ Served.Ended → served ≡ Served.Ended }
 {
     match (served, brought) {
         // The stream was not asked to its end, so it may not tell that there is more.
         (Served::Waits, Brought::Octets(_) | Brought::Later) => Served::Again,
+        (Served::Waits, Brought::Held) if !is_held => Served::Again,
         (Served::Waits | Served::Again, Brought::NoRoom) => Served::NoRoom,
         _ => served,
     }

@@ -1,7 +1,7 @@
 //! Slots by key, for one thread.
 ghost use Rattle.std.specs.Prelude.{◌≡◌, ◌==◌, [], None, Some, IfSome, IfOk, IfErr, OnOk, OnErr, option_copied, option_map};
 ghost use Rattle.slab.specs.Slab.{HasRoomFor, slab_len};
-ghost use Rattle.amqp_ready.specs.Seating.{AllStay, IsLeft, IsNew, IsOverAt, LentAt, OthersStay, TicksAt, TurnsAt, held};
+ghost use Rattle.amqp_ready.specs.Seating.{AllStay, HoldsAt, IsLeft, IsNew, IsOverAt, LentAt, OthersStay, TicksAt, TurnsAt, held};
 
 use crate::answers::ANSWERS;
 use crate::device::NonBlocking;
@@ -145,6 +145,7 @@ impl<S: NonBlocking, H: Handler> Slots<S, H> {
 
     /// Room for one more, and for all of them among those that are to be served.
     fn make_room(&mut self) -> Result<(), AllocError>
+        ensures most { self.new.most ≡ self.old.most }
         ensures room { OnOk result (HasRoomFor self.new.seats 1) }
         ensures key { self.new.seats.vacant_key ≡ self.old.seats.vacant_key }
         ensures slots { self.new.seats.slots ≡ self.old.seats.slots }
@@ -164,6 +165,7 @@ impl<S: NonBlocking, H: Handler> Slots<S, H> {
         ensures added { IfOk result (λ key. IsNew (held self.new.seats key) stream conn handler) }
         ensures others { IfOk result (OthersStay self.old.seats self.new.seats) }
         ensures err { OnErr result (AllStay self.old.seats self.new.seats) }
+        ensures holds { IfOk result (λ key. HoldsAt self.old.most (held self.new.seats key)) }
         ensures back { IfErr result (λ r. (r.stream ≡ stream) × (r.conn ≡ conn) × (r.handler ≡ handler)) }
     {
         if self.make_room().is_err() {
@@ -181,6 +183,7 @@ impl<S: NonBlocking, H: Handler> Slots<S, H> {
         ensures key { result ≡ self.old.seats.vacant_key }
         ensures vacant { held self.old.seats result ≡ None }
         ensures added { IsNew (held self.new.seats result) stream conn handler }
+        ensures holds { HoldsAt self.old.most (held self.new.seats result) }
         ensures others { OthersStay self.old.seats self.new.seats result }
     {
         let mut seat = Seat::new(self.alloc, stream, conn, handler);
@@ -374,13 +377,17 @@ impl<S: NonBlocking, H: Handler> Slots<S, H> {
         }
     }
 
-    /// The clock is looked at (`tick_one`) for all slots: when it is to be looked at next, if nothing happens before; none where no slot goes on. O(n) for n
-    /// slots, so with many of them a program may wait a little longer.
+    /// The clock is looked at (`tick_one`) for all slots, in O(n) for n of them: when it is to be looked at next, behind this moment; none where no slot goes on.
+    ///
+    /// What happens to a slot counts from the look that finds it: a frame that went out just behind a look makes the next beat that much later. So a program
+    /// looks sooner where slots were added or served, at the latest after a quarter of the shortest of these times.
     pub fn tick(&mut self, limits: Limits, now: u64) -> Option<u64> {
         let mut next = None;
         for key in 0..self.seats.capacity() {
             self.tick_one(key, limits, now);
-            next = sooner(next, self.deadline(key, limits));
+            if let Some(deadline) = self.deadline(key, limits) {
+                next = sooner(next, deadline.max(now.saturating_add(1)));
+            }
         }
         next
     }

@@ -1,5 +1,6 @@
 //! How long a slot may take, on a clock that the program hands in.
 use amqp_conn::{Conn, Phase};
+use std::time::Duration;
 
 /// How long slots may take, in milliseconds.
 #[derive(Clone, Copy, Debug, PartialEq, Eq)]
@@ -10,6 +11,11 @@ pub struct Limits {
     pub silence: u64,
     /// From our close, or from a fault, until a slot has ended.
     pub close: u64,
+}
+
+/// As these limits, and the moments of a clock, are told.
+pub fn milliseconds(span: Duration) -> u64 {
+    u64::try_from(span.as_millis()).unwrap_or(u64::MAX)
 }
 
 /// What a slot awaits.
@@ -140,10 +146,10 @@ impl Times {
 }
 
 /// The sooner of two moments, where there are two.
-pub(crate) fn sooner(one: Option<u64>, other: Option<u64>) -> Option<u64> {
-    match (one, other) {
-        (Some(one), Some(other)) => Some(one.min(other)),
-        (None, one) | (one, None) => one,
+pub(crate) fn sooner(one: Option<u64>, other: u64) -> Option<u64> {
+    match one {
+        Some(one) => Some(one.min(other)),
+        None => Some(other),
     }
 }
 

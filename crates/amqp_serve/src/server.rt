@@ -4,7 +4,7 @@ use crate::queues::Message;
 use crate::traced::Trace;
 use crate::visitor::{Arrived, Told, Unlearnt, Visitor, grant, told_in};
 use amqp_conn::{Bytes, Config, Conn, DeliveryState, Given, Op, Phase, Role, Tag, Text};
-use amqp_ready::{Driver, Ended, Limits, SlotFault, Socket};
+use amqp_ready::{ANSWERS, Driver, Ended, Limits, SlotFault, Socket, milliseconds};
 use mio::Poll;
 use mio::net::TcpStream;
 use std::alloc::Global;
@@ -97,10 +97,6 @@ impl Door {
         }
         hall.deal(rt, Peer { number, stream });
     }
-}
-
-fn milliseconds(span: Duration) -> u64 {
-    u64::try_from(span.as_millis()).unwrap_or(u64::MAX)
 }
 
 /// The connections of one thread.
@@ -385,6 +381,9 @@ impl Server {
 
     /// Grants the credit of a link on which we receive again, where half of it is used.
     fn renew(&mut self, key: usize, at: usize) {
+        if self.lags(key) {
+            return;
+        }
         if let Some(visitor) = self.driver.handler_mut(key) {
             if let Some(link) = visitor.used_up(at) {
                 let _ = self.driver.perform(key, grant(link, self.terms.credit));
@@ -397,7 +396,8 @@ impl Server {
         let Some(slot) = self.driver.slots().get(key) else {
             return;
         };
-        if slot.conn().logged().endpoint().windows().incoming <= WINDOW / 2 {
+        let windows = slot.conn().logged().endpoint().windows();
+        if windows.incoming <= WINDOW / 2 && !self.lags(key) {
             let _ = self.driver.perform(key, Op::Refresh { echo: false });
         }
         if let Some(visitor) = self.driver.handler_mut(key) {
@@ -417,11 +417,19 @@ impl Server {
         }
     }
 
-    /// Sends what waits for a link, as its credit and the peer's window allow. What these leave goes in a later turn. Where the peer would have the credit used
+    /// Much waits for the peer, which does not read, or not so fast: until it has read more it gets no message, no credit and no window.
+    fn lags(&self, key: usize) -> bool {
+        match self.driver.slots().get(key) {
+            Some(slot) => slot.unsent() >= ANSWERS,
+            None => false,
+        }
+    }
+
+    /// Sends what waits for a link, as its credit and the peer's window allow, while not too much waits. What these leave goes in a later turn. Where the peer would have the credit used
     /// up and nothing waits, what is left of it is given up (part 2, 2.6.7).
     fn send_all<R: Wait>(&mut self, rt: &R, hall: &Hall, key: usize, outlet: Outlet) {
         for _ in 0..u64::MAX {
-            if !self.send_one(rt, hall, key, outlet) {
+            if self.lags(key) || !self.send_one(rt, hall, key, outlet) {
                 break;
             }
         }

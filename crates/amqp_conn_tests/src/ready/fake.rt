@@ -6,7 +6,7 @@ use amqp_conn::{Failed, Given, Op, Refusal};
 use amqp_ready::{Handler, Lent, Moved, Next, NonBlocking};
 use std::alloc::Global;
 
-/// Gives octets of a peer's a part at a time, and takes octets a part at a time. Of two calls of a kind the first would wait.
+/// Gives octets of a peer's a part at a time, and takes octets a part at a time. Of two calls of a kind the first would wait, unless it is eager.
 #[derive(Drop)]
 pub(crate) struct Fake {
     says: &'static [u8],
@@ -19,6 +19,7 @@ pub(crate) struct Fake {
     room: usize,
     reads: u32,
     writes: u32,
+    pub is_eager: bool,
     has_failed: bool,
 }
 
@@ -39,6 +40,7 @@ impl Fake {
             room,
             reads: 0,
             writes: 0,
+            is_eager: false,
             has_failed: false,
         }
     }
@@ -55,7 +57,7 @@ impl NonBlocking for Fake {
 
     fn read_some(&mut self, buffer: &mut [u8]) -> Result<Moved, Failed> {
         self.reads = self.reads.wrapping_add(1);
-        if self.reads % 2 == 1 || self.stays && self.says.is_empty() {
+        if !self.is_eager && self.reads % 2 == 1 || self.stays && self.says.is_empty() {
             return Ok(Moved::Waits);
         }
         let count = self.says.len().min(self.part).min(buffer.len());
@@ -68,7 +70,7 @@ impl NonBlocking for Fake {
     fn write_some(&mut self, octets: &[u8]) -> Result<Moved, Failed> {
         self.writes = self.writes.wrapping_add(1);
         let count = octets.len().min(self.part).min(self.room);
-        if self.writes % 2 == 1 || count == 0 {
+        if !self.is_eager && self.writes % 2 == 1 || count == 0 {
             return Ok(Moved::Waits);
         }
         if self.took.extend_from_slice(&octets[..count]).is_err() {
@@ -86,7 +88,7 @@ pub(crate) struct Counts {
     pub told: u32,
     /// So many empty frames of eight octets answer what it is told next.
     pub beats: u32,
-    next: Next,
+    pub next: Next,
 }
 
 impl Counts {

@@ -1,6 +1,6 @@
 //! A slot over a fake stream.
 use crate::ready::fake::{Counts, Fake};
-use crate::ready::peer::{CUT, OURS, TWICE, WHOLE, connection};
+use crate::ready::peer::{BEGUN, CUT, OURS, TWICE, WHOLE, connection};
 use amqp_conn::*;
 use amqp_ready::{Inbox, Next, Served, Slot, SlotFault};
 use std::alloc::Global;
@@ -70,6 +70,39 @@ fn ends(alloc: Global, peer: &Peer, end: &End) -> bool {
             is_so
         }
         None => false,
+    }
+}
+
+/// A first turn brings the header, the open and the begin, and leaves the begin to the second, which answers it by 800 octets, and writes them. Nobody wakes it.
+fn ends_by_itself(alloc: Global, conn: Conn) -> bool {
+    let mut fake = Fake::new(alloc, BEGUN, false, 60, 9999);
+    fake.is_eager = true;
+    let mut slot = Slot::new(alloc, fake, conn, Counts::new(Next::Write));
+    slot.hold_at(800);
+    let mut inbox = Inbox::new(alloc);
+    let mut last = slot.serve(&mut inbox);
+    slot.handler_mut().next = Next::Feed;
+    slot.handler_mut().beats = 100;
+    for _ in 0..9 {
+        if last != Ok(Served::Again) {
+            break;
+        }
+        last = slot.serve(&mut inbox);
+    }
+    let is_so = last == Ok(Served::Ended) && slot.unsent() == 0;
+    drop(slot);
+    is_so
+}
+
+#[test]
+fn a_slot_that_held_goes_on(rt: HostRuntime) {
+    match connection(rt.alloc()) {
+        Some(conn) => {
+            assert!(rt; ends_by_itself(rt.alloc(), conn));
+        }
+        None => {
+            assert!(rt; false);
+        }
     }
 }
 

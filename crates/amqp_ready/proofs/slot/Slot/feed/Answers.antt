@@ -5,5 +5,5 @@ use Rattle.amqp_ready.proofs.slot.Slot.feed.Goals as goal
 pub returns-clause-serves : goal.returns-clause-serves
 returns-clause-serves g c =
     let s = c.args.self.now in
-    serves-fed (fault_in c.feed.result) (g.S.NonBlocking.remaining s.stream) (g.S.NonBlocking.written s.stream) s.lent.conn c.feed.new.lent.conn s.unfed c.feed.new.unfed s.outbox
-    (g.H.Handler.told s.handler) (g.H.Handler.told c.feed.new.handler) c.feed.ensures.feeds c.feed.ensures.gone
+    serves-fed (fault_in c.feed-answer.result) (g.S.NonBlocking.remaining s.stream) (g.S.NonBlocking.written s.stream) s.lent.conn c.feed-answer.new.lent.conn s.unfed c.feed-answer.new.unfed s.outbox
+    (g.H.Handler.told s.handler) (g.H.Handler.told c.feed-answer.new.handler) c.feed-answer.ensures.feeds c.feed-answer.ensures.gone

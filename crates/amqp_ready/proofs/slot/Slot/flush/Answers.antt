@@ -6,12 +6,12 @@ use Rattle.amqp_ready.proofs.slot.Slot.flush.Goals as goal
 pub returns-in-Ok-clause-serves : goal.returns-in-Ok-clause-serves
 returns-in-Ok-clause-serves g c =
     let s = c.args.self.now in
-    serves-sent (g.S.NonBlocking.remaining s.stream) (g.S.NonBlocking.remaining c.flush.new.stream) (g.S.NonBlocking.written s.stream) (g.S.NonBlocking.written c.flush.new.stream) s.lent.conn
-    c.flush.new.conn s.unfed s.outbox c.flush.new.outbox (g.H.Handler.told s.handler) c.flush.ensures.remaining c.flush.ensures.sent c.flush.ensures.only
+    serves-sent (g.S.NonBlocking.remaining s.stream) (g.S.NonBlocking.remaining c.flush-answer.new.stream) (g.S.NonBlocking.written s.stream) (g.S.NonBlocking.written c.flush-answer.new.stream) s.lent.conn
+    c.flush-answer.new.conn s.unfed s.outbox c.flush-answer.new.outbox (g.H.Handler.told s.handler) c.flush-answer.ensures.remaining c.flush-answer.ensures.sent c.flush-answer.ensures.only
 
 pub returns-in-Err-clause-serves : goal.returns-in-Err-clause-serves
 returns-in-Err-clause-serves g c =
     let s = c.args.self.now in
     serves-other (Some fault.Write) _ _ tt
-    (serves-sent (g.S.NonBlocking.remaining s.stream) (g.S.NonBlocking.remaining c.flush.new.stream) (g.S.NonBlocking.written s.stream) (g.S.NonBlocking.written c.flush.new.stream) s.lent.conn
-    c.flush.new.conn s.unfed s.outbox c.flush.new.outbox (g.H.Handler.told s.handler) c.flush.ensures.remaining c.flush.ensures.sent c.flush.ensures.only)
+    (serves-sent (g.S.NonBlocking.remaining s.stream) (g.S.NonBlocking.remaining c.flush-answer.new.stream) (g.S.NonBlocking.written s.stream) (g.S.NonBlocking.written c.flush-answer.new.stream) s.lent.conn
+    c.flush-answer.new.conn s.unfed s.outbox c.flush-answer.new.outbox (g.H.Handler.told s.handler) c.flush-answer.ensures.remaining c.flush-answer.ensures.sent c.flush-answer.ensures.only)
