@@ -77,6 +77,11 @@ class Over(Driven):
             answer = self.hear()
         return answer
 
+    def await_end(self):
+        """The peer's end has come (part 2, 2.7.6): it has back what it had begun."""
+        while not any(b"\x00\x53\x17" in octets for ours, octets in self.pieces if not ours):
+            self.hear()
+
     def close(self):
         super().close()
         self.peer.close()
@@ -264,6 +269,7 @@ def in_parts(one, other, last):
     one.await_told("gone:0")
     begin_part(one, 1)
     one.do("end")
+    one.await_end()
     attach(other, "receiver", 0)
     other.do("grant 0 10 0 0")
     had.append(take_whole(other, 0))
