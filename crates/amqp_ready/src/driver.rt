@@ -245,7 +245,7 @@ impl<H: Handler + Drop> Driver<H> {
         }
     }
 
-    /// Waits at most so long for streams that are ready, or without an end, and serves each slot once that is to be served: with one read of at most 65536
+    /// Waits at most so long for streams that are ready, or without an end, and serves each slot once that is to be served: with one read of at most 262144
     /// octets. It does not wait where a slot has more to be done.
     ///
     /// # Errors

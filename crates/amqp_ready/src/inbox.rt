@@ -9,8 +9,9 @@ use std::alloc::{AllocError, Global};
 use std::marker::Model;
 use std::mem;
 
-/// The most octets that are read at once.
-pub const ROOM: usize = 65536;
+/// The most octets that are read at once: so many that of frames of 65536 octets three of four lie whole in what a read brought, and are read where they lie.
+/// One that lies in two reads is put together first, by one copy more.
+pub const ROOM: usize = 262144;
 
 /// Why nothing was read.
 #[derive(Clone, Copy, Debug, PartialEq, Eq)]
@@ -21,8 +22,8 @@ pub enum ReadFault {
     NoMemory,
 }
 
-/// Room for what reads bring, which goes round among the streams of a thread: one whose octets were all fed gives it back, one that has octets left
-/// keeps it for as long. So there is one room, and one more for each stream that has octets left.
+/// Room for what reads bring, which goes round among the streams of a thread: behind its turn each gives it back, and octets that are left go to one that is
+/// as long as they are. So there is one room; where there is no memory for a shorter one, a stream keeps the room for as long.
 #[derive(Drop)]
 pub struct Inbox {
     alloc: Global,
@@ -38,13 +39,14 @@ impl Inbox {
         }
     }
 
-    /// This room, or where it is none, the free one or a new one.
+    /// This room, or where it is none or a short one, the free one or a new one.
     fn room_or(&mut self, own: Vec<u8>) -> Result<Vec<u8>, AllocError>
         ensures { IfOk result (λ room. 0 < length room.items) }
     {
-        if !own.as_slice().is_empty() {
+        if own.as_slice().len() >= ROOM {
             return Ok(own);
         }
+        drop(own);
         let alloc = self.alloc;
         if self.free.as_slice().is_empty() {
             return vec![in alloc; 0u8; ROOM];
@@ -52,16 +54,23 @@ impl Inbox {
         Ok(mem::replace(&mut self.free, Vec::new(alloc)))
     }
 
-    /// Takes the room of a stream whose octets were all fed.
+    /// Takes the room of a stream, whose octets that are not fed stay with it: they are copied once, where it has any.
     pub fn take_back(&mut self, unfed: &mut Unfed)
         ensures { unfed.new ≡ unfed.old }
     {
+        let alloc = self.alloc;
         if !unfed.is_empty() {
+            let room = unfed.shorten(alloc);
+            self.keep(room);
             return;
         }
-        let alloc = self.alloc;
         let room = unfed.release(alloc);
-        if !room.as_slice().is_empty() {
+        self.keep(room);
+    }
+
+    /// Keeps a room that is not a short one.
+    fn keep(&mut self, room: Vec<u8>) {
+        if room.as_slice().len() >= ROOM {
             self.free = room;
         }
     }
@@ -136,7 +145,33 @@ impl Unfed {
         mem::replace(&mut self.room, Vec::new(alloc))
     }
 
-    /// Reads once, where all were fed: into room of its own, or that of the inbox.
+    /// The room, which goes elsewhere, with these octets in one that is as long as they are. It is none where they have such a one, or there is no memory for it.
+    fn shorten(&mut self, alloc: Global) -> Vec<u8>
+        ensures { self.new ≡ self.old }
+    {
+        if self.room.as_slice().len() < ROOM {
+            return Vec::new(alloc);
+        }
+        let mut short = Vec::new(alloc);
+        match short.extend_from_slice(self.octets()) {
+            Ok(()) => self.move_to(short),
+            Err(_) => {
+                drop(short);
+                Vec::new(alloc)
+            }
+        }
+    }
+
+    /// The room, which goes elsewhere: the octets are those of this one.
+    fn move_to(&mut self, short: Vec<u8>) -> Vec<u8>
+        ensures { self.new ≡ short.items }
+    {
+        self.start = 0;
+        self.end = short.as_slice().len();
+        mem::replace(&mut self.room, short)
+    }
+
+    /// Reads once, where all were fed: into room of its own that is not a short one, or that of the inbox.
     ///
     /// # Errors
     ///

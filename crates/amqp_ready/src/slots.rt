@@ -212,7 +212,7 @@ impl<S: NonBlocking, H: Handler> Slots<S, H> {
         }
     }
 
-    /// One turn of the slot under the key, with one read of at most 65536 octets.
+    /// One turn of the slot under the key, with one read of at most 262144 octets.
     pub fn serve(&mut self, key: usize) -> Turned
         ensures turns { TurnsAt S.remaining S.written H.told (held self.old.seats key) (held self.new.seats key) }
         ensures over { result ≡ Turned.Over → IsOverAt (held self.new.seats key) }
