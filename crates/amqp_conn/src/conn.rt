@@ -352,6 +352,7 @@ impl Conn {
         act(self.alloc, &mut self.machine, &mut self.framer, answer)
     }
 
+    #[inline(always)]
     fn share_frames(&mut self, shared: &Bytes, from: usize) -> Result<Fed, ConnFault>
         requires reads { IsTrue (reads_frames self.old.core.phase) }
         requires from { from ≤ length shared.now }

@@ -16,6 +16,7 @@ use std::alloc::Global;
 pub(crate) type Framed = Result<(usize, Option<Frame>), FrameFault>;
 
 /// As the framer's `feed` of the shared octets from a place on. The payload of a frame that lies whole in them is a slice of them.
+#[inline(always)]
 pub(crate) fn frame_shared(framer: &mut Framer, shared: &Bytes, from: usize) -> Framed
     requires { from ≤ length shared.now }
     ensures { FramerFeeds framer.old.state (drop from shared.now) result framer.new.state }
@@ -39,6 +40,7 @@ pub(crate) fn frame_shared(framer: &mut Framer, shared: &Bytes, from: usize) -> 
 }
 
 /// Does what the framer's answer says.
+#[inline(always)]
 pub(crate) fn act(
     alloc: Global,
     machine: &mut Boxed<Machine>,
@@ -120,6 +122,7 @@ fn end_all(alloc: Global, machine: &mut Machine, framer: &mut Framer, fault: Con
 }
 
 /// Does what a whole frame does; one that is not taken goes back.
+#[inline(always)]
 fn treat_whole(
     machine: &mut Machine,
     framer: &mut Framer,
@@ -135,6 +138,7 @@ fn treat_whole(
 }
 
 /// Hands on what was answered, with the frame put back where it was not taken.
+#[inline(always)]
 fn put_back(framer: &mut Framer, answer: Result<Fed, ConnFault>) -> Result<Fed, ConnFault>
     requires { IsSome framer.old.state.before }
     ensures same { result ≡ answer }

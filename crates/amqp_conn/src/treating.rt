@@ -399,6 +399,7 @@ impl Machine {
         }
     }
 
+    #[inline(always)]
     fn hear(&mut self, used: usize, frame: Boxed<Frame>) -> Result<Fed, ConnFault>
         requires { self.old.phase ≡ Phase.Running }
         ensures { TreatsAs (hearing self.old frame (heard_due self.old.log frame)) self.old frame used result self.new }

@@ -141,6 +141,7 @@ fn common_into(
 /// # Errors
 ///
 /// Those of `read_performative`.
+#[inline(always)]
 pub fn read_performative_into(
     alloc: Global,
     octets: &[u8],

@@ -9,7 +9,7 @@ ghost use Rattle.amqp_frames.specs.Slots.{holds_transfer};
 
 use crate::fault::FrameFault;
 use crate::frame::Frame;
-use amqp_decoder::{BodyFault, read_performative, read_performative_into};
+use amqp_decoder::{BodyFault, read_performative_into};
 use amqp_halves::find_performative;
 use amqp_performatives::{Composite, Performative};
 use amqp_types::{Descriptor, read_descriptor, skip_value};
@@ -27,54 +27,60 @@ pub(crate) fn read_contents(alloc: Global, channel: u16, octets: &[u8]) -> Resul
             payload: Bytes::new(),
         });
     }
-    match read_performative(alloc, octets) {
-        Ok((performative, size)) => read_payload(alloc, channel, performative, octets, size),
-        Err(BodyFault::NoBody) => Err(FrameFault::BadBody),
-        Err(BodyFault::NoMemory) => Err(if may_follow(octets) {
-            FrameFault::NoMemory
-        } else {
-            FrameFault::BadBody
-        }),
+    let mut body = None;
+    match read_performative_into(alloc, octets, &mut body) {
+        Ok(size) => read_payload(alloc, channel, body, octets, size),
+        Err(BodyFault::NoBody) => {
+            drop(body);
+            Err(FrameFault::BadBody)
+        }
+        Err(BodyFault::NoMemory) => {
+            drop(body);
+            Err(if may_follow(octets) {
+                FrameFault::NoMemory
+            } else {
+                FrameFault::BadBody
+            })
+        }
     }
 }
 
 /// The frame of a performative that the first octets spell, and of the payload after it.
+#[inline(always)]
 fn read_payload(
     alloc: Global,
     channel: u16,
-    performative: Performative,
+    body: Option<Performative>,
     octets: &[u8],
     size: usize,
 ) -> Result<Frame, FrameFault>
     requires within { size ≤ length octets.now }
-    requires spelled { IsPerformative performative (take size octets.now) }
+    requires front { LeavesFront octets.now (Ok size) body }
     ensures { MatchResult result (λ frame. (frame.channel ≡ channel) × AreContents frame.body frame.payload octets.now) (λ fault. AreNoContents fault octets.now) }
 {
     let payload = &octets[size..];
     if payload.is_empty() {
         return Ok(Frame {
             channel,
-            body: Some(performative),
+            body,
             payload: Bytes::new(),
         });
     }
-    if !is_transfer(&performative) {
+    if !holds_transfer(&body) {
+        drop(body);
         return Err(FrameFault::BadBody);
     }
     match Bytes::copy_from_slice(alloc, payload) {
         Ok(payload) => Ok(Frame {
             channel,
-            body: Some(performative),
+            body,
             payload,
         }),
-        Err(_) => Err(FrameFault::NoMemory),
+        Err(_) => {
+            drop(body);
+            Err(FrameFault::NoMemory)
+        }
     }
-}
-
-fn is_transfer(performative: &Performative) -> bool
-    ensures { result ≡ is_transfer performative.now }
-{
-    matches!(performative, Performative::Transfer(_))
 }
 
 /// Whether the octets after the performative in front may follow it. It takes no memory, and is asked only where memory was refused.

@@ -284,6 +284,8 @@ pub struct FlowBody {
 
 // By hand, so that a crate that owns one does not prove its parts' drops again.
 impl Drop for FlowBody {
+    // It would be copied whole for a call.
+    #[inline(always)]
     fn drop(self) {
         let FlowBody {
             next_incoming_id: _,
@@ -367,6 +369,8 @@ pub struct TransferBody {
 
 // By hand, so that a crate that owns one does not prove its parts' drops again.
 impl Drop for TransferBody {
+    // It would be copied whole for a call.
+    #[inline(always)]
     fn drop(self) {
         let TransferBody {
             handle: _,
@@ -442,6 +446,8 @@ pub struct DispositionBody {
 
 // By hand, so that a crate that owns one does not prove its parts' drops again.
 impl Drop for DispositionBody {
+    // It would be copied whole for a call.
+    #[inline(always)]
     fn drop(self) {
         let DispositionBody {
             role: _,
