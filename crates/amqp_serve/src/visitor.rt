@@ -12,8 +12,9 @@ use amqp_ready::{Handler, Lent, Next, Recorded};
 use std::alloc::Global;
 use std::collections::VecDeque;
 
-/// How many entries of its journal a connection keeps at most.
-const KEEP: usize = 1000;
+/// From how many entries on a connection forgets its journal, each time that its peer is heard: what is sent to a peer between two of its frames is kept until then. The
+/// newest alone is looked at, so few are kept: what they own, payloads among it, is given back while the processor's cache has it.
+const KEEP: usize = 8;
 
 /// A message that came, and is in no queue yet.
 #[derive(Drop)]
