@@ -1,6 +1,7 @@
 /* Faults made inside a program that is linked with the C library, to be loaded with LD_PRELOAD.
  *
  *   FAULT_GROWTH=N           the Nth growth of memory is refused
+ *   FAULT_BOUND=N            each growth that asks for more than N octets at once is refused
  *   FAULT_CALL=recv|send     which calls on sockets are counted, those of all threads together
  *   FAULT_PLACE=K            at which of these calls the fault is made
  *   FAULT_KIND=KIND          what is made there:
@@ -38,7 +39,7 @@
 #include <unistd.h>
 
 static atomic_long growths, recvs, sends, threads, made;
-static long growth_place, call_place, thread_place;
+static long growth_place, bound, call_place, thread_place;
 static const char *kind = "", *counted = "", *told;
 
 /* What both functions answer: whether there is memory, and where. */
@@ -49,8 +50,9 @@ struct room {
 
 static char nothing;
 
-static int is_refused(void) {
-    if (atomic_fetch_add(&growths, 1) + 1 != growth_place)
+static int is_refused(size_t size) {
+    int is_due = atomic_fetch_add(&growths, 1) + 1 == growth_place;
+    if (!is_due && (!bound || size <= (size_t)bound))
         return 0;
     atomic_fetch_add(&made, 1);
     return 1;
@@ -61,12 +63,12 @@ static struct room room_of(void *place) {
 }
 
 static struct room grow(size_t size, size_t align) {
-    return room_of(is_refused() ? NULL : malloc(size ? size : align));
+    return room_of(is_refused(size) ? NULL : malloc(size ? size : align));
 }
 
 /* A block that shrinks is not counted: that is no growth. */
 static struct room grow_again(void *place, size_t old, size_t size, size_t align) {
-    if (size > old && is_refused())
+    if (size > old && is_refused(size))
         return room_of(NULL);
     return room_of(realloc(place, size ? size : align));
 }
@@ -129,6 +131,7 @@ static const char *word(const char *name) {
 
 __attribute__((constructor)) static void begin(void) {
     growth_place = number("FAULT_GROWTH");
+    bound = number("FAULT_BOUND");
     call_place = number("FAULT_PLACE");
     thread_place = number("FAULT_THREAD");
     counted = word("FAULT_CALL");
