@@ -1,5 +1,6 @@
 pub mod Cursor
 pub mod Onward
+pub mod Failures
 pub mod Gathering
 pub mod Keeping
 pub mod Seats

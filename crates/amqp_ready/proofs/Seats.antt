@@ -1,5 +1,5 @@
 -- A turn of what stands under a key.
-use Rattle.std.proofs.Common.{◌≡◌, ℕ, List, Option, None, Some, is_some, true, refl, subst, inl}
+use Rattle.std.proofs.Common.{◌≡◌, ℕ, Bool, List, Option, None, Some, is_some, true, refl, subst, inl}
 use Rattle.slab.specs.Slab.{Slab, get, with_value}
 use Rattle.slab.proofs.SlabLemmas.{Updates-with_value}
 use Rattle.amqp_rules.specs.declared.reply.Given.{Given}
@@ -18,19 +18,19 @@ module _ {S H : Type 0} where
   pub over-at : (slots : Slab (Seat S H)) (key : ℕ) (s t : Seat S H) → Some s ≡ get slots key → IsOver t.stage → IsOverAt (held (with_value slots key t) key)
   over-at slots key s t was h = rw (written-at slots key s t was) h
 
-module _ {S H : Type 0} (remaining written : S → Option (List ℕ)) (told : H → Option (List Given)) where
-  pub turns-at : (slots : Slab (Seat S H)) (key : ℕ) (s t : Seat S H) → Some s ≡ get slots key → Turns s.stage t.stage (parts_of remaining written told s.slot) (parts_of remaining written told t.slot)
-      → TurnsAt remaining written told (held slots key) (held (with_value slots key t) key)
+module _ {S H : Type 0} (remaining written : S → Option (List ℕ)) (failed : S → Bool) (told : H → Option (List Given)) where
+  pub turns-at : (slots : Slab (Seat S H)) (key : ℕ) (s t : Seat S H) → Some s ≡ get slots key → Turns s.stage t.stage (parts_of remaining written failed told s.slot) (parts_of remaining written failed told t.slot)
+      → TurnsAt remaining written failed told (held slots key) (held (with_value slots key t) key)
   turns-at slots key s t was h = rw (← was, written-at slots key s t was) ((t.slot, t.stage), refl, h)
 
-  pub lent-at : (slots : Slab (Seat S H)) (key : ℕ) (s t : Seat S H) → Some s ≡ get slots key → t.stage ≡ s.stage → Serves None (parts_of remaining written told s.slot) (parts_of remaining written told t.slot)
-      → LentAt remaining written told (held slots key) (held (with_value slots key t) key)
+  pub lent-at : (slots : Slab (Seat S H)) (key : ℕ) (s t : Seat S H) → Some s ≡ get slots key → t.stage ≡ s.stage → Serves None (parts_of remaining written failed told s.slot) (parts_of remaining written failed told t.slot)
+      → LentAt remaining written failed told (held slots key) (held (with_value slots key t) key)
   lent-at slots key s t was same h = rw (← was, written-at slots key s t was) ((t.slot, t.stage), refl, same, h)
 
-  pub ticks-at : (slots : Slab (Seat S H)) (key : ℕ) (s t : Seat S H) → Some s ≡ get slots key → IsTicked s.stage t.stage → Serves None (parts_of remaining written told s.slot) (parts_of remaining written told t.slot)
-      → TicksAt remaining written told (held slots key) (held (with_value slots key t) key)
+  pub ticks-at : (slots : Slab (Seat S H)) (key : ℕ) (s t : Seat S H) → Some s ≡ get slots key → IsTicked s.stage t.stage → Serves None (parts_of remaining written failed told s.slot) (parts_of remaining written failed told t.slot)
+      → TicksAt remaining written failed told (held slots key) (held (with_value slots key t) key)
   ticks-at slots key s t was ticked h = rw (← was, written-at slots key s t was) ((t.slot, t.stage), refl, ticked, h)
 
-  pub ticks-none : (old new : Option (Slot S H × Stage)) → new ≡ old → TicksAt remaining written told old new
+  pub ticks-none : (old new : Option (Slot S H × Stage)) → new ≡ old → TicksAt remaining written failed told old new
   ticks-none None new e = e
-  ticks-none (Some p) new e = (p, e, inl refl, serves-none (parts_of remaining written told p.0))
+  ticks-none (Some p) new e = (p, e, inl refl, serves-none (parts_of remaining written failed told p.0))

@@ -12,6 +12,8 @@ pub mod Gathering
 pub mod Lending
 -- what was read is fed
 pub mod Serving
+-- what is told of a stream that has failed
+pub mod Failing
 -- octets that answer what was read, and are not written
 pub mod Answering
 -- what a slot does

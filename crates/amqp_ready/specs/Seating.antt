@@ -1,5 +1,5 @@
 -- Slots by key: how far each is, and what a turn does.
-use Rattle.std.specs.Prelude.{ℕ, ◌≡◌, ◌≢◌, ◌⊎◌, List, [], Option, Some, None, option_map}
+use Rattle.std.specs.Prelude.{ℕ, ◌≡◌, ◌≢◌, ◌⊎◌, Bool, List, [], Option, Some, None, option_map}
 use Rattle.slab.specs.Slab.{Slab}
 use Rattle.slab.specs.Slab as slab
 use Rattle.amqp_rules.specs.declared.reply.Given.{Given}
@@ -94,9 +94,9 @@ module _ {S H : Type 0} where
   IsLeft None stream conn handler why = ⊥
   IsLeft (Some p) stream conn handler why = (p.1 ≡ stage.Over why) × (stream ≡ p.0.stream) × (conn ≡ lost p.0.lent.conn) × (handler ≡ p.0.handler)
 
-module _ {S H : Type 0} (remaining written : S → Option (List ℕ)) (told : H → Option (List Given)) where
+module _ {S H : Type 0} (remaining written : S → Option (List ℕ)) (failed : S → Bool) (told : H → Option (List Given)) where
   abbrev pub parts_of : Slot S H → Parts
-  parts_of s = parts (remaining s.stream) s.unfed s.lent.conn (told s.handler) s.outbox (written s.stream)
+  parts_of s = parts (remaining s.stream) s.unfed s.lent.conn (told s.handler) s.outbox (written s.stream) (failed s.stream)
 
   -- what stood under a key had one turn, if a slot stood there
   abbrev pub TurnsAt : Option (Slot S H × Stage) → Option (Slot S H × Stage) → Type 0

@@ -2,6 +2,7 @@
 ghost use Rattle.std.specs.Prelude.{◌≡◌, ◌⊎◌, [], Ok};
 ghost use Rattle.std.specs.Bool.{OnTrue, OnFalse};
 ghost use Rattle.amqp_conn.specs.Pumping.{Adds};
+ghost use Rattle.amqp_ready.specs.Failing.{IsOfFeeding};
 ghost use Rattle.amqp_ready.specs.Gathering.{gone};
 ghost use Rattle.amqp_ready.specs.Lending.{kept};
 ghost use Rattle.amqp_ready.specs.Serving.{fault_in, FeedsOn, IsNoFeeds};
@@ -18,6 +19,7 @@ fn hand_on<H: Handler>(lent: &mut Lent, handler: &mut H, fed: Fed) -> Result<Nex
     ensures tells { OnTrue fed.stepped (Adds (H.told handler.old) (H.told handler.new) fed.given) }
     ensures still { OnFalse fed.stepped (H.told handler.new ≡ H.told handler.old) }
     ensures refused { IsNoFeeds (fault_in result) }
+    ensures told { IsOfFeeding (fault_in result) }
 {
     let Fed { stepped, given, .. } = fed;
     if !stepped {
@@ -47,6 +49,7 @@ fn feed_once<H: Handler>(
 ) -> Result<Next, SlotFault>
     ensures feeds { FeedsOn (fault_in result) lent.old.conn unfed.old (H.told handler.old) lent.new.conn unfed.new (H.told handler.new) }
     ensures gone { gone lent.new.conn ≡ gone lent.old.conn }
+    ensures told { IsOfFeeding (fault_in result) }
 {
     recall(&lent.conn);
     match lent.conn.feed(unfed.octets()) {
@@ -70,6 +73,7 @@ pub(crate) fn feed<H: Handler>(
 ) -> Result<Next, SlotFault>
     ensures feeds { FeedsOn (fault_in result) lent.old.conn unfed.old (H.told handler.old) lent.new.conn unfed.new (H.told handler.new) }
     ensures gone { gone lent.new.conn ≡ gone lent.old.conn }
+    ensures told { IsOfFeeding (fault_in result) }
     ensures all { result ≡ Ok Next.Feed → (unfed.new ≡ []) ⊎ (lent.new.conn.core.phase ≡ Phase.Closed) }
 {
     for _ in 0..u64::MAX {

@@ -162,7 +162,7 @@ impl<S: NonBlocking, H: Handler> Seat<S, H> {
 
     /// One turn.
     pub(crate) fn turn(&mut self, inbox: &mut Inbox) -> Turned
-        ensures turns { Turns self.old.stage self.new.stage (parts_of S.remaining S.written H.told self.old.slot) (parts_of S.remaining S.written H.told self.new.slot) }
+        ensures turns { Turns self.old.stage self.new.stage (parts_of S.remaining S.written S.failed H.told self.old.slot) (parts_of S.remaining S.written S.failed H.told self.new.slot) }
         ensures over { result ≡ Turned.Over → IsOver self.new.stage }
     {
         match self.stage {
@@ -173,7 +173,7 @@ impl<S: NonBlocking, H: Handler> Seat<S, H> {
     }
 
     fn work(&mut self, inbox: &mut Inbox) -> Turned
-        ensures turns { Worked self.new.stage (parts_of S.remaining S.written H.told self.old.slot) (parts_of S.remaining S.written H.told self.new.slot) }
+        ensures turns { Worked self.new.stage (parts_of S.remaining S.written S.failed H.told self.old.slot) (parts_of S.remaining S.written S.failed H.told self.new.slot) }
         ensures over { result ≡ Turned.Over → IsOver self.new.stage }
     {
         let answer = self.slot.serve(inbox);
@@ -184,7 +184,7 @@ impl<S: NonBlocking, H: Handler> Seat<S, H> {
 
     /// What was put out is written, as far as the stream takes it.
     fn leave(&mut self, fault: SlotFault) -> Turned
-        ensures turns { Turns (Stage.Leaves fault) self.new.stage (parts_of S.remaining S.written H.told self.old.slot) (parts_of S.remaining S.written H.told self.new.slot) }
+        ensures turns { Turns (Stage.Leaves fault) self.new.stage (parts_of S.remaining S.written S.failed H.told self.old.slot) (parts_of S.remaining S.written S.failed H.told self.new.slot) }
         ensures over { result ≡ Turned.Over → IsOver self.new.stage }
     {
         let answer = self.slot.flush();
@@ -233,7 +233,7 @@ impl<S: NonBlocking, H: Handler> Seat<S, H> {
     /// What the clock asks is done: whether that ended it now.
     pub(crate) fn act(&mut self, due: Due) -> bool
         ensures stage { IsTicked self.old.stage self.new.stage }
-        ensures lent { Serves None (parts_of S.remaining S.written H.told self.old.slot) (parts_of S.remaining S.written H.told self.new.slot) }
+        ensures lent { Serves None (parts_of S.remaining S.written S.failed H.told self.old.slot) (parts_of S.remaining S.written S.failed H.told self.new.slot) }
     {
         match due {
             Due::Nothing => false,
@@ -244,7 +244,7 @@ impl<S: NonBlocking, H: Handler> Seat<S, H> {
 
     fn beat(&mut self) -> bool
         ensures stage { self.new.stage ≡ self.old.stage }
-        ensures lent { Serves None (parts_of S.remaining S.written H.told self.old.slot) (parts_of S.remaining S.written H.told self.new.slot) }
+        ensures lent { Serves None (parts_of S.remaining S.written S.failed H.told self.old.slot) (parts_of S.remaining S.written S.failed H.told self.new.slot) }
     {
         let _ = self.slot.perform(Op::Beat);
         false
@@ -253,7 +253,7 @@ impl<S: NonBlocking, H: Handler> Seat<S, H> {
     /// It has taken too long: its connection is closed, and it ends once that is written; or it ends at once, where it leaves already.
     fn time_out(&mut self) -> bool
         ensures stage { self.new.stage ≡ late self.old.stage }
-        ensures lent { Serves None (parts_of S.remaining S.written H.told self.old.slot) (parts_of S.remaining S.written H.told self.new.slot) }
+        ensures lent { Serves None (parts_of S.remaining S.written S.failed H.told self.old.slot) (parts_of S.remaining S.written S.failed H.told self.new.slot) }
     {
         let leaves = matches!(self.stage, Stage::Leaves(_));
         self.stage = late(self.stage);

@@ -29,6 +29,8 @@ fn flush_once<S: NonBlocking>(
     ensures went { result ≡ Ok Flushed.All → AllWent conn.new }
     ensures empty { result ≡ Ok Flushed.All → outbox.new ≡ [] }
     ensures remaining { S.remaining stream.new ≡ S.remaining stream.old }
+    ensures ok { OnOk result (S.failed stream.new ≡ S.failed stream.old) }
+    ensures failed { OnErr result (S.failed stream.new ≡ true) }
 {
     let all = outbox.gather(conn);
     match outbox.write(stream) {
@@ -53,6 +55,8 @@ pub(crate) fn flush<S: NonBlocking>(
     ensures went { result ≡ Ok Flushed.All → AllWent conn.new }
     ensures empty { result ≡ Ok Flushed.All → outbox.new ≡ [] }
     ensures remaining { S.remaining stream.new ≡ S.remaining stream.old }
+    ensures ok { OnOk result (S.failed stream.new ≡ S.failed stream.old) }
+    ensures failed { OnErr result (S.failed stream.new ≡ true) }
 {
     for _ in 0..u64::MAX {
         match flush_once(outbox, conn, stream) {

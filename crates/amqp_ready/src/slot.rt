@@ -1,9 +1,11 @@
 //! A connection with its stream.
-ghost use Rattle.std.specs.Prelude.{◌≡◌, ◌≢◌, ◌≤◌, ◌<◌, ◌⊎◌, [], Ok, None, length};
+ghost use Rattle.std.specs.Prelude.{◌≡◌, ◌≢◌, ◌≤◌, ◌<◌, ◌⊎◌, [], Bool, Ok, None, IfErr, length};
 ghost use Rattle.std.specs.Bool.{OnFalse, OnTrue};
 ghost use Rattle.amqp_conn.specs.Calling.{Closes, Performs};
 ghost use Rattle.amqp_conn.specs.Pumping.{AllWent, OnlyWrote};
 ghost use Rattle.amqp_ready.specs.Answering.{added, fresh, unsent, with_most, written};
+ghost use Rattle.amqp_ready.specs.Failing.{Stays, TellsFailure};
+ghost use Rattle.amqp_ready.specs.Reading.{CountsFailure};
 ghost use Rattle.amqp_ready.specs.Serving.{fault_in, IsNoFeeds};
 ghost use Rattle.amqp_ready.specs.Slotting.{parts, Sent, Serves};
 
@@ -69,6 +71,8 @@ pub struct Slot<S, H> {
 fn as_brought(answer: Result<Moved, ReadFault>) -> Result<Brought, SlotFault>
     ensures fault { IsNoFeeds (fault_in result) }
     ensures held { result ≢ Ok Brought.Held }
+    ensures told { IfErr result (λ e. e ≡ SlotFault.Read) }
+    ensures fails { (a b : Bool) → CountsFailure answer a b → TellsFailure (fault_in result) a b }
 {
     match answer {
         Ok(Moved::Octets(0)) => Ok(Brought::End),
@@ -168,10 +172,11 @@ impl<S: NonBlocking, H: Handler> Slot<S, H> {
     ///
     /// `Write` where the stream failed.
     pub fn flush(&mut self) -> Result<Flushed, SlotFault>
-        ensures serves { Serves (fault_in result) (parts (S.remaining self.old.stream) self.old.unfed self.old.lent.conn (H.told self.old.handler) self.old.outbox (S.written self.old.stream)) (parts (S.remaining self.new.stream) self.new.unfed self.new.lent.conn (H.told self.new.handler) self.new.outbox (S.written self.new.stream)) }
+        ensures serves { Serves (fault_in result) (parts (S.remaining self.old.stream) self.old.unfed self.old.lent.conn (H.told self.old.handler) self.old.outbox (S.written self.old.stream) (S.failed self.old.stream)) (parts (S.remaining self.new.stream) self.new.unfed self.new.lent.conn (H.told self.new.handler) self.new.outbox (S.written self.new.stream) (S.failed self.new.stream)) }
         ensures went { result ≡ Ok Flushed.All → AllWent self.new.lent.conn }
         ensures empty { result ≡ Ok Flushed.All → self.new.outbox ≡ [] }
         ensures kept { self.new.unfed ≡ self.old.unfed }
+        ensures told { IfErr result (λ e. e ≡ SlotFault.Write) }
         ensures answers { self.new.answers ≡ written (unsent self.old.lent.conn self.old.outbox) (unsent self.new.lent.conn self.new.outbox) self.old.answers }
     {
         let before = self.unsent();
@@ -186,7 +191,7 @@ impl<S: NonBlocking, H: Handler> Slot<S, H> {
 
     /// Feeds what is unfed, and counts what that put out.
     fn feed(&mut self) -> Result<Next, SlotFault>
-        ensures serves { Serves (fault_in result) (parts (S.remaining self.old.stream) self.old.unfed self.old.lent.conn (H.told self.old.handler) self.old.outbox (S.written self.old.stream)) (parts (S.remaining self.new.stream) self.new.unfed self.new.lent.conn (H.told self.new.handler) self.new.outbox (S.written self.new.stream)) }
+        ensures serves { Serves (fault_in result) (parts (S.remaining self.old.stream) self.old.unfed self.old.lent.conn (H.told self.old.handler) self.old.outbox (S.written self.old.stream) (S.failed self.old.stream)) (parts (S.remaining self.new.stream) self.new.unfed self.new.lent.conn (H.told self.new.handler) self.new.outbox (S.written self.new.stream) (S.failed self.new.stream)) }
         ensures answers { self.new.answers ≡ added (unsent self.old.lent.conn self.old.outbox) (unsent self.new.lent.conn self.new.outbox) self.old.answers }
     {
         let before = self.unsent();
@@ -214,12 +219,13 @@ impl<S: NonBlocking, H: Handler> Slot<S, H> {
     ///
     /// `Read` where the stream failed.
     pub fn read(&mut self, inbox: &mut Inbox) -> Result<Brought, SlotFault>
-        ensures serves { Serves (fault_in result) (parts (S.remaining self.old.stream) self.old.unfed self.old.lent.conn (H.told self.old.handler) self.old.outbox (S.written self.old.stream)) (parts (S.remaining self.new.stream) self.new.unfed self.new.lent.conn (H.told self.new.handler) self.new.outbox (S.written self.new.stream)) }
+        ensures serves { Serves (fault_in result) (parts (S.remaining self.old.stream) self.old.unfed self.old.lent.conn (H.told self.old.handler) self.old.outbox (S.written self.old.stream) (S.failed self.old.stream)) (parts (S.remaining self.new.stream) self.new.unfed self.new.lent.conn (H.told self.new.handler) self.new.outbox (S.written self.new.stream) (S.failed self.new.stream)) }
         ensures limit { self.old.answers.most ≤ self.old.answers.since → self.new ≡ self.old }
         ensures rest { self.old.unfed ≢ [] → self.new ≡ self.old }
         ensures held { result ≡ Ok Brought.Held → (self.old.unfed ≢ []) ⊎ (self.old.answers.most ≤ self.old.answers.since) }
         ensures answers { self.new.answers ≡ self.old.answers }
         ensures fault { IsNoFeeds (fault_in result) }
+        ensures told { IfErr result (λ e. e ≡ SlotFault.Read) }
     {
         if self.is_held() {
             return Ok(Brought::Held);
@@ -229,7 +235,7 @@ impl<S: NonBlocking, H: Handler> Slot<S, H> {
 
     /// What was put out is written, and what is unfed is fed.
     fn begin(&mut self) -> Result<Next, SlotFault>
-        ensures { Serves (fault_in result) (parts (S.remaining self.old.stream) self.old.unfed self.old.lent.conn (H.told self.old.handler) self.old.outbox (S.written self.old.stream)) (parts (S.remaining self.new.stream) self.new.unfed self.new.lent.conn (H.told self.new.handler) self.new.outbox (S.written self.new.stream)) }
+        ensures { Serves (fault_in result) (parts (S.remaining self.old.stream) self.old.unfed self.old.lent.conn (H.told self.old.handler) self.old.outbox (S.written self.old.stream) (S.failed self.old.stream)) (parts (S.remaining self.new.stream) self.new.unfed self.new.lent.conn (H.told self.new.handler) self.new.outbox (S.written self.new.stream) (S.failed self.new.stream)) }
     {
         match self.flush() {
             Ok(_) => self.feed(),
@@ -239,7 +245,8 @@ impl<S: NonBlocking, H: Handler> Slot<S, H> {
 
     /// The input has ended: it may where the connection has.
     fn at_end(&self) -> Result<Brought, SlotFault>
-        ensures { IsNoFeeds (fault_in result) }
+        ensures fault { IsNoFeeds (fault_in result) }
+        ensures told { IfErr result (λ e. e ≡ SlotFault.EndOfInput) }
     {
         if self.lent.conn.phase() == Phase::Closed {
             return Ok(Brought::End);
@@ -249,7 +256,7 @@ impl<S: NonBlocking, H: Handler> Slot<S, H> {
 
     /// So many octets were read, which are fed.
     fn feed_those(&mut self, count: usize) -> Result<Brought, SlotFault>
-        ensures { Serves (fault_in result) (parts (S.remaining self.old.stream) self.old.unfed self.old.lent.conn (H.told self.old.handler) self.old.outbox (S.written self.old.stream)) (parts (S.remaining self.new.stream) self.new.unfed self.new.lent.conn (H.told self.new.handler) self.new.outbox (S.written self.new.stream)) }
+        ensures { Serves (fault_in result) (parts (S.remaining self.old.stream) self.old.unfed self.old.lent.conn (H.told self.old.handler) self.old.outbox (S.written self.old.stream) (S.failed self.old.stream)) (parts (S.remaining self.new.stream) self.new.unfed self.new.lent.conn (H.told self.new.handler) self.new.outbox (S.written self.new.stream) (S.failed self.new.stream)) }
     {
         self.reads = self.reads.wrapping_add(1);
         match self.feed() {
@@ -260,7 +267,7 @@ impl<S: NonBlocking, H: Handler> Slot<S, H> {
 
     /// Octets are read once, and fed.
     fn bring(&mut self, inbox: &mut Inbox) -> Result<Brought, SlotFault>
-        ensures { Serves (fault_in result) (parts (S.remaining self.old.stream) self.old.unfed self.old.lent.conn (H.told self.old.handler) self.old.outbox (S.written self.old.stream)) (parts (S.remaining self.new.stream) self.new.unfed self.new.lent.conn (H.told self.new.handler) self.new.outbox (S.written self.new.stream)) }
+        ensures { Serves (fault_in result) (parts (S.remaining self.old.stream) self.old.unfed self.old.lent.conn (H.told self.old.handler) self.old.outbox (S.written self.old.stream) (S.failed self.old.stream)) (parts (S.remaining self.new.stream) self.new.unfed self.new.lent.conn (H.told self.new.handler) self.new.outbox (S.written self.new.stream) (S.failed self.new.stream)) }
     {
         match self.read(inbox) {
             Ok(Brought::Octets(count)) => self.feed_those(count),
@@ -275,7 +282,7 @@ impl<S: NonBlocking, H: Handler> Slot<S, H> {
 
     /// What is unfed is fed, and octets are read and fed, unless the handler would have written first.
     fn work(&mut self, inbox: &mut Inbox) -> Result<Brought, SlotFault>
-        ensures { Serves (fault_in result) (parts (S.remaining self.old.stream) self.old.unfed self.old.lent.conn (H.told self.old.handler) self.old.outbox (S.written self.old.stream)) (parts (S.remaining self.new.stream) self.new.unfed self.new.lent.conn (H.told self.new.handler) self.new.outbox (S.written self.new.stream)) }
+        ensures { Serves (fault_in result) (parts (S.remaining self.old.stream) self.old.unfed self.old.lent.conn (H.told self.old.handler) self.old.outbox (S.written self.old.stream) (S.failed self.old.stream)) (parts (S.remaining self.new.stream) self.new.unfed self.new.lent.conn (H.told self.new.handler) self.new.outbox (S.written self.new.stream) (S.failed self.new.stream)) }
     {
         match self.begin() {
             Ok(Next::Feed) => self.bring(inbox),
@@ -299,7 +306,7 @@ impl<S: NonBlocking, H: Handler> Slot<S, H> {
 
     /// What was put out is written; the handler would go on, or not.
     fn write_out(&mut self, more: bool) -> Result<Served, SlotFault>
-        ensures serves { Serves (fault_in result) (parts (S.remaining self.old.stream) self.old.unfed self.old.lent.conn (H.told self.old.handler) self.old.outbox (S.written self.old.stream)) (parts (S.remaining self.new.stream) self.new.unfed self.new.lent.conn (H.told self.new.handler) self.new.outbox (S.written self.new.stream)) }
+        ensures serves { Serves (fault_in result) (parts (S.remaining self.old.stream) self.old.unfed self.old.lent.conn (H.told self.old.handler) self.old.outbox (S.written self.old.stream) (S.failed self.old.stream)) (parts (S.remaining self.new.stream) self.new.unfed self.new.lent.conn (H.told self.new.handler) self.new.outbox (S.written self.new.stream) (S.failed self.new.stream)) }
         ensures ended { result ≡ Ok Served.Ended → (self.new.lent.conn.core.phase ≡ Phase.Closed) × AllWent self.new.lent.conn × (self.new.outbox ≡ []) }
     {
         match self.flush() {
@@ -312,7 +319,7 @@ impl<S: NonBlocking, H: Handler> Slot<S, H> {
 
     /// The handler goes on, and what was put out is written.
     fn finish(&mut self) -> Result<Served, SlotFault>
-        ensures serves { Serves (fault_in result) (parts (S.remaining self.old.stream) self.old.unfed self.old.lent.conn (H.told self.old.handler) self.old.outbox (S.written self.old.stream)) (parts (S.remaining self.new.stream) self.new.unfed self.new.lent.conn (H.told self.new.handler) self.new.outbox (S.written self.new.stream)) }
+        ensures serves { Serves (fault_in result) (parts (S.remaining self.old.stream) self.old.unfed self.old.lent.conn (H.told self.old.handler) self.old.outbox (S.written self.old.stream) (S.failed self.old.stream)) (parts (S.remaining self.new.stream) self.new.unfed self.new.lent.conn (H.told self.new.handler) self.new.outbox (S.written self.new.stream) (S.failed self.new.stream)) }
         ensures ended { result ≡ Ok Served.Ended → (self.new.lent.conn.core.phase ≡ Phase.Closed) × AllWent self.new.lent.conn × (self.new.outbox ≡ []) }
     {
         match self.handler.go_on(&mut self.lent) {
@@ -322,7 +329,7 @@ impl<S: NonBlocking, H: Handler> Slot<S, H> {
     }
 
     fn turn(&mut self, inbox: &mut Inbox) -> Result<Served, SlotFault>
-        ensures serves { Serves (fault_in result) (parts (S.remaining self.old.stream) self.old.unfed self.old.lent.conn (H.told self.old.handler) self.old.outbox (S.written self.old.stream)) (parts (S.remaining self.new.stream) self.new.unfed self.new.lent.conn (H.told self.new.handler) self.new.outbox (S.written self.new.stream)) }
+        ensures serves { Serves (fault_in result) (parts (S.remaining self.old.stream) self.old.unfed self.old.lent.conn (H.told self.old.handler) self.old.outbox (S.written self.old.stream) (S.failed self.old.stream)) (parts (S.remaining self.new.stream) self.new.unfed self.new.lent.conn (H.told self.new.handler) self.new.outbox (S.written self.new.stream) (S.failed self.new.stream)) }
         ensures ended { result ≡ Ok Served.Ended → (self.new.lent.conn.core.phase ≡ Phase.Closed) × AllWent self.new.lent.conn × (self.new.outbox ≡ []) }
     {
         match self.work(inbox) {
@@ -332,7 +339,7 @@ impl<S: NonBlocking, H: Handler> Slot<S, H> {
     }
 
     fn finish_after(&mut self, brought: Brought) -> Result<Served, SlotFault>
-        ensures serves { Serves (fault_in result) (parts (S.remaining self.old.stream) self.old.unfed self.old.lent.conn (H.told self.old.handler) self.old.outbox (S.written self.old.stream)) (parts (S.remaining self.new.stream) self.new.unfed self.new.lent.conn (H.told self.new.handler) self.new.outbox (S.written self.new.stream)) }
+        ensures serves { Serves (fault_in result) (parts (S.remaining self.old.stream) self.old.unfed self.old.lent.conn (H.told self.old.handler) self.old.outbox (S.written self.old.stream) (S.failed self.old.stream)) (parts (S.remaining self.new.stream) self.new.unfed self.new.lent.conn (H.told self.new.handler) self.new.outbox (S.written self.new.stream) (S.failed self.new.stream)) }
         ensures ended { result ≡ Ok Served.Ended → (self.new.lent.conn.core.phase ≡ Phase.Closed) × AllWent self.new.lent.conn × (self.new.outbox ≡ []) }
     {
         match self.finish() {
@@ -349,7 +356,7 @@ impl<S: NonBlocking, H: Handler> Slot<S, H> {
     /// Why the slot ends. What was put out was written then, the last close among it, as far as the stream takes it: `flush` goes on with the rest.
     /// `Conn(NoMemory)` has lost nothing: the same call goes on.
     pub fn serve(&mut self, inbox: &mut Inbox) -> Result<Served, SlotFault>
-        ensures serves { Serves (fault_in result) (parts (S.remaining self.old.stream) self.old.unfed self.old.lent.conn (H.told self.old.handler) self.old.outbox (S.written self.old.stream)) (parts (S.remaining self.new.stream) self.new.unfed self.new.lent.conn (H.told self.new.handler) self.new.outbox (S.written self.new.stream)) }
+        ensures serves { Serves (fault_in result) (parts (S.remaining self.old.stream) self.old.unfed self.old.lent.conn (H.told self.old.handler) self.old.outbox (S.written self.old.stream) (S.failed self.old.stream)) (parts (S.remaining self.new.stream) self.new.unfed self.new.lent.conn (H.told self.new.handler) self.new.outbox (S.written self.new.stream) (S.failed self.new.stream)) }
         ensures ended { result ≡ Ok Served.Ended → (self.new.lent.conn.core.phase ≡ Phase.Closed) × AllWent self.new.lent.conn × (self.new.outbox ≡ []) }
     {
         match self.turn(inbox) {
@@ -364,6 +371,7 @@ impl<S: NonBlocking, H: Handler> Slot<S, H> {
         ensures sent { Sent self.old.lent.conn self.new.lent.conn self.old.outbox self.new.outbox (S.written self.old.stream) (S.written self.new.stream) }
         ensures only { OnlyWrote self.old.lent.conn self.new.lent.conn }
         ensures remaining { S.remaining self.new.stream ≡ S.remaining self.old.stream }
+        ensures failed { Stays (S.failed self.old.stream) (S.failed self.new.stream) }
         ensures unfed { self.new.unfed ≡ self.old.unfed }
         ensures handler { self.new.handler ≡ self.old.handler }
         ensures answers { self.new.answers ≡ written (unsent self.old.lent.conn self.old.outbox) (unsent self.new.lent.conn self.new.outbox) self.old.answers }
@@ -383,7 +391,7 @@ impl<S: NonBlocking, H: Handler> Slot<S, H> {
     pub fn close(&mut self) -> Result<(), CloseRefusal>
         ensures closes { Closes self.old.lent.conn.core None result self.new.lent.conn.core }
         ensures answers { self.new.answers ≡ self.old.answers }
-        ensures serves { Serves None (parts (S.remaining self.old.stream) self.old.unfed self.old.lent.conn (H.told self.old.handler) self.old.outbox (S.written self.old.stream)) (parts (S.remaining self.new.stream) self.new.unfed self.new.lent.conn (H.told self.new.handler) self.new.outbox (S.written self.new.stream)) }
+        ensures serves { Serves None (parts (S.remaining self.old.stream) self.old.unfed self.old.lent.conn (H.told self.old.handler) self.old.outbox (S.written self.old.stream) (S.failed self.old.stream)) (parts (S.remaining self.new.stream) self.new.unfed self.new.lent.conn (H.told self.new.handler) self.new.outbox (S.written self.new.stream) (S.failed self.new.stream)) }
     {
         self.lent.close(None)
     }
@@ -396,7 +404,7 @@ impl<S: NonBlocking, H: Handler> Slot<S, H> {
     pub fn perform(&mut self, op: Op) -> Result<(), Refusal>
         ensures performs { Performs self.old.lent.conn.core op result self.new.lent.conn.core }
         ensures answers { self.new.answers ≡ self.old.answers }
-        ensures serves { Serves None (parts (S.remaining self.old.stream) self.old.unfed self.old.lent.conn (H.told self.old.handler) self.old.outbox (S.written self.old.stream)) (parts (S.remaining self.new.stream) self.new.unfed self.new.lent.conn (H.told self.new.handler) self.new.outbox (S.written self.new.stream)) }
+        ensures serves { Serves None (parts (S.remaining self.old.stream) self.old.unfed self.old.lent.conn (H.told self.old.handler) self.old.outbox (S.written self.old.stream) (S.failed self.old.stream)) (parts (S.remaining self.new.stream) self.new.unfed self.new.lent.conn (H.told self.new.handler) self.new.outbox (S.written self.new.stream) (S.failed self.new.stream)) }
     {
         self.lent.perform(op)
     }

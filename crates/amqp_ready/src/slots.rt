@@ -214,7 +214,7 @@ impl<S: NonBlocking, H: Handler> Slots<S, H> {
 
     /// One turn of the slot under the key, with one read of at most 262144 octets.
     pub fn serve(&mut self, key: usize) -> Turned
-        ensures turns { TurnsAt S.remaining S.written H.told (held self.old.seats key) (held self.new.seats key) }
+        ensures turns { TurnsAt S.remaining S.written S.failed H.told (held self.old.seats key) (held self.new.seats key) }
         ensures over { result ≡ Turned.Over → IsOverAt (held self.new.seats key) }
         ensures others { OthersStay self.old.seats self.new.seats key }
     {
@@ -228,7 +228,7 @@ impl<S: NonBlocking, H: Handler> Slots<S, H> {
     }
 
     fn turn(&mut self, key: usize) -> Turned
-        ensures turns { TurnsAt S.remaining S.written H.told (held self.old.seats key) (held self.new.seats key) }
+        ensures turns { TurnsAt S.remaining S.written S.failed H.told (held self.old.seats key) (held self.new.seats key) }
         ensures over { result ≡ Turned.Over → IsOverAt (held self.new.seats key) }
         ensures others { OthersStay self.old.seats self.new.seats key }
     {
@@ -259,7 +259,7 @@ impl<S: NonBlocking, H: Handler> Slots<S, H> {
 
     /// Serves the slot that was first to be served: its key, and what that came to.
     pub fn serve_next(&mut self) -> Option<(usize, Turned)>
-        ensures turns { IfSome result (λ r. TurnsAt S.remaining S.written H.told (held self.old.seats r.0) (held self.new.seats r.0)) }
+        ensures turns { IfSome result (λ r. TurnsAt S.remaining S.written S.failed H.told (held self.old.seats r.0) (held self.new.seats r.0)) }
         ensures others { IfSome result (λ r. OthersStay self.old.seats self.new.seats r.0) }
         ensures none { result ≡ None → self.new.seats ≡ self.old.seats }
     {
@@ -328,7 +328,7 @@ impl<S: NonBlocking, H: Handler> Slots<S, H> {
 
     /// The connection under the key is closed, as `Conn::close` without an error; where that is refused nothing is done.
     pub fn close(&mut self, key: usize)
-        ensures lent { LentAt S.remaining S.written H.told (held self.old.seats key) (held self.new.seats key) }
+        ensures lent { LentAt S.remaining S.written S.failed H.told (held self.old.seats key) (held self.new.seats key) }
         ensures others { OthersStay self.old.seats self.new.seats key }
     {
         self.close_one(key);
@@ -336,7 +336,7 @@ impl<S: NonBlocking, H: Handler> Slots<S, H> {
     }
 
     fn close_one(&mut self, key: usize)
-        ensures lent { LentAt S.remaining S.written H.told (held self.old.seats key) (held self.new.seats key) }
+        ensures lent { LentAt S.remaining S.written S.failed H.told (held self.old.seats key) (held self.new.seats key) }
         ensures others { OthersStay self.old.seats self.new.seats key }
     {
         if let Some(seat) = self.seats.get_mut(key) {
@@ -347,7 +347,7 @@ impl<S: NonBlocking, H: Handler> Slots<S, H> {
     /// Does an operation on the connection under the key, as `Lent::perform`, for a program that has a reason of its own: none where no slot is there. Where it
     /// was done the slot is to be served, which writes what it put out; one that is refused wakes nothing.
     pub fn perform(&mut self, key: usize, op: Op) -> Option<Result<(), Refusal>>
-        ensures lent { LentAt S.remaining S.written H.told (held self.old.seats key) (held self.new.seats key) }
+        ensures lent { LentAt S.remaining S.written S.failed H.told (held self.old.seats key) (held self.new.seats key) }
         ensures others { OthersStay self.old.seats self.new.seats key }
     {
         let done = self.perform_one(key, op);
@@ -358,7 +358,7 @@ impl<S: NonBlocking, H: Handler> Slots<S, H> {
     }
 
     fn perform_one(&mut self, key: usize, op: Op) -> Option<Result<(), Refusal>>
-        ensures lent { LentAt S.remaining S.written H.told (held self.old.seats key) (held self.new.seats key) }
+        ensures lent { LentAt S.remaining S.written S.failed H.told (held self.old.seats key) (held self.new.seats key) }
         ensures others { OthersStay self.old.seats self.new.seats key }
     {
         match self.seats.get_mut(key) {
@@ -403,7 +403,7 @@ impl<S: NonBlocking, H: Handler> Slots<S, H> {
     /// The clock is looked at for the slot under the key, in milliseconds from whatever moment: its connection beats where its peer would take us for gone
     /// (part 2, 2.4.5), and where it has taken too long it is closed, and leaves by `SlotFault::TimedOut`; one that leaves already has ended then.
     pub fn tick_one(&mut self, key: usize, limits: Limits, now: u64)
-        ensures ticks { TicksAt S.remaining S.written H.told (held self.old.seats key) (held self.new.seats key) }
+        ensures ticks { TicksAt S.remaining S.written S.failed H.told (held self.old.seats key) (held self.new.seats key) }
         ensures others { OthersStay self.old.seats self.new.seats key }
     {
         let due = self.look(key, limits, now);
@@ -427,7 +427,7 @@ impl<S: NonBlocking, H: Handler> Slots<S, H> {
 
     /// What the clock asks of the slot under the key is done: whether that ended it now.
     fn act(&mut self, key: usize, due: Due) -> bool
-        ensures ticks { TicksAt S.remaining S.written H.told (held self.old.seats key) (held self.new.seats key) }
+        ensures ticks { TicksAt S.remaining S.written S.failed H.told (held self.old.seats key) (held self.new.seats key) }
         ensures others { OthersStay self.old.seats self.new.seats key }
     {
         match self.seats.get_mut(key) {

@@ -23,4 +23,5 @@ loop-preserved g c = (
       (g.S.NonBlocking.written c.flush_once.new.stream) c.loop.invariant.0 c.flush_once.ensures.sent,
   only-then c.args.conn.now c.loop.conn c.flush_once.new.conn c.loop.invariant.1 c.flush_once.ensures.only,
   c.flush_once.ensures.remaining ∙ c.loop.invariant.2,
+  c.in-Ok-More.ensures.ok ∙ c.loop.invariant.3,
 )

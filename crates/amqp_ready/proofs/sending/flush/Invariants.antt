@@ -8,3 +8,4 @@ invariant-loop g l =
     Sent l.fn.conn l.conn l.fn.outbox l.outbox (g.S.NonBlocking.written l.fn.stream) (g.S.NonBlocking.written l.stream)
     × OnlyWrote l.fn.conn l.conn
     × (g.S.NonBlocking.remaining l.stream ≡ g.S.NonBlocking.remaining l.fn.stream)
+    × (g.S.NonBlocking.failed l.stream ≡ g.S.NonBlocking.failed l.fn.stream)

@@ -6,5 +6,5 @@ use Rattle.amqp_ready.proofs.slot.Slot.close.Goals as goal
 pub returns-clause-serves : goal.returns-clause-serves
 returns-clause-serves g c =
     let s = c.args.self.now in
-    serves-lent (g.S.NonBlocking.remaining s.stream) (g.S.NonBlocking.written s.stream) s.lent.conn c.close.new.self.conn s.unfed s.outbox (g.H.Handler.told s.handler) (g.H.Handler.told s.handler)
+    serves-lent (g.S.NonBlocking.remaining s.stream) (g.S.NonBlocking.written s.stream) (g.S.NonBlocking.failed s.stream) s.lent.conn c.close.new.self.conn s.unfed s.outbox (g.H.Handler.told s.handler) (g.H.Handler.told s.handler)
     (kept-still s.lent.conn c.close.new.self.conn c.close.ensures.kept) (kept-gone s.lent.conn c.close.new.self.conn c.close.ensures.kept) refl

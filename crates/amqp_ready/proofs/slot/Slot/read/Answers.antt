@@ -1,5 +1,5 @@
 use Rattle.amqp_ready.specs.Serving.{fault_in}
-use Rattle.amqp_ready.proofs.Turning.{serves-none, serves-read, serves-other}
+use Rattle.amqp_ready.proofs.Turning.{serves-none, serves-read}
 use Rattle.amqp_ready.proofs.slot.Slot.read.Goals as goal
 
 pub returns-then-is_held-clause-serves : goal.returns-then-is_held-clause-serves
@@ -8,9 +8,11 @@ returns-then-is_held-clause-serves g c = serves-none _
 pub returns-clause-serves : goal.returns-clause-serves
 returns-clause-serves g c =
     let s = c.args.self.now in
-    serves-other (fault_in c.as_brought.result) _ _ c.as_brought.ensures.fault
-    (serves-read (g.S.NonBlocking.remaining s.stream) (g.S.NonBlocking.remaining c.read.new.stream) (g.S.NonBlocking.written s.stream) (g.S.NonBlocking.written c.read.new.stream) s.lent.conn s.unfed
-    c.read.new.self s.outbox (g.H.Handler.told s.handler) c.if-is_held.ensures.none c.read.ensures.octets c.read.ensures.written)
+    let failed = g.S.NonBlocking.failed s.stream in
+    let failed' = g.S.NonBlocking.failed c.read.new.stream in
+    serves-read (fault_in c.as_brought.result) (g.S.NonBlocking.remaining s.stream) (g.S.NonBlocking.remaining c.read.new.stream) (g.S.NonBlocking.written s.stream)
+    (g.S.NonBlocking.written c.read.new.stream) failed failed' s.lent.conn s.unfed c.read.new.self s.outbox (g.H.Handler.told s.handler) c.as_brought.ensures.fault c.if-is_held.ensures.none
+    c.read.ensures.octets c.read.ensures.written (c.as_brought.ensures.fails failed failed' c.read.ensures.failed)
 
 pub returns-clause-held : goal.returns-clause-held
 returns-clause-held g c = λ e. absurd (c.as_brought.ensures.held e)

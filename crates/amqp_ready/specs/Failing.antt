@@ -1,0 +1,28 @@
+-- What is told of a stream that has failed.
+use Rattle.std.specs.Prelude.{◌≡◌, Bool, true, Option, Some, None}
+use Rattle.amqp_ready.specs.declared.fault.SlotFault.{SlotFault}
+use Rattle.amqp_ready.specs.declared.fault.SlotFault.TheVariants as fault
+
+-- a stream that has failed stays so
+abbrev pub Stays : Bool → Bool → Type 0
+Stays failed failed' = failed ≡ true → failed' ≡ true
+
+-- The stream has failed where that is told, and not since where no fault is. Behind another fault what was put out is written once more, which may fail untold.
+abbrev pub TellsFailure : Option SlotFault → Bool → Bool → Type 0
+TellsFailure None failed failed' = failed' ≡ failed
+TellsFailure (Some (fault.Conn e)) failed failed' = Stays failed failed'
+TellsFailure (Some (fault.Refused e)) failed failed' = Stays failed failed'
+TellsFailure (Some fault.Read) failed failed' = failed' ≡ true
+TellsFailure (Some fault.Write) failed failed' = failed' ≡ true
+TellsFailure (Some fault.EndOfInput) failed failed' = Stays failed failed'
+TellsFailure (Some fault.TimedOut) failed failed' = Stays failed failed'
+
+-- a feed told the fault, or the handler handed it on
+abbrev pub IsOfFeeding : Option SlotFault → Type 0
+IsOfFeeding None = Unit {0}
+IsOfFeeding (Some (fault.Conn e)) = Unit {0}
+IsOfFeeding (Some (fault.Refused e)) = Unit {0}
+IsOfFeeding (Some fault.Read) = ⊥
+IsOfFeeding (Some fault.Write) = ⊥
+IsOfFeeding (Some fault.EndOfInput) = ⊥
+IsOfFeeding (Some fault.TimedOut) = ⊥
