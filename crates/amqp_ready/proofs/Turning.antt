@@ -9,11 +9,11 @@ use Rattle.amqp_ready.specs.declared.fault.SlotFault.{SlotFault}
 use Rattle.amqp_ready.specs.Moving.{PassesOn}
 use Rattle.amqp_ready.specs.Gathering.{gone, Gathers}
 use Rattle.amqp_ready.specs.Lending.{still}
-use Rattle.amqp_ready.specs.Failing.{Stays, TellsFailure}
+use Rattle.amqp_ready.specs.Failing.{EndsSo, IsOfFeeding, Stays, TellsFailure}
 use Rattle.amqp_ready.specs.Serving.{FeedsOn, IsNoFeeds}
 use Rattle.amqp_ready.specs.Slotting.{Sent, Parts, parts, Serves}
 use Rattle.amqp_ready.proofs.Cursor.{passes-none, passes-then}
-use Rattle.amqp_ready.proofs.Failures.{fails-then, fails-last}
+use Rattle.amqp_ready.proofs.Failures.{fails-then, fails-last, fails-fed, ends-fed}
 use Rattle.amqp_ready.proofs.Keeping.{still-popped}
 use Rattle.amqp_ready.proofs.Onward.{feeds-none, feeds-then, feeds-more, feeds-still, feeds-other}
 
@@ -50,33 +50,42 @@ nothing-more : (why : Option SlotFault) (c d : Connection) (x y : List ℕ) (t u
 nothing-more why c d x y t u p = subst (λ (w : List ℕ). FeedsOn why c w t d y u) (sym (append-nil x)) p
 
 -- what was unfed is fed
-pub serves-fed : (why : Option SlotFault) (s k : Option (List ℕ)) (f : Bool) (c d : Connection) (x y l : List ℕ) (t u : Option (List Given)) → FeedsOn why c x t d y u → gone d ≡ gone c → TellsFailure why f f
+pub serves-fed : (why : Option SlotFault) (s k : Option (List ℕ)) (f : Bool) (c d : Connection) (x y l : List ℕ) (t u : Option (List Given)) → FeedsOn why c x t d y u → gone d ≡ gone c → IsOfFeeding why
     → Serves why (parts s x c t l k f) (parts s y d u l k f)
-serves-fed why s k f c d x y l t u feeds g fails =
-    record { piece = []; read = Consumes-nil s; fed = nothing-more why c d x y t u feeds; sent = sent-none c d l k g; fails = fails }
+serves-fed why s k f c d x y l t u feeds g told =
+    record {
+      piece = [];
+      read = Consumes-nil s;
+      fed = nothing-more why c d x y t u feeds;
+      sent = sent-none c d l k g;
+      fails = fails-fed why f told;
+      ends = ends-fed why s told;
+    }
 
 -- what was put out is written, or as much as went before the stream failed
 pub serves-sent : (why : Option SlotFault) (s s' k k' : Option (List ℕ)) (f f' : Bool) (c d : Connection) (x l m : List ℕ) (t : Option (List Given)) → IsNoFeeds why → s' ≡ s → Sent c d l m k k' → OnlyWrote c d
-    → TellsFailure why f f' → Serves why (parts s x c t l k f) (parts s' x d t m k' f')
-serves-sent why s s' k k' f f' c d x l m t r e p o fails =
+    → TellsFailure why f f' → EndsSo why s' → Serves why (parts s x c t l k f) (parts s' x d t m k' f')
+serves-sent why s s' k k' f f' c d x l m t r e p o fails ends =
     record {
       piece = [];
       read = subst (λ (r : Option (List ℕ)). Consumes s r []) (sym e) (Consumes-nil s);
       fed = nothing-more why c d x x t t (feeds-other why c d x x t t r (feeds-still None c c d x x t t (feeds-none c x t) (still-popped c d o)));
       sent = p;
       fails = fails;
+      ends = ends;
     }
 
 -- octets are read, where all were fed, or none, where the stream failed
 pub serves-read : (why : Option SlotFault) (s s' k k' : Option (List ℕ)) (f f' : Bool) (c : Connection) (x y l : List ℕ) (t : Option (List Given)) → IsNoFeeds why → x ≡ [] → Consumes s s' y → k' ≡ k
-    → TellsFailure why f f' → Serves why (parts s x c t l k f) (parts s' y c t l k' f')
-serves-read why s s' k k' f f' c x y l t r none reads e fails =
+    → TellsFailure why f f' → EndsSo why s' → Serves why (parts s x c t l k f) (parts s' y c t l k' f')
+serves-read why s s' k k' f f' c x y l t r none reads e fails ends =
     record {
       piece = y;
       read = reads;
       fed = feeds-other why c c (x ++ y) y t t r (subst (λ (w : List ℕ). FeedsOn None c (w ++ y) t c y t) (sym none) (feeds-none c y t));
       sent = subst (λ (w : Option (List ℕ)). Sent c c l l k w) (sym e) (sent-none c c l k refl);
       fails = fails;
+      ends = ends;
     }
 
 -- the connection is lent
@@ -89,6 +98,7 @@ serves-lent s k f c d x l t u h g e =
       fed = nothing-more None c d x x t u (subst (λ (w : Option (List Given)). FeedsOn None c x t d x w) (sym e) (feeds-still None c c d x x t t (feeds-none c x t) h));
       sent = sent-none c d l k g;
       fails = refl;
+      ends = tt;
     }
 
 pub serves-then : (why : Option SlotFault) (p q r : Parts) → Serves None p q → Serves why q r → Serves why p r
@@ -102,6 +112,7 @@ serves-then why p q r a b =
           (feeds-more p.conn q.conn (p.unfed ++ a.piece) q.unfed b.piece p.told q.told a.fed) b.fed);
       sent = sent-then p.conn q.conn r.conn p.left q.left r.left p.sink q.sink r.sink a.sent b.sent;
       fails = fails-then why p.failed q.failed r.failed a.fails b.fails;
+      ends = b.ends;
     }
 
 -- behind a fault what was put out is written, which may fail the stream
@@ -114,18 +125,20 @@ serves-last e p s s' k k' f f' c d x l m t a same sent o stays =
       fed = feeds-still (Some e) p.conn c d (p.unfed ++ a.piece) x p.told t a.fed (still-popped c d o);
       sent = sent-then p.conn c d p.left l m p.sink k k' a.sent sent;
       fails = fails-last e p.failed f f' a.fails stays;
+      ends = subst (λ (r : Option (List ℕ)). EndsSo (Some e) r) (sym same) a.ends;
     }
 
 pub serves-none : (p : Parts) → Serves None p p
-serves-none p = serves-fed None p.source p.sink p.failed p.conn p.conn p.unfed p.unfed p.left p.told p.told (feeds-none p.conn p.unfed p.told) refl refl
+serves-none p = serves-fed None p.source p.sink p.failed p.conn p.conn p.unfed p.unfed p.left p.told p.told (feeds-none p.conn p.unfed p.told) refl tt
 
--- a fault that is none of the stream's
-pub serves-other : (why : Option SlotFault) (p q : Parts) → IsNoFeeds why → TellsFailure why p.failed p.failed → Serves None p q → Serves why p q
-serves-other why p q r fails a =
+-- a fault that is no failure of the stream
+pub serves-other : (why : Option SlotFault) (p q : Parts) → IsNoFeeds why → TellsFailure why p.failed p.failed → EndsSo why q.source → Serves None p q → Serves why p q
+serves-other why p q r fails ends a =
     record {
       piece = a.piece;
       read = a.read;
       fed = feeds-other why p.conn q.conn (p.unfed ++ a.piece) q.unfed p.told q.told r a.fed;
       sent = a.sent;
       fails = subst (λ (f : Bool). TellsFailure why p.failed f) (sym a.fails) fails;
+      ends = ends;
     }

@@ -1,5 +1,6 @@
--- What is told of a stream that has failed.
-use Rattle.std.specs.Prelude.{◌≡◌, Bool, true, Option, Some, None}
+-- What is told of a stream that has failed, or that has ended.
+use Rattle.std.specs.Prelude.{ℕ, ◌≡◌, Bool, true, List, Option, Some, None}
+use Rattle.std.specs.Io.KnownBytes.{IsAtEnd}
 use Rattle.amqp_ready.specs.declared.fault.SlotFault.{SlotFault}
 use Rattle.amqp_ready.specs.declared.fault.SlotFault.TheVariants as fault
 
@@ -16,6 +17,16 @@ TellsFailure (Some fault.Read) failed failed' = failed' ≡ true
 TellsFailure (Some fault.Write) failed failed' = failed' ≡ true
 TellsFailure (Some fault.EndOfInput) failed failed' = Stays failed failed'
 TellsFailure (Some fault.TimedOut) failed failed' = Stays failed failed'
+
+-- The stream's octets have ended where that is told. That it took too long the clock alone tells, and no turn.
+abbrev pub EndsSo : Option SlotFault → Option (List ℕ) → Type 0
+EndsSo None remaining = Unit {0}
+EndsSo (Some (fault.Conn e)) remaining = Unit {0}
+EndsSo (Some (fault.Refused e)) remaining = Unit {0}
+EndsSo (Some fault.Read) remaining = Unit {0}
+EndsSo (Some fault.Write) remaining = Unit {0}
+EndsSo (Some fault.EndOfInput) remaining = IsAtEnd remaining
+EndsSo (Some fault.TimedOut) remaining = ⊥
 
 -- a feed told the fault, or the handler handed it on
 abbrev pub IsOfFeeding : Option SlotFault → Type 0

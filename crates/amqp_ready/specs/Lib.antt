@@ -12,7 +12,7 @@ pub mod Gathering
 pub mod Lending
 -- what was read is fed
 pub mod Serving
--- what is told of a stream that has failed
+-- what is told of a stream that has failed, or that has ended
 pub mod Failing
 -- octets that answer what was read, and are not written
 pub mod Answering

@@ -6,7 +6,7 @@ use Rattle.amqp_conn.specs.Connection.{Connection}
 use Rattle.amqp_ready.specs.declared.fault.SlotFault.{SlotFault}
 use Rattle.amqp_ready.specs.Moving.{PassesOn}
 use Rattle.amqp_ready.specs.Gathering.{gone}
-use Rattle.amqp_ready.specs.Failing.{TellsFailure}
+use Rattle.amqp_ready.specs.Failing.{TellsFailure, EndsSo}
 use Rattle.amqp_ready.specs.Serving.{FeedsOn}
 
 -- The octets of the units that were popped since came behind what was left to be written; a front of all that came behind what was written, and the rest is
@@ -30,11 +30,12 @@ pub record Parts : Type 0 where
 abbrev pub parts : Option (List ℕ) → List ℕ → Connection → Option (List Given) → List ℕ → Option (List ℕ) → Bool → Parts
 parts s x c t l k f = record { source = s; unfed = x; conn = c; told = t; left = l; sink = k; failed = f }
 
--- These octets were read. What was unfed, and they behind it, is fed from its front on, but for what is unfed now; what was put out went on its way; and
--- that the stream failed is told, if it did.
+-- These octets were read. What was unfed, and they behind it, is fed from its front on, but for what is unfed now; what was put out went on its way;
+-- that the stream failed is told, if it did; and that its octets have ended only if they have.
 pub record Serves (why : Option SlotFault) (p q : Parts) : Type 0 where
   pub piece : List ℕ
   pub read : Consumes p.source q.source piece
   pub fed : FeedsOn why p.conn (p.unfed ++ piece) p.told q.conn q.unfed q.told
   pub sent : Sent p.conn q.conn p.left q.left p.sink q.sink
   pub fails : TellsFailure why p.failed q.failed
+  pub ends : EndsSo why q.source

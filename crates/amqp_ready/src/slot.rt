@@ -1,6 +1,7 @@
 //! A connection with its stream.
 ghost use Rattle.std.specs.Prelude.{◌≡◌, ◌≢◌, ◌≤◌, ◌<◌, ◌⊎◌, [], Bool, Ok, None, IfErr, length};
 ghost use Rattle.std.specs.Bool.{OnFalse, OnTrue};
+ghost use Rattle.std.specs.Io.KnownBytes.{IsAtEnd};
 ghost use Rattle.amqp_conn.specs.Calling.{Closes, Performs};
 ghost use Rattle.amqp_conn.specs.Pumping.{AllWent, OnlyWrote};
 ghost use Rattle.amqp_ready.specs.Answering.{added, fresh, unsent, with_most, written};
@@ -71,6 +72,7 @@ pub struct Slot<S, H> {
 fn as_brought(answer: Result<Moved, ReadFault>) -> Result<Brought, SlotFault>
     ensures fault { IsNoFeeds (fault_in result) }
     ensures held { result ≢ Ok Brought.Held }
+    ensures end { result ≡ Ok Brought.End → answer ≡ Ok (Moved.Octets 0) }
     ensures told { IfErr result (λ e. e ≡ SlotFault.Read) }
     ensures fails { (a b : Bool) → CountsFailure answer a b → TellsFailure (fault_in result) a b }
 {
@@ -226,6 +228,7 @@ impl<S: NonBlocking, H: Handler> Slot<S, H> {
         ensures answers { self.new.answers ≡ self.old.answers }
         ensures fault { IsNoFeeds (fault_in result) }
         ensures told { IfErr result (λ e. e ≡ SlotFault.Read) }
+        ensures end { result ≡ Ok Brought.End → IsAtEnd (S.remaining self.new.stream) }
     {
         if self.is_held() {
             return Ok(Brought::Held);

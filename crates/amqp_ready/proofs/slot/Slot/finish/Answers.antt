@@ -12,4 +12,4 @@ returns-in-Ok-clause-serves g c =
 
 pub returns-in-Err-clause-serves : goal.returns-in-Err-clause-serves
 returns-in-Err-clause-serves g c =
-    serves-other (Some (fault.Refused c.in-Err.refusal)) (parts (g.S.NonBlocking.remaining c.args.self.now.stream) c.args.self.now.unfed c.args.self.now.lent.conn (g.H.Handler.told c.args.self.now.handler) c.args.self.now.outbox (g.S.NonBlocking.written c.args.self.now.stream) (g.S.NonBlocking.failed c.args.self.now.stream)) (parts (g.S.NonBlocking.remaining c.args.self.now.stream) c.args.self.now.unfed c.go_on.new.conn.conn (g.H.Handler.told c.go_on.new.self) c.args.self.now.outbox (g.S.NonBlocking.written c.args.self.now.stream) (g.S.NonBlocking.failed c.args.self.now.stream)) tt (λ h. h) (serves-lent (g.S.NonBlocking.remaining c.args.self.now.stream) (g.S.NonBlocking.written c.args.self.now.stream) (g.S.NonBlocking.failed c.args.self.now.stream) c.args.self.now.lent.conn c.go_on.new.conn.conn c.args.self.now.unfed c.args.self.now.outbox (g.H.Handler.told c.args.self.now.handler) (g.H.Handler.told c.go_on.new.self) (kept-still c.args.self.now.lent.conn c.go_on.new.conn.conn c.go_on.ensures.kept) (kept-gone c.args.self.now.lent.conn c.go_on.new.conn.conn c.go_on.ensures.kept) c.go_on.ensures.told)
+    serves-other (Some (fault.Refused c.in-Err.refusal)) (parts (g.S.NonBlocking.remaining c.args.self.now.stream) c.args.self.now.unfed c.args.self.now.lent.conn (g.H.Handler.told c.args.self.now.handler) c.args.self.now.outbox (g.S.NonBlocking.written c.args.self.now.stream) (g.S.NonBlocking.failed c.args.self.now.stream)) (parts (g.S.NonBlocking.remaining c.args.self.now.stream) c.args.self.now.unfed c.go_on.new.conn.conn (g.H.Handler.told c.go_on.new.self) c.args.self.now.outbox (g.S.NonBlocking.written c.args.self.now.stream) (g.S.NonBlocking.failed c.args.self.now.stream)) tt (λ h. h) tt (serves-lent (g.S.NonBlocking.remaining c.args.self.now.stream) (g.S.NonBlocking.written c.args.self.now.stream) (g.S.NonBlocking.failed c.args.self.now.stream) c.args.self.now.lent.conn c.go_on.new.conn.conn c.args.self.now.unfed c.args.self.now.outbox (g.H.Handler.told c.args.self.now.handler) (g.H.Handler.told c.go_on.new.self) (kept-still c.args.self.now.lent.conn c.go_on.new.conn.conn c.go_on.ensures.kept) (kept-gone c.args.self.now.lent.conn c.go_on.new.conn.conn c.go_on.ensures.kept) c.go_on.ensures.told)
