@@ -1,11 +1,14 @@
 -- Slots by key: how far each is, and what a turn does.
-use Rattle.std.specs.Prelude.{ℕ, ◌≡◌, ◌≢◌, ◌⊎◌, Bool, List, [], Option, Some, None, option_map}
+use Rattle.std.specs.Prelude.{ℕ, ◌≡◌, ◌≢◌, ◌⊎◌, Bool, List, [], Option, Some, None, Result, option_map}
 use Rattle.slab.specs.Slab.{Slab}
 use Rattle.slab.specs.Slab as slab
+use Rattle.amqp_rules.specs.declared.op.Op.{Op}
+use Rattle.amqp_rules.specs.declared.refusal.Refusal.{Refusal}
 use Rattle.amqp_rules.specs.declared.reply.Given.{Given}
 use Rattle.amqp_conn.specs.declared.fault.ConnFault.TheVariants as conn
 use Rattle.amqp_conn.specs.declared.phase.Phase.TheVariants as phase
 use Rattle.amqp_conn.specs.Connection.{Connection, connection, in_phase}
+use Rattle.amqp_conn.specs.Calling.{Performs}
 use Rattle.amqp_conn.specs.Pumping.{AllWent}
 use Rattle.amqp_ready.specs.declared.fault.SlotFault.{SlotFault}
 use Rattle.amqp_ready.specs.declared.fault.SlotFault.TheVariants as fault
@@ -88,6 +91,12 @@ module _ {S H : Type 0} where
   abbrev pub HoldsAt : ℕ → Option (Slot S H × Stage) → Type 0
   HoldsAt most None = ⊥
   HoldsAt most (Some p) = p.0.answers ≡ with_most most fresh
+
+  -- the operation was done on the connection under a key, with this answer, if a slot stands there
+  abbrev pub PerformsAt : Op → Option (Slot S H × Stage) → Option (Result (Unit {0}) Refusal) → Option (Slot S H × Stage) → Type 0
+  PerformsAt op None answer new = answer ≡ None
+  PerformsAt op (Some p) None new = ⊥
+  PerformsAt op (Some p) (Some result) new = (q : Slot S H × Stage) × (new ≡ Some q) × Performs p.0.lent.conn.core op result q.0.lent.conn.core
 
   -- this is left of what had ended so
   abbrev pub IsLeft : Option (Slot S H × Stage) → S → Connection → H → Option SlotFault → Type 0

@@ -1,12 +1,13 @@
 //! A connection with its stream.
-ghost use Rattle.std.specs.Prelude.{◌≡◌, ◌≢◌, ◌≤◌, ◌<◌, ◌⊎◌, [], Bool, Ok, None, IfErr, length};
+ghost use Rattle.std.specs.Prelude.{◌≡◌, ◌≢◌, ◌≤◌, ◌<◌, ◌⊎◌, ℕ, List, [], Bool, Ok, None, IfOk, IfErr, OnErr, length};
 ghost use Rattle.std.specs.Bool.{OnFalse, OnTrue};
 ghost use Rattle.std.specs.Io.KnownBytes.{IsAtEnd};
 ghost use Rattle.amqp_conn.specs.Calling.{Closes, Performs};
 ghost use Rattle.amqp_conn.specs.Pumping.{AllWent, OnlyWrote};
 ghost use Rattle.amqp_ready.specs.Answering.{added, fresh, unsent, with_most, written};
 ghost use Rattle.amqp_ready.specs.Failing.{Stays, TellsFailure};
-ghost use Rattle.amqp_ready.specs.Reading.{CountsFailure};
+ghost use Rattle.amqp_ready.specs.Moving.{count};
+ghost use Rattle.amqp_ready.specs.Reading.{Brings, CountsFailure};
 ghost use Rattle.amqp_ready.specs.Serving.{fault_in, IsNoFeeds};
 ghost use Rattle.amqp_ready.specs.Slotting.{parts, Sent, Serves};
 
@@ -73,6 +74,7 @@ fn as_brought(answer: Result<Moved, ReadFault>) -> Result<Brought, SlotFault>
     ensures fault { IsNoFeeds (fault_in result) }
     ensures held { result ≢ Ok Brought.Held }
     ensures end { result ≡ Ok Brought.End → answer ≡ Ok (Moved.Octets 0) }
+    ensures brings { (x : List ℕ) → IfOk answer (λ moved. length x ≡ count moved) → OnErr answer (x ≡ []) → IfOk result (λ b. Brings b x) }
     ensures told { IfErr result (λ e. e ≡ SlotFault.Read) }
     ensures fails { (a b : Bool) → CountsFailure answer a b → TellsFailure (fault_in result) a b }
 {
@@ -180,6 +182,7 @@ impl<S: NonBlocking, H: Handler> Slot<S, H> {
         ensures kept { self.new.unfed ≡ self.old.unfed }
         ensures told { IfErr result (λ e. e ≡ SlotFault.Write) }
         ensures answers { self.new.answers ≡ written (unsent self.old.lent.conn self.old.outbox) (unsent self.new.lent.conn self.new.outbox) self.old.answers }
+        ensures reads { self.new.reads ≡ self.old.reads }
     {
         let before = self.unsent();
         let answer = flush(&mut self.outbox, &mut self.lent.conn, &mut self.stream);
@@ -226,6 +229,8 @@ impl<S: NonBlocking, H: Handler> Slot<S, H> {
         ensures rest { self.old.unfed ≢ [] → self.new ≡ self.old }
         ensures held { result ≡ Ok Brought.Held → (self.old.unfed ≢ []) ⊎ (self.old.answers.most ≤ self.old.answers.since) }
         ensures answers { self.new.answers ≡ self.old.answers }
+        ensures reads { self.new.reads ≡ self.old.reads }
+        ensures brings { IfOk result (λ b. Brings b self.new.unfed) }
         ensures fault { IsNoFeeds (fault_in result) }
         ensures told { IfErr result (λ e. e ≡ SlotFault.Read) }
         ensures end { result ≡ Ok Brought.End → IsAtEnd (S.remaining self.new.stream) }
@@ -394,6 +399,7 @@ impl<S: NonBlocking, H: Handler> Slot<S, H> {
     pub fn close(&mut self) -> Result<(), CloseRefusal>
         ensures closes { Closes self.old.lent.conn.core None result self.new.lent.conn.core }
         ensures answers { self.new.answers ≡ self.old.answers }
+        ensures reads { self.new.reads ≡ self.old.reads }
         ensures serves { Serves None (parts (S.remaining self.old.stream) self.old.unfed self.old.lent.conn (H.told self.old.handler) self.old.outbox (S.written self.old.stream) (S.failed self.old.stream)) (parts (S.remaining self.new.stream) self.new.unfed self.new.lent.conn (H.told self.new.handler) self.new.outbox (S.written self.new.stream) (S.failed self.new.stream)) }
     {
         self.lent.close(None)
@@ -407,6 +413,7 @@ impl<S: NonBlocking, H: Handler> Slot<S, H> {
     pub fn perform(&mut self, op: Op) -> Result<(), Refusal>
         ensures performs { Performs self.old.lent.conn.core op result self.new.lent.conn.core }
         ensures answers { self.new.answers ≡ self.old.answers }
+        ensures reads { self.new.reads ≡ self.old.reads }
         ensures serves { Serves None (parts (S.remaining self.old.stream) self.old.unfed self.old.lent.conn (H.told self.old.handler) self.old.outbox (S.written self.old.stream) (S.failed self.old.stream)) (parts (S.remaining self.new.stream) self.new.unfed self.new.lent.conn (H.told self.new.handler) self.new.outbox (S.written self.new.stream) (S.failed self.new.stream)) }
     {
         self.lent.perform(op)

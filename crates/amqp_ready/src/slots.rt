@@ -1,7 +1,7 @@
 //! Slots by key, for one thread.
 ghost use Rattle.std.specs.Prelude.{◌≡◌, ◌==◌, [], None, Some, IfSome, IfOk, IfErr, OnOk, OnErr, option_copied, option_map};
 ghost use Rattle.slab.specs.Slab.{HasRoomFor, slab_len};
-ghost use Rattle.amqp_ready.specs.Seating.{AllStay, HoldsAt, IsLeft, IsNew, IsOverAt, LentAt, OthersStay, TicksAt, TurnsAt, held};
+ghost use Rattle.amqp_ready.specs.Seating.{AllStay, HoldsAt, IsLeft, IsNew, IsOverAt, LentAt, OthersStay, PerformsAt, TicksAt, TurnsAt, held};
 
 use crate::answers::ANSWERS;
 use crate::device::NonBlocking;
@@ -167,6 +167,7 @@ impl<S: NonBlocking, H: Handler> Slots<S, H> {
         ensures err { OnErr result (AllStay self.old.seats self.new.seats) }
         ensures holds { IfOk result (λ key. HoldsAt self.old.most (held self.new.seats key)) }
         ensures back { IfErr result (λ r. (r.stream ≡ stream) × (r.conn ≡ conn) × (r.handler ≡ handler)) }
+        ensures most { self.new.most ≡ self.old.most }
     {
         if self.make_room().is_err() {
             return Err(Returned {
@@ -185,6 +186,7 @@ impl<S: NonBlocking, H: Handler> Slots<S, H> {
         ensures added { IsNew (held self.new.seats result) stream conn handler }
         ensures holds { HoldsAt self.old.most (held self.new.seats result) }
         ensures others { OthersStay self.old.seats self.new.seats result }
+        ensures most { self.new.most ≡ self.old.most }
     {
         let mut seat = Seat::new(self.alloc, stream, conn, handler);
         seat.slot.hold_at(self.most);
@@ -195,7 +197,8 @@ impl<S: NonBlocking, H: Handler> Slots<S, H> {
 
     /// The slot under the key, if one is there that goes on, is to be served.
     pub fn wake(&mut self, key: usize)
-        ensures { AllStay self.old.seats self.new.seats }
+        ensures stay { AllStay self.old.seats self.new.seats }
+        ensures most { self.new.most ≡ self.old.most }
     {
         if self.becomes_due(key) {
             // `add` has made room for it.
@@ -204,7 +207,8 @@ impl<S: NonBlocking, H: Handler> Slots<S, H> {
     }
 
     fn becomes_due(&mut self, key: usize) -> bool
-        ensures { AllStay self.old.seats self.new.seats }
+        ensures stay { AllStay self.old.seats self.new.seats }
+        ensures most { self.new.most ≡ self.old.most }
     {
         match self.seats.get_mut(key) {
             Some(seat) => seat.becomes_due(),
@@ -217,6 +221,7 @@ impl<S: NonBlocking, H: Handler> Slots<S, H> {
         ensures turns { TurnsAt S.remaining S.written S.failed H.told (held self.old.seats key) (held self.new.seats key) }
         ensures over { result ≡ Turned.Over → IsOverAt (held self.new.seats key) }
         ensures others { OthersStay self.old.seats self.new.seats key }
+        ensures most { self.new.most ≡ self.old.most }
     {
         let turned = self.turn(key);
         match turned {
@@ -231,6 +236,7 @@ impl<S: NonBlocking, H: Handler> Slots<S, H> {
         ensures turns { TurnsAt S.remaining S.written S.failed H.told (held self.old.seats key) (held self.new.seats key) }
         ensures over { result ≡ Turned.Over → IsOverAt (held self.new.seats key) }
         ensures others { OthersStay self.old.seats self.new.seats key }
+        ensures most { self.new.most ≡ self.old.most }
     {
         match self.seats.get_mut(key) {
             Some(seat) => seat.turn(&mut self.inbox),
@@ -240,7 +246,8 @@ impl<S: NonBlocking, H: Handler> Slots<S, H> {
 
     /// The slot under the key has ended: it is to be taken out.
     fn put_aside(&mut self, key: usize)
-        ensures { AllStay self.old.seats self.new.seats }
+        ensures stay { AllStay self.old.seats self.new.seats }
+        ensures most { self.new.most ≡ self.old.most }
     {
         if let Some(seat) = self.seats.get_mut(key) {
             seat.before = self.ended;
@@ -250,7 +257,8 @@ impl<S: NonBlocking, H: Handler> Slots<S, H> {
 
     /// The slot under the key stands no more among those that are to be served.
     fn leave_queue(&mut self, key: usize)
-        ensures { AllStay self.old.seats self.new.seats }
+        ensures stay { AllStay self.old.seats self.new.seats }
+        ensures most { self.new.most ≡ self.old.most }
     {
         if let Some(seat) = self.seats.get_mut(key) {
             seat.is_due = false;
@@ -262,6 +270,7 @@ impl<S: NonBlocking, H: Handler> Slots<S, H> {
         ensures turns { IfSome result (λ r. TurnsAt S.remaining S.written S.failed H.told (held self.old.seats r.0) (held self.new.seats r.0)) }
         ensures others { IfSome result (λ r. OthersStay self.old.seats self.new.seats r.0) }
         ensures none { result ≡ None → self.new.seats ≡ self.old.seats }
+        ensures most { self.new.most ≡ self.old.most }
     {
         match self.due.pop_front() {
             Some(key) => {
@@ -293,6 +302,7 @@ impl<S: NonBlocking, H: Handler> Slots<S, H> {
         ensures gone { IfSome result (λ e. held self.new.seats e.key ≡ None) }
         ensures others { IfSome result (λ e. OthersStay self.old.seats self.new.seats e.key) }
         ensures none { result ≡ None → self.new.seats ≡ self.old.seats }
+        ensures most { self.new.most ≡ self.old.most }
     {
         match self.ended {
             Some(key) => self.take_out(key),
@@ -305,6 +315,7 @@ impl<S: NonBlocking, H: Handler> Slots<S, H> {
         ensures gone { IfSome result (λ e. held self.new.seats e.key ≡ None) }
         ensures others { IfSome result (λ e. OthersStay self.old.seats self.new.seats e.key) }
         ensures none { result ≡ None → self.new.seats ≡ self.old.seats }
+        ensures most { self.new.most ≡ self.old.most }
     {
         let Some((fault, before)) = self.ending(key) else {
             return None;
@@ -330,6 +341,7 @@ impl<S: NonBlocking, H: Handler> Slots<S, H> {
     pub fn close(&mut self, key: usize)
         ensures lent { LentAt S.remaining S.written S.failed H.told (held self.old.seats key) (held self.new.seats key) }
         ensures others { OthersStay self.old.seats self.new.seats key }
+        ensures most { self.new.most ≡ self.old.most }
     {
         self.close_one(key);
         self.wake(key);
@@ -338,6 +350,7 @@ impl<S: NonBlocking, H: Handler> Slots<S, H> {
     fn close_one(&mut self, key: usize)
         ensures lent { LentAt S.remaining S.written S.failed H.told (held self.old.seats key) (held self.new.seats key) }
         ensures others { OthersStay self.old.seats self.new.seats key }
+        ensures most { self.new.most ≡ self.old.most }
     {
         if let Some(seat) = self.seats.get_mut(key) {
             let _ = seat.slot.close();
@@ -347,8 +360,10 @@ impl<S: NonBlocking, H: Handler> Slots<S, H> {
     /// Does an operation on the connection under the key, as `Lent::perform`, for a program that has a reason of its own: none where no slot is there. Where it
     /// was done the slot is to be served, which writes what it put out; one that is refused wakes nothing.
     pub fn perform(&mut self, key: usize, op: Op) -> Option<Result<(), Refusal>>
+        ensures performs { PerformsAt op (held self.old.seats key) result (held self.new.seats key) }
         ensures lent { LentAt S.remaining S.written S.failed H.told (held self.old.seats key) (held self.new.seats key) }
         ensures others { OthersStay self.old.seats self.new.seats key }
+        ensures most { self.new.most ≡ self.old.most }
     {
         let done = self.perform_one(key, op);
         if done == Some(Ok(())) {
@@ -358,8 +373,10 @@ impl<S: NonBlocking, H: Handler> Slots<S, H> {
     }
 
     fn perform_one(&mut self, key: usize, op: Op) -> Option<Result<(), Refusal>>
+        ensures performs { PerformsAt op (held self.old.seats key) result (held self.new.seats key) }
         ensures lent { LentAt S.remaining S.written S.failed H.told (held self.old.seats key) (held self.new.seats key) }
         ensures others { OthersStay self.old.seats self.new.seats key }
+        ensures most { self.new.most ≡ self.old.most }
     {
         match self.seats.get_mut(key) {
             Some(seat) => Some(seat.slot.perform(op)),
@@ -405,6 +422,7 @@ impl<S: NonBlocking, H: Handler> Slots<S, H> {
     pub fn tick_one(&mut self, key: usize, limits: Limits, now: u64)
         ensures ticks { TicksAt S.remaining S.written S.failed H.told (held self.old.seats key) (held self.new.seats key) }
         ensures others { OthersStay self.old.seats self.new.seats key }
+        ensures most { self.new.most ≡ self.old.most }
     {
         let due = self.look(key, limits, now);
         if due == Due::Nothing {
@@ -417,7 +435,8 @@ impl<S: NonBlocking, H: Handler> Slots<S, H> {
     }
 
     fn look(&mut self, key: usize, limits: Limits, now: u64) -> Due
-        ensures { AllStay self.old.seats self.new.seats }
+        ensures stay { AllStay self.old.seats self.new.seats }
+        ensures most { self.new.most ≡ self.old.most }
     {
         match self.seats.get_mut(key) {
             Some(seat) => seat.look(limits, now),
@@ -429,6 +448,7 @@ impl<S: NonBlocking, H: Handler> Slots<S, H> {
     fn act(&mut self, key: usize, due: Due) -> bool
         ensures ticks { TicksAt S.remaining S.written S.failed H.told (held self.old.seats key) (held self.new.seats key) }
         ensures others { OthersStay self.old.seats self.new.seats key }
+        ensures most { self.new.most ≡ self.old.most }
     {
         match self.seats.get_mut(key) {
             Some(seat) => seat.act(due),

@@ -21,3 +21,6 @@ returns-clause-held g c = λ e. absurd (c.as_brought.ensures.held e)
 
 pub returns-clause-end : goal.returns-clause-end
 returns-clause-end g c = λ e. ends-none c.read.result (g.S.NonBlocking.remaining c.read.new.stream) c.read.ensures.end (c.as_brought.ensures.end e)
+
+pub returns-clause-brings : goal.returns-clause-brings
+returns-clause-brings g c = c.as_brought.ensures.brings c.read.new.self c.read.ensures.count c.read.ensures.none
