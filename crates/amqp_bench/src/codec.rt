@@ -1,8 +1,8 @@
 //! Frames written and read in memory.
 
 use amqp_frames::{
-    DispositionBody, Filled, FlowBody, Frame, FrameFault, Framer, Performative, Role, TransferBody,
-    append_frame, write_frame,
+    DispositionBody, Filled, FlowBody, Frame, FrameFault, Framer, Octets, Performative, Role,
+    TransferBody, append_frame, write_frame,
 };
 use amqp_types::Tag;
 use bytes::Bytes;
@@ -159,11 +159,7 @@ fn write_many(alloc: Global, frame: &Frame, rounds: u32) -> anyhow::Result<u64> 
 
 /// How many frames were read into one slot, and how many octets of payload they have.
 fn read_many(alloc: Global, octets: &Bytes, rounds: u32) -> anyhow::Result<(u64, u64)> {
-    let mut slot = Frame {
-        channel: 0,
-        body: None,
-        payload: Bytes::new(),
-    };
+    let mut slot = Frame::empty();
     let read = read_slot(alloc, octets, rounds, &mut slot);
     drop(slot);
     Ok(read?)
@@ -176,10 +172,11 @@ fn read_slot(
     slot: &mut Frame,
 ) -> Result<(u64, u64), FrameFault> {
     let mut framer = Framer::new(alloc, MAX_FRAME);
+    let piece = Octets::shared(octets, 0);
     let mut frames: u64 = 0;
     let mut payload: u64 = 0;
     for _ in 0..rounds {
-        if let Filled::Whole(_) = framer.feed_shared(octets, 0, slot)? {
+        if let Filled::Whole(_) = framer.feed_into(&piece, slot)? {
             frames = frames.wrapping_add(1);
             payload = payload.wrapping_add(slot.payload.len() as u64);
         }

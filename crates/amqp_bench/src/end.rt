@@ -2,7 +2,9 @@
 
 use crate::hand::{Counts, Hand};
 use crate::session::Messages;
-use amqp_conn::{Bytes, Config, Conn, ConnFault, Fed, Phase, Refusal, Role, StartFault, Text};
+use amqp_conn::{
+    Bytes, Config, Conn, ConnFault, Fed, Octets, Phase, Refusal, Role, StartFault, Text,
+};
 use std::alloc::{AllocError, Global};
 use thiserror::Error;
 
@@ -78,7 +80,7 @@ impl End {
             if from >= octets.len() || self.is_closed() {
                 break;
             }
-            let fed = self.conn.feed_shared(octets, from)?;
+            let fed = self.conn.feed(&Octets::shared(octets, from))?;
             from = from.saturating_add(fed.used);
             self.take(fed)?;
         }

@@ -237,13 +237,10 @@ fn shares(alloc: Global, octets: &[u8], again: bool) -> Result<Bytes, AllocError
 /// Whether the shared octets are a frame, which is read into a slot and written each way.
 fn is_through_a_slot(alloc: Global, shared: &Bytes, octets: &[u8], again: bool) -> bool {
     let mut framer = Framer::new(alloc, 65536);
-    let mut slot = Frame {
-        channel: 0,
-        body: None,
-        payload: Bytes::new(),
-    };
-    let fed = match framer.feed_shared(shared, 0, &mut slot) {
-        Err(FrameFault::NoMemory) if again => framer.feed_shared(shared, 0, &mut slot),
+    let mut slot = Frame::empty();
+    let piece = Octets::shared(shared, 0);
+    let fed = match framer.feed_into(&piece, &mut slot) {
+        Err(FrameFault::NoMemory) if again => framer.feed_into(&piece, &mut slot),
         fed => fed,
     };
     let is_same = is_each_way(alloc, &slot, octets, again);

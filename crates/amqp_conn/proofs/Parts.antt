@@ -7,7 +7,9 @@ use Rattle.amqp_frames.specs.declared.fault.FrameFault.TheVariants.{ShortSize, B
 use Rattle.amqp_frames.specs.declared.frame.Frame.{Frame}
 use Rattle.amqp_frames.specs.Framing.{IsFrame, IsUnfinished, Shows}
 use Rattle.amqp_frames.specs.Framer.{FramerState, keeping, Faulty, Feeds as FramerFeeds}
-use Rattle.amqp_frames.proofs.Progress.{progress}
+use Rattle.amqp_frames.specs.declared.filled.Filled.{Filled}
+use Rattle.amqp_frames.specs.declared.filled.Filled.TheVariants.{Part, Whole}
+use Rattle.amqp_frames.specs.Slots.{used_in, told_with}
 use Rattle.amqp_rules.specs.declared.violation.Violation.{Violation}
 use Rattle.amqp_rules.specs.declared.reply.Given.TheVariants.{Nothing}
 use Rattle.amqp_conn.specs.declared.phase.Phase.{Phase}
@@ -219,13 +221,6 @@ acted-set k l head piece room f g h (Ok (used, Some frame)) result r s t (treats
     let e = leaves result f g h t.3 back in
     set-up k l frame used result head room f.max_size h.max_size f.kept h.kept r s treats e.0 e.1
 
-unfinished-in : (p : Phase) (max : ℕ) (x : List ℕ) → IsTrue (reads_frames p) → HasRead p max x → IsUnfinished max x
-unfinished-in phase.AwaitHeader max x r h = absurd cc
-unfinished-in phase.AwaitOpen max x r h = h
-unfinished-in phase.Running max x r h = h
-unfinished-in phase.Closing max x r h = h
-unfinished-in phase.Closed max x r h = absurd cc
-
 treats-on : (k l : Core) (frame : Frame) (used : ℕ) (result : Result Fed ConnFault) → 0 < used → Treats k frame used result l → MovesOn result
 treats-on k l frame used (Ok fed) some t = by fed.violation t
   where
@@ -235,14 +230,12 @@ treats-on k l frame used (Ok fed) some t = by fed.violation t
 treats-on k l frame used (Err e) some t = tt
 
 -- an octet was used, or a step was made
-pub acted-on : (k l : Core) (head piece : List ℕ) (room : ℕ) (f g h : FramerState) (answer : Result (ℕ × Option Frame) FrameFault) (result : Result Fed ConnFault) → IsTrue (reads_frames k.phase)
-    → IsSetUp k head room f.max_size f.kept → FramerFeeds f piece answer g → Acts answer k g result l h → piece ≢ [] → MovesOn result
-acted-on k l head piece room f g h answer result r s t a some = by answer (progress f g piece answer unfinished t some) a
-  where
-    unfinished : IsUnfinished f.max_size f.kept
-    unfinished = unfinished-in k.phase f.max_size f.kept r (subst (λ (x : List ℕ). HasRead k.phase f.max_size x) (reads-kept k.phase head f.kept r) s.read)
+pub acted-on : (k l : Core) (f h : FramerState) (answer : Result (ℕ × Option Frame) FrameFault) (result : Result Fed ConnFault) → Acts answer k f result l h → IfOk answer (λ fed. 0 < fed.0) → MovesOn result
+acted-on k l f h (Err e) result (told, is, p) n = subst MovesOn (sym is) tt
+acted-on k l f h (Ok (used, None)) result (is, same, back) n = subst MovesOn (sym is) n
+acted-on k l f h (Ok (used, Some frame)) result (treats, back) n = treats-on k l frame used result n treats
 
-    by : (answer : Result (ℕ × Option Frame) FrameFault) → IfOk answer (λ fed. 0 < fed.0) → Acts answer k g result l h → MovesOn result
-    by (Err e) n (told, is, p) = subst MovesOn (sym is) tt
-    by (Ok (used, None)) n (is, same, back) = subst MovesOn (sym is) n
-    by (Ok (used, Some frame)) n (treats, back) = treats-on k l frame used result n treats
+pub told-some : (answer : Result Filled FrameFault) (slot : Frame) → IfOk answer (λ filled. 0 < used_in filled) → IfOk (told_with answer slot) (λ fed. 0 < fed.0)
+told-some (Ok (Part used)) slot n = n
+told-some (Ok (Whole used)) slot n = n
+told-some (Err fault) slot n = tt

@@ -1,5 +1,5 @@
 //! A connection, as a program drives it (part 2, 2.2 and 2.4).
-ghost use Rattle.std.specs.Prelude.{◌≡◌, ◌≢◌, ◌≤◌, [], Some, None, IfSome, IfOk, OnOk, OnErr, MatchResult, IsTrue, slice_get, length, drop, option_map};
+ghost use Rattle.std.specs.Prelude.{◌≡◌, ◌≢◌, ◌≤◌, [], Some, None, IfSome, IfOk, OnOk, OnErr, MatchResult, IsTrue, slice_get, length, option_map};
 ghost use Rattle.amqp_journal.specs.Units.{units, waiting};
 ghost use Rattle.amqp_laws.specs.At.{at};
 ghost use Rattle.amqp_laws.specs.Past.{past};
@@ -14,13 +14,13 @@ ghost use Rattle.amqp_conn.specs.Calling.{IsFit, IsStartFault, Does, Performs, C
 use crate::config::Config;
 use crate::fault::ConnFault;
 use crate::fed::Fed;
-use crate::feeding::{act, frame_shared};
+use crate::feeding::act;
 use crate::header::{fill, read_header};
 use crate::phase::Phase;
 use crate::refused::{CloseRefusal, StartFault};
 use crate::saying::{detached_by, ended, error_of_close, given, heard};
 use crate::treating::{Machine, nothing};
-use amqp_frames::{AmqpError, CloseBody, Frame, Framer, OpenBody, Role};
+use amqp_frames::{AmqpError, CloseBody, Frame, Framer, Octets, OpenBody, Role};
 use amqp_journal::left::Left;
 use amqp_journal::logged::Logged;
 use amqp_journal::unit::Unit;
@@ -28,7 +28,6 @@ use amqp_rules::op::Op;
 use amqp_rules::refusal::Refusal;
 use amqp_rules::reply::{Given, Suspended};
 use amqp_types::Boxed;
-use bytes::Bytes;
 use std::alloc::{AllocError, Global};
 use std::marker::Model;
 
@@ -292,39 +291,22 @@ impl Conn {
         self.framer = Framer::new(self.alloc, self.machine.get().max_frame());
     }
 
-    /// Takes octets of the piece, at most to the end of one frame, and does what they say. Of a piece that is not empty it uses an octet, or makes
-    /// the step that answers a violation; then the frame is read again by the next feed. It copies what it keeps of an unfinished frame, and a
-    /// transfer's payload once.
+    /// Takes some of the octets, at most to the end of one frame, and does what they say. Of octets that are not none it uses one, or makes
+    /// the step that answers a violation; then the frame is read again by the next feed. It copies what it keeps of an unfinished frame. The payload of a
+    /// transfer that lies whole in shared octets is a slice of them, which keeps all of them alive for as long as the delivery's entry is not forgotten; of
+    /// lent octets it is copied once.
     ///
     /// # Errors
     ///
     /// `ConnFault`: the first five end the connection, `Closed` says that it had ended before, and `NoMemory` that nothing has changed.
-    pub fn feed(&mut self, piece: &[u8]) -> Result<Fed, ConnFault>
-        ensures fed { Feeds self.old piece.now result self.new }
-        ensures progress { piece.now ≢ [] → MovesOn result }
+    pub fn feed(&mut self, octets: &Octets<'_>) -> Result<Fed, ConnFault>
+        ensures fed { Feeds self.old octets.now result self.new }
+        ensures progress { octets.now ≢ [] → MovesOn result }
     {
         match self.phase() {
             Phase::Closed => Err(ConnFault::Closed),
-            Phase::AwaitHeader => self.feed_header(piece),
-            Phase::AwaitOpen | Phase::Running | Phase::Closing => self.feed_frames(piece),
-        }
-    }
-
-    /// As `feed` of the shared octets from a place on. The payload of a transfer that lies whole in them is a slice of them, without a copy: it
-    /// keeps all of them alive for as long as the delivery's entry is not forgotten.
-    ///
-    /// # Errors
-    ///
-    /// Those of `feed`.
-    pub fn feed_shared(&mut self, shared: &Bytes, from: usize) -> Result<Fed, ConnFault>
-        requires { from ≤ length shared.now }
-        ensures fed { Feeds self.old (drop from shared.now) result self.new }
-        ensures progress { drop from shared.now ≢ [] → MovesOn result }
-    {
-        match self.phase() {
-            Phase::Closed => Err(ConnFault::Closed),
-            Phase::AwaitHeader => self.feed_header(&shared.as_slice()[from..]),
-            Phase::AwaitOpen | Phase::Running | Phase::Closing => self.share_frames(shared, from),
+            Phase::AwaitHeader => self.feed_header(octets.as_slice()),
+            Phase::AwaitOpen | Phase::Running | Phase::Closing => self.feed_frames(octets),
         }
     }
 
@@ -343,23 +325,20 @@ impl Conn {
         read_header(&mut self.machine, &mut self.head, count, missing)
     }
 
-    fn feed_frames(&mut self, piece: &[u8]) -> Result<Fed, ConnFault>
-        requires { IsTrue (reads_frames self.old.core.phase) }
-        ensures fed { Feeds self.old piece.now result self.new }
-        ensures progress { piece.now ≢ [] → MovesOn result }
-    {
-        let answer = self.framer.feed(piece);
-        act(self.alloc, &mut self.machine, &mut self.framer, answer)
-    }
-
     #[inline(always)]
-    fn share_frames(&mut self, shared: &Bytes, from: usize) -> Result<Fed, ConnFault>
-        requires reads { IsTrue (reads_frames self.old.core.phase) }
-        requires from { from ≤ length shared.now }
-        ensures fed { Feeds self.old (drop from shared.now) result self.new }
-        ensures progress { drop from shared.now ≢ [] → MovesOn result }
+    fn feed_frames(&mut self, octets: &Octets<'_>) -> Result<Fed, ConnFault>
+        requires { IsTrue (reads_frames self.old.core.phase) }
+        ensures fed { Feeds self.old octets.now result self.new }
+        ensures progress { octets.now ≢ [] → MovesOn result }
     {
-        let answer = frame_shared(&mut self.framer, shared, from);
-        act(self.alloc, &mut self.machine, &mut self.framer, answer)
+        let mut slot = Frame::empty();
+        let answer = self.framer.feed_into(octets, &mut slot);
+        act(
+            self.alloc,
+            &mut self.machine,
+            &mut self.framer,
+            answer,
+            &mut slot,
+        )
     }
 }

@@ -1,6 +1,6 @@
 //! What a framer's answer makes of a connection.
-ghost use Rattle.std.specs.Prelude.{◌≡◌, ◌≢◌, ◌≤◌, IsSome, IfOk, length, drop};
-ghost use Rattle.amqp_frames.specs.Framer.{Feeds as FramerFeeds};
+ghost use Rattle.std.specs.Prelude.{◌≡◌, ◌≢◌, IsSome, IfOk};
+ghost use Rattle.amqp_frames.specs.Slots.{told_with};
 ghost use Rattle.amqp_conn.specs.declared.phase.Phase.{Phase};
 ghost use Rattle.amqp_conn.specs.Treats.{Treats, PutsBack, EndsAll, EndsFor, Acts};
 
@@ -9,53 +9,26 @@ use crate::fed::Fed;
 use crate::treating::{Machine, nothing};
 use amqp_frames::{Filled, Frame, FrameFault, Framer};
 use amqp_types::Boxed;
-use bytes::Bytes;
 use std::alloc::Global;
 
-/// What a framer answers: how many octets it took, and the frame that they made whole.
-pub(crate) type Framed = Result<(usize, Option<Frame>), FrameFault>;
-
-/// As the framer's `feed` of the shared octets from a place on. The payload of a frame that lies whole in them is a slice of them.
-#[inline(always)]
-pub(crate) fn frame_shared(framer: &mut Framer, shared: &Bytes, from: usize) -> Framed
-    requires { from ≤ length shared.now }
-    ensures { FramerFeeds framer.old.state (drop from shared.now) result framer.new.state }
-{
-    let mut slot = Frame {
-        channel: 0,
-        body: None,
-        payload: Bytes::new(),
-    };
-    match framer.feed_shared(shared, from, &mut slot) {
-        Ok(Filled::Whole(used)) => Ok((used, Some(slot))),
-        Ok(Filled::Part(used)) => {
-            drop(slot);
-            Ok((used, None))
-        }
-        Err(fault) => {
-            drop(slot);
-            Err(fault)
-        }
-    }
-}
-
-/// Does what the framer's answer says.
+/// Does what the framer's answer says. The frame is taken out of its slot where it is kept.
 #[inline(always)]
 pub(crate) fn act(
     alloc: Global,
     machine: &mut Boxed<Machine>,
     framer: &mut Framer,
-    answer: Framed,
+    answer: Result<Filled, FrameFault>,
+    slot: &mut Frame,
 ) -> Result<Fed, ConnFault>
     requires open { machine.old.phase ≢ Phase.Closed }
     requires max { framer.old.state.max_size ≡ machine.old.config.max_frame }
     requires before { IfOk answer (λ a. IsSome framer.old.state.before) }
-    ensures { Acts answer machine.old framer.old.state result machine.new framer.new.state }
+    ensures { Acts (told_with answer slot.old) machine.old framer.old.state result machine.new framer.new.state }
 {
     match answer {
         Err(fault) => Err(end_whole(alloc, &mut machine.boxed, framer, fault)),
-        Ok((used, None)) => Ok(nothing(used)),
-        Ok((used, Some(frame))) => treat_whole(&mut machine.boxed, framer, used, frame),
+        Ok(Filled::Part(used)) => Ok(nothing(used)),
+        Ok(Filled::Whole(used)) => treat_whole(&mut machine.boxed, framer, used, slot),
     }
 }
 
@@ -127,13 +100,13 @@ fn treat_whole(
     machine: &mut Machine,
     framer: &mut Framer,
     used: usize,
-    frame: Frame,
+    slot: &mut Frame,
 ) -> Result<Fed, ConnFault>
     requires { IsSome framer.old.state.before }
-    ensures treats { Treats machine.old frame used result machine.new }
+    ensures treats { Treats machine.old slot.old used result machine.new }
     ensures back { PutsBack result framer.old.state framer.new.state }
 {
-    let answer = machine.treat(used, frame);
+    let answer = machine.treat(used, slot);
     put_back(framer, answer)
 }
 

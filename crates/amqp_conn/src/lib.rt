@@ -39,9 +39,9 @@
 //!    start, so write before the first read. A unit's octets are the program's once it is popped: one that was written in part is kept by the
 //!    program, with the rest to be written before the next unit. Popping takes no memory.
 //! 2. **Read**: some octets, as many as have come, into a buffer of the program's. A read that gives none is the end of the input: call `lost()`.
-//! 3. **Feed**: `feed(piece)` takes octets at most to the end of one frame. Feed again what comes after the `used` ones, until none are left or the phase
-//!    is `Closed`. Where octets were cut makes no difference. Octets that lie in a `Bytes` are fed by `feed_shared`: a payload that
-//!    lies whole in them is not copied.
+//! 3. **Feed**: `feed(&Octets::lent(piece))` takes octets at most to the end of one frame. Feed again what comes after the `used` ones, until none are
+//!    left or the phase is `Closed`. Where octets were cut makes no difference. Octets that lie in a `Bytes` are fed as `Octets::shared(&bytes, from)`: a
+//!    payload that lies whole in them is not copied.
 //! 4. **Act**: each feed that added an entry to the journal gives what that entry gave (`Fed::given`): a link that the peer offered, a delivery that is
 //!    ready, an outcome. `apply(&op)` does an operation, as take, dispose, grant or start, while the phase is `Running`; what it sends is a unit more.
 //! 5. Again from 1, until the phase is `Closed` and no unit waits; then shut the socket.
@@ -54,7 +54,7 @@
 //!     if count == 0 { conn.lost(); break; }
 //!     let mut rest = &buffer[..count];
 //!     while !rest.is_empty() && conn.phase() != Phase::Closed {
-//!         match conn.feed(rest) {
+//!         match conn.feed(&Octets::lent(rest)) {
 //!             Ok(fed) => { rest = &rest[fed.used..]; act(&mut conn, fed.given); }
 //!             Err(ConnFault::NoMemory) => return,            // nothing has changed: `rest` is to be fed again before more is read
 //!             Err(fault) => { told = Some(fault); break; }   // the phase is Closed now
@@ -133,7 +133,7 @@ mod treating;
 mod writing;
 
 pub use amqp_frames::{
-    AmqpError, CloseBody, DeliveryState, Frame, FrameFault, OpenBody, Performative, Role,
+    AmqpError, CloseBody, DeliveryState, Frame, FrameFault, Octets, OpenBody, Performative, Role,
 };
 pub use amqp_journal::left::Left;
 pub use amqp_journal::logged::Logged;

@@ -13,6 +13,7 @@ use crate::fault::ConnFault;
 use crate::fed::Fed;
 use crate::phase::Phase;
 use crate::pump::Pump;
+use amqp_frames::Octets;
 use amqp_rules::reply::Given;
 use thiserror::Error;
 
@@ -134,7 +135,7 @@ fn feed_once<H: Hears>(conn: &mut Conn, each: &mut H, rest: &[u8]) -> Result<usi
     ensures left { OnErr result (Took conn.old rest.now conn.new rest.now) }
 {
     recall(conn);
-    match conn.feed(rest) {
+    match conn.feed(&Octets::lent(rest)) {
         Ok(fed) => Ok(hand_on(each, fed)),
         Err(fault) => Err(fault),
     }

@@ -34,6 +34,7 @@ use amqp_types::Boxed;
 use bytes::Bytes;
 use std::alloc::{AllocError, Global};
 use std::marker::Model;
+use std::mem;
 
 /// The state that whole frames and the application's calls drive.
 #[derive(Drop)]
@@ -109,6 +110,14 @@ fn peer_max(logged: &Logged) -> u32
     ensures { result ≡ peer_max logged.now }
 {
     logged.peer_max_frame()
+}
+
+/// The frame in the slot, which is empty then.
+#[inline(always)]
+fn taken_out(slot: &mut Frame) -> Frame
+    ensures { result ≡ slot.old }
+{
+    mem::replace(slot, Frame::empty())
 }
 
 /// The state at first, with our header put out.
@@ -283,42 +292,35 @@ impl Machine {
     }
 
     #[tactic(auto, unfolding(crate::specs::Treating::treat))]
-    /// Does what a whole frame does, and keeps what an open and a close say.
+    /// Does what a whole frame does, and keeps what an open and a close say. A frame that is kept is taken out of its slot.
     #[inline(always)]
-    pub fn treat(&mut self, used: usize, frame: Frame) -> Result<Fed, ConnFault>
-        ensures { Treats self.old frame used result self.new }
+    pub fn treat(&mut self, used: usize, slot: &mut Frame) -> Result<Fed, ConnFault>
+        ensures { Treats self.old slot.old used result self.new }
     {
         match self.phase {
-            Phase::AwaitHeader | Phase::Closed => {
-                drop(frame);
-                Ok(nothing(used))
-            }
-            Phase::AwaitOpen => self.await_open(used, frame),
-            Phase::Running => self.run(used, frame),
-            Phase::Closing => Ok(self.await_close(used, frame)),
+            Phase::AwaitHeader | Phase::Closed => Ok(nothing(used)),
+            Phase::AwaitOpen => self.await_open(used, slot),
+            Phase::Running => self.run(used, slot),
+            Phase::Closing => Ok(self.await_close(used, slot)),
         }
     }
 
     /// The first frame with a body is to be an open.
-    fn await_open(&mut self, used: usize, frame: Frame) -> Result<Fed, ConnFault>
+    fn await_open(&mut self, used: usize, slot: &mut Frame) -> Result<Fed, ConnFault>
         requires { self.old.phase ≡ Phase.AwaitOpen }
-        ensures { TreatsAs (await_open self.old frame.channel frame.body) self.old frame used result self.new }
+        ensures { TreatsAs (await_open self.old slot.old.channel slot.old.body) self.old slot.old used result self.new }
     {
-        match &frame.body {
-            None => {
-                drop(frame);
-                Ok(nothing(used))
-            }
+        match &slot.body {
+            None => Ok(nothing(used)),
             Some(Performative::Open(body)) => {
-                if frame.channel != 0 {
-                    drop(frame);
+                if slot.channel != 0 {
                     return Err(self.end(ConnFault::BadChannel));
                 }
                 let told = body.get().max_frame_size.unwrap_or(4294967295).max(512);
                 match self.logged.opened(told) {
                     Ok(()) => {
                         self.phase = Phase::Running;
-                        self.peer = open_in(frame);
+                        self.peer = open_in(taken_out(slot));
                         Ok(Fed {
                             used,
                             stepped: true,
@@ -326,74 +328,58 @@ impl Machine {
                             violation: None,
                         })
                     }
-                    Err(_) => {
-                        drop(frame);
-                        Err(ConnFault::NoMemory)
-                    }
+                    Err(_) => Err(ConnFault::NoMemory),
                 }
             }
-            Some(_) => {
-                drop(frame);
-                Err(self.end(ConnFault::OutOfPlace))
-            }
+            Some(_) => Err(self.end(ConnFault::OutOfPlace)),
         }
     }
 
-    fn await_close(&mut self, used: usize, frame: Frame) -> Fed
+    fn await_close(&mut self, used: usize, slot: &mut Frame) -> Fed
         requires { self.old.phase ≡ Phase.Closing }
-        ensures { TreatsAs (await_close self.old frame.body) self.old frame used (Ok result) self.new }
+        ensures { TreatsAs (await_close self.old slot.old.body) self.old slot.old used (Ok result) self.new }
     {
-        if let Some(Performative::Close(_)) = &frame.body {
+        if let Some(Performative::Close(_)) = &slot.body {
             self.phase = Phase::Closed;
-            self.parting = close_in(frame);
-            return nothing(used);
+            self.parting = close_in(taken_out(slot));
         }
-        drop(frame);
         nothing(used)
     }
 
     #[inline(always)]
-    fn run(&mut self, used: usize, frame: Frame) -> Result<Fed, ConnFault>
+    fn run(&mut self, used: usize, slot: &mut Frame) -> Result<Fed, ConnFault>
         requires { self.old.phase ≡ Phase.Running }
-        ensures { TreatsAs (run self.old frame frame.body) self.old frame used result self.new }
+        ensures { TreatsAs (run self.old slot.old slot.old.body) self.old slot.old used result self.new }
     {
-        match kind_of(&frame.body) {
-            Kind::Empty => {
-                drop(frame);
-                Ok(nothing(used))
-            }
-            Kind::Open => {
-                drop(frame);
-                Err(self.end(ConnFault::OutOfPlace))
-            }
-            Kind::Close => self.hear_close(used, frame),
-            Kind::Session => self.hear_on(used, frame),
+        match kind_of(&slot.body) {
+            Kind::Empty => Ok(nothing(used)),
+            Kind::Open => Err(self.end(ConnFault::OutOfPlace)),
+            Kind::Close => self.hear_close(used, slot),
+            Kind::Session => self.hear_on(used, slot),
         }
     }
 
     /// The peer's close.
-    fn hear_close(&mut self, used: usize, frame: Frame) -> Result<Fed, ConnFault>
+    fn hear_close(&mut self, used: usize, slot: &mut Frame) -> Result<Fed, ConnFault>
         requires { self.old.phase ≡ Phase.Running }
-        ensures { TreatsAs (on_channel frame.channel (taken (closed_by (close_in frame.body) self.old))) self.old frame used result self.new }
+        ensures { TreatsAs (on_channel slot.old.channel (taken (closed_by (close_in slot.old.body) self.old))) self.old slot.old used result self.new }
     {
-        if frame.channel != 0 {
-            drop(frame);
+        if slot.channel != 0 {
             return Err(self.end(ConnFault::BadChannel));
         }
-        self.close_in_return(used, close_in(frame))
+        self.close_in_return(used, close_in(taken_out(slot)))
     }
 
     /// A frame of the session.
     #[inline(always)]
-    fn hear_on(&mut self, used: usize, frame: Frame) -> Result<Fed, ConnFault>
+    fn hear_on(&mut self, used: usize, slot: &mut Frame) -> Result<Fed, ConnFault>
         requires { self.old.phase ≡ Phase.Running }
-        ensures { TreatsAs (on_channel frame.channel (hearing self.old frame (heard_due self.old.log frame))) self.old frame used result self.new }
+        ensures { TreatsAs (on_channel slot.old.channel (hearing self.old slot.old (heard_due self.old.log slot.old))) self.old slot.old used result self.new }
     {
-        if frame.channel != 0 {
-            drop(frame);
+        if slot.channel != 0 {
             return Err(self.end(ConnFault::BadChannel));
         }
-        match Boxed::new(self.alloc, frame) {
+        match Boxed::new(self.alloc, taken_out(slot)) {
             Ok(frame) => self.hear(used, frame),
             Err(_) => Err(ConnFault::NoMemory),
         }

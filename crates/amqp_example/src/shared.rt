@@ -3,7 +3,7 @@ ghost use Rattle.amqp_shared.specs.Passes.{IsNamed};
 
 use crate::connection::End;
 use crate::operations::attach;
-use amqp_conn::{Bytes, Config, Op, Role, Tag, Text, ops};
+use amqp_conn::{Bytes, Config, Octets, Op, Role, Tag, Text, ops};
 use amqp_shared::{Closed, Guard, Name, NotClosed, Pass, Seed, Shared, WriterEnd, open_shared};
 use anyhow::{bail, ensure};
 use std::alloc::{AllocError, Global};
@@ -248,7 +248,7 @@ fn feed_all<N: Name>(
         if rest.is_empty() {
             return Ok(());
         }
-        let fed = shared.feed(guard, pass, rest)?;
+        let fed = shared.feed(guard, pass, &Octets::lent(rest))?;
         ensure!(fed.used > 0, "the peer breaks a rule");
         rest = &rest[fed.used..];
     }

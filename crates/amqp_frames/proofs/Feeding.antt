@@ -155,11 +155,16 @@ in_piece kept k piece place start missing at same h l =
     ap (λ (t : ℕ). drop t (whole kept missing piece)) n ∙ drop-append-add kept (take missing piece) (place - length kept) ∙ drop-take_less piece (place - length kept) missing (omega arith) in
     subst (λ (t : ℕ). drop place (whole kept missing piece) ≡ take (missing - t) (drop t piece)) (sym m) e
 
-pub in_both : (kept piece items front : List ℕ) (place start missing : ℕ) → start ≡ place → items ≡ kept ++ front → front ≡ take missing piece → drop place (whole kept missing piece) ≡ take (length items - start) (drop start items)
+in_both : (kept piece items front : List ℕ) (place start missing : ℕ) → start ≡ place → items ≡ kept ++ front → front ≡ take missing piece → drop place (whole kept missing piece) ≡ take (length items - start) (drop start items)
 in_both kept piece items front place start missing at e f =
     let all : drop place (whole kept missing piece) ≡ take (length items - place) (drop place items) =
     ap (drop place) (sym (e ∙ ap (λ (t : List ℕ). kept ++ t) f)) ∙ sym (take_all (length items - place) (drop place items) (omega (arith, length-drop place items))) in
     subst (λ (t : ℕ). drop place (whole kept missing piece) ≡ take (length items - t) (drop t items)) (sym at) all
+
+-- the same of so many octets, which are joined
+pub in_joined : (kept piece items : List ℕ) (place start size missing : ℕ) → start ≡ place → items ≡ kept ++ take missing piece → missing ≤ length piece → length kept + missing ≡ size → drop place (whole kept missing piece) ≡ take (size - start) (drop start items)
+in_joined kept piece items place start size missing at e n s =
+    in_both kept piece items (take missing piece) place start missing at e refl ∙ ap (λ (t : ℕ). take (t - start) (drop start items)) (ap length e ∙ whole_len kept piece missing n ∙ s)
 
 -- ---- the first octets
 

@@ -7,7 +7,7 @@ pub mod Puts
 pub mod Framed
 pub mod Measuring
 pub mod Brief
-pub mod Octets
+pub mod Runs
 pub mod Framing
 pub mod Performatives
 pub mod Streams

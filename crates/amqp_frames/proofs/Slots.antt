@@ -27,9 +27,6 @@ with_slot None x payload size h t e = absurd h
 part_length : (s : List ℕ) (start end : ℕ) → start ≤ end → end ≤ length s → length (take (end - start) (drop start s)) ≡ end - start
 part_length s start end h k = length-take-le (end - start) (drop start s) (omega (arith, length-drop start s))
 
-pub some_part : (s : List ℕ) (start end : ℕ) → start < end → end ≤ length s → false ≡ (length (take (end - start) (drop start s)) == 0)
-some_part s start end h k = sym (ne_eqb _ _ (λ e. omega (arith, e, part_length s start end (omega arith) k)))
-
 over : (x : List ℕ) (size : ℕ) → size < length x → false ≡ (length (take (length x - size) (drop size x)) == 0)
 over x size h = sym (ne_eqb _ _ (λ e. omega (arith, e, length-take-le (length x - size) (drop size x) (omega (arith, length-drop size x)))))
 
@@ -44,9 +41,3 @@ sliced s start end size h l =
     let n = end - (start + size) in
     let e : end - start ≡ size + n = omega arith in
     ap (take n) (sym (drop-drop size start s)) ∙ sym (drop-take size n (drop start s)) ∙ ap (λ k. drop size (take k (drop start s))) (sym e)
-
--- the same part from further ahead
-pub from_ahead : (s : List ℕ) (from start size : ℕ) → take (size - start) (drop start (drop from s)) ≡ take ((from + size) - (from + start)) (drop (from + start) s)
-from_ahead s from start size =
-    let e : size - start ≡ (from + size) - (from + start) = omega arith in
-    ap (take (size - start)) (drop-drop start from s) ∙ ap (λ k. take k (drop (from + start) s)) e

@@ -14,6 +14,8 @@ pub mod Brief
 pub mod Framer
 -- the same over all frames of a piece
 pub mod Stream
+-- octets that came, lent or shared
+pub mod Octets
 -- the same with the frame left in a slot
 pub mod Slots
 -- a frame behind other octets (`Appended`, at the end; the rest is of the private writer's small buffer)

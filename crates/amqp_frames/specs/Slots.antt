@@ -12,14 +12,21 @@ abbrev pub holds_transfer : Option Performative → Bool
 holds_transfer None = false
 holds_transfer (Some p) = is_transfer p
 
+-- how many octets a feed into a slot took
+abbrev pub used_in : Filled → ℕ
+used_in (Part used) = used
+used_in (Whole used) = used
+
+-- what a feed into a slot tells, with the frame where one was whole
+abbrev pub told_with : Result Filled FrameFault → Frame → Result (ℕ × Option Frame) FrameFault
+told_with (Ok (Part used)) slot = Ok (used, None)
+told_with (Ok (Whole used)) slot = Ok (used, Some slot)
+told_with (Err fault) slot = Err fault
+
 -- What a feed answers and leaves: the slot has the frame where one was whole.
 abbrev pub FeedsSlot : FramerState → List ℕ → Result Filled FrameFault → Frame → FramerState → Type 0
-FeedsSlot old piece (Ok (Whole used)) slot new = Feeds old piece (Ok (used, Some slot)) new
-FeedsSlot old piece (Ok (Part used)) slot new = Feeds old piece (Ok (used, None)) new
-FeedsSlot old piece (Err fault) slot new = Feeds old piece (Err fault) new
+FeedsSlot old piece result slot new = Feeds old piece (told_with result slot) new
 
 -- the memory that the framer then has
 abbrev pub RoomySlot : FramerView → List ℕ → Result Filled FrameFault → Frame → FramerView → Type 0
-RoomySlot old piece (Ok (Whole used)) slot new = Roomy old piece (Ok (used, Some slot)) new
-RoomySlot old piece (Ok (Part used)) slot new = Roomy old piece (Ok (used, None)) new
-RoomySlot old piece (Err fault) slot new = Roomy old piece (Err fault) new
+RoomySlot old piece result slot new = Roomy old piece (told_with result slot) new

@@ -9,6 +9,7 @@ ghost use Rattle.amqp_frames.specs.Slots.{holds_transfer};
 
 use crate::fault::FrameFault;
 use crate::frame::Frame;
+use crate::octets::Octets;
 use amqp_decoder::{BodyFault, read_performative_into};
 use amqp_halves::find_performative;
 use amqp_performatives::{Composite, Performative};
@@ -16,71 +17,91 @@ use amqp_types::{Descriptor, read_descriptor, skip_value};
 use bytes::Bytes;
 use std::alloc::{AllocError, Global};
 
-/// The frame of these contents on the channel. An octet after a performative that is no transfer is a fault, also where memory is refused.
-pub(crate) fn read_contents(alloc: Global, channel: u16, octets: &[u8]) -> Result<Frame, FrameFault>
-    ensures { MatchResult result (λ frame. (frame.channel ≡ channel) × AreContents frame.body frame.payload octets.now) (λ fault. AreNoContents fault octets.now) }
+/// Leaves the frame of contents in the slot that lie in the octets from one place up to another. An octet after a performative that is no transfer is a
+/// fault, also where memory is refused; after a fault the slot may hold anything.
+#[inline(always)]
+pub(crate) fn read_contents(
+    alloc: Global,
+    channel: u16,
+    octets: &Octets<'_>,
+    start: usize,
+    end: usize,
+    slot: &mut Frame,
+) -> Result<(), FrameFault>
+    requires order { start ≤ end }
+    requires within { end ≤ length octets.now }
+    ensures { MatchResult result (λ _. (slot.new.channel ≡ channel) × AreContents slot.new.body slot.new.payload (take (end - start) (drop start octets.now))) (λ fault. AreNoContents fault (take (end - start) (drop start octets.now))) }
 {
-    if octets.is_empty() {
-        return Ok(Frame {
-            channel,
-            body: None,
-            payload: Bytes::new(),
-        });
+    let contents = &octets.as_slice()[start..end];
+    slot.channel = channel;
+    if contents.is_empty() {
+        slot.body = None;
+        slot.payload = Bytes::new();
+        return Ok(());
     }
-    let mut body = None;
-    match read_performative_into(alloc, octets, &mut body) {
-        Ok(size) => read_payload(alloc, channel, body, octets, size),
-        Err(BodyFault::NoBody) => {
-            drop(body);
-            Err(FrameFault::BadBody)
-        }
-        Err(BodyFault::NoMemory) => {
-            drop(body);
-            Err(if may_follow(octets) {
-                FrameFault::NoMemory
-            } else {
-                FrameFault::BadBody
-            })
-        }
+    match read_performative_into(alloc, contents, &mut slot.body) {
+        Ok(size) => read_payload(alloc, octets, start, end, size, slot),
+        Err(BodyFault::NoBody) => Err(FrameFault::BadBody),
+        Err(BodyFault::NoMemory) => Err(if may_follow(contents) {
+            FrameFault::NoMemory
+        } else {
+            FrameFault::BadBody
+        }),
     }
 }
 
-/// The frame of a performative that the first octets spell, and of the payload after it.
+/// The payload after the performative in the slot, which so many octets spell.
 #[inline(always)]
 fn read_payload(
     alloc: Global,
-    channel: u16,
-    body: Option<Performative>,
-    octets: &[u8],
+    octets: &Octets<'_>,
+    start: usize,
+    end: usize,
     size: usize,
-) -> Result<Frame, FrameFault>
-    requires within { size ≤ length octets.now }
-    requires front { LeavesFront octets.now (Ok size) body }
-    ensures { MatchResult result (λ frame. (frame.channel ≡ channel) × AreContents frame.body frame.payload octets.now) (λ fault. AreNoContents fault octets.now) }
+    slot: &mut Frame,
+) -> Result<(), FrameFault>
+    requires within { end ≤ length octets.now }
+    requires order { start ≤ end }
+    requires spelled { size ≤ end - start }
+    requires front { LeavesFront (take (end - start) (drop start octets.now)) (Ok size) slot.old.body }
+    ensures { MatchResult result (λ _. (slot.new.channel ≡ slot.old.channel) × AreContents slot.new.body slot.new.payload (take (end - start) (drop start octets.now))) (λ fault. AreNoContents fault (take (end - start) (drop start octets.now))) }
 {
-    let payload = &octets[size..];
-    if payload.is_empty() {
-        return Ok(Frame {
-            channel,
-            body,
-            payload: Bytes::new(),
-        });
+    if start + size == end {
+        slot.payload = Bytes::new();
+        return Ok(());
     }
-    if !holds_transfer(&body) {
-        drop(body);
+    if !holds_transfer(&slot.body) {
         return Err(FrameFault::BadBody);
     }
-    match Bytes::copy_from_slice(alloc, payload) {
-        Ok(payload) => Ok(Frame {
-            channel,
-            body,
-            payload,
-        }),
-        Err(_) => {
-            drop(body);
-            Err(FrameFault::NoMemory)
-        }
+    match part_into(alloc, octets, start + size, end, &mut slot.payload) {
+        Ok(()) => Ok(()),
+        Err(_) => Err(FrameFault::NoMemory),
     }
+}
+
+/// Leaves a part of the octets in the slot. Out of line, where its parts go from registers to their places.
+#[inline(never)]
+fn part_into(
+    alloc: Global,
+    octets: &Octets<'_>,
+    start: usize,
+    end: usize,
+    slot: &mut Bytes,
+) -> Result<(), AllocError>
+    requires order { start ≤ end }
+    requires within { end ≤ length octets.now }
+    ensures { OnOk result (slot.new ≡ take (end - start) (drop start octets.now)) }
+{
+    let part = octets.part(alloc, start, end)?;
+    *slot = part;
+    Ok(())
+}
+
+#[inline(always)]
+fn holds_transfer(body: &Option<Performative>) -> bool
+    ensures { result ≡ holds_transfer body.now }
+{
+    matches!(body, Some(Performative::Transfer(_)))
 }
 
 /// Whether the octets after the performative in front may follow it. It takes no memory, and is asked only where memory was refused.
@@ -118,79 +139,4 @@ pub(crate) fn front_fault(octets: &[u8], others: &[u8]) -> FrameFault
         return FrameFault::NoMemory;
     }
     FrameFault::BadBody
-}
-
-/// Leaves the frame of contents in the slot that lie in shared octets from one place up to another; its payload is a slice of these. After a
-/// fault the slot may hold anything.
-#[inline(always)]
-pub(crate) fn share_contents(
-    alloc: Global,
-    channel: u16,
-    shared: &Bytes,
-    start: usize,
-    end: usize,
-    slot: &mut Frame,
-) -> Result<(), FrameFault>
-    requires some { start < end }
-    requires within { end ≤ length shared.now }
-    ensures { MatchResult result (λ _. (slot.new.channel ≡ channel) × AreContents slot.new.body slot.new.payload (take (end - start) (drop start shared.now))) (λ fault. AreNoContents fault (take (end - start) (drop start shared.now))) }
-{
-    let octets = &shared.as_slice()[start..end];
-    slot.channel = channel;
-    match read_performative_into(alloc, octets, &mut slot.body) {
-        Ok(size) => share_payload(shared, start, end, size, slot),
-        Err(BodyFault::NoBody) => Err(FrameFault::BadBody),
-        Err(BodyFault::NoMemory) => Err(if may_follow(octets) {
-            FrameFault::NoMemory
-        } else {
-            FrameFault::BadBody
-        }),
-    }
-}
-
-/// The payload after the performative in the slot, which so many octets spell.
-#[inline(always)]
-fn share_payload(
-    shared: &Bytes,
-    start: usize,
-    end: usize,
-    size: usize,
-    slot: &mut Frame,
-) -> Result<(), FrameFault>
-    requires within { end ≤ length shared.now }
-    requires order { start ≤ end }
-    requires spelled { size ≤ end - start }
-    requires front { LeavesFront (take (end - start) (drop start shared.now)) (Ok size) slot.old.body }
-    ensures { MatchResult result (λ _. (slot.new.channel ≡ slot.old.channel) × AreContents slot.new.body slot.new.payload (take (end - start) (drop start shared.now))) (λ fault. AreNoContents fault (take (end - start) (drop start shared.now))) }
-{
-    if start + size == end {
-        slot.payload = Bytes::new();
-        return Ok(());
-    }
-    if !holds_transfer(&slot.body) {
-        return Err(FrameFault::BadBody);
-    }
-    match slice_into(shared, start + size, end, &mut slot.payload) {
-        Ok(()) => Ok(()),
-        Err(_) => Err(FrameFault::NoMemory),
-    }
-}
-
-/// Leaves a part of the octets in the slot, which are not copied. Out of line, where its parts go from registers to their places.
-#[inline(never)]
-fn slice_into(shared: &Bytes, start: usize, end: usize, slot: &mut Bytes) -> Result<(), AllocError>
-    requires order { start ≤ end }
-    requires within { end ≤ length shared.now }
-    ensures { OnOk result (slot.new ≡ take (end - start) (drop start shared.now)) }
-{
-    let part = shared.slice(start..end)?;
-    *slot = part;
-    Ok(())
-}
-
-#[inline(always)]
-fn holds_transfer(body: &Option<Performative>) -> bool
-    ensures { result ≡ holds_transfer body.now }
-{
-    matches!(body, Some(Performative::Transfer(_)))
 }

@@ -1,5 +1,5 @@
 //! A frame.
-ghost use Rattle.std.specs.Prelude.{◌≡◌, IfOk};
+ghost use Rattle.std.specs.Prelude.{◌≡◌, [], None, IfOk};
 
 use amqp_performatives::Performative;
 use bytes::Bytes;
@@ -11,6 +11,20 @@ pub struct Frame {
     pub channel: u16,
     pub body: Option<Performative>,
     pub payload: Bytes,
+}
+
+impl Frame {
+    /// An empty frame on channel 0, as a slot that a frame is read into.
+    #[inline]
+    pub fn empty() -> Frame
+        ensures { result ≡ record { channel = 0; body = None; payload = [] } }
+    {
+        Frame {
+            channel: 0,
+            body: None,
+            payload: Bytes::new(),
+        }
+    }
 }
 
 impl Clone for Frame {

@@ -4,15 +4,15 @@ ghost use Rattle.amqp_frames.specs.Framing.{IsUnfinished, AreContents, size_of};
 ghost use Rattle.amqp_frames.specs.Header.{BeginsWith, IsHeaderPart, IsHeaderFault};
 ghost use Rattle.amqp_frames.specs.Contents.{AreNoContents};
 ghost use Rattle.amqp_frames.specs.Framer.{Feeds, Roomy};
-ghost use Rattle.amqp_frames.specs.Slots.{FeedsSlot, RoomySlot};
+ghost use Rattle.amqp_frames.specs.Slots.{FeedsSlot, RoomySlot, used_in};
 
 use crate::buffer::Buffer;
-use crate::contents::{front_fault, read_contents, share_contents};
+use crate::contents::{front_fault, read_contents};
 use crate::fault::FrameFault;
 use crate::filled::Filled;
 use crate::frame::Frame;
 use crate::header::{Header, examine};
-use bytes::Bytes;
+use crate::octets::Octets;
 use std::alloc::{AllocError, Global};
 use std::marker::Model;
 
@@ -68,25 +68,49 @@ impl Framer {
         }
     }
 
-    /// Takes octets of the piece, at most to the end of one frame, and answers how many, with the frame where it is whole.
-    ///
-    /// A fault is answered as soon as the octets show it (`FrameFault`): the size once four octets of the frame are there, the rest of its
-    /// header once eight are, its body once it is whole. After a fault the framer is as before. A frame that lies whole in the piece is
-    /// read in place; a payload is copied once. Want of memory is told of octets that show no fault.
+    /// Takes octets of the piece, as `feed_into`, and answers how many, with the frame where it is whole.
     pub fn feed(&mut self, piece: &[u8]) -> Result<(usize, Option<Frame>), FrameFault>
         ensures fed { Feeds self.old.state piece.now result self.new.state }
         ensures room { Roomy self.old piece.now result self.new }
         ensures empty { piece.now ≡ [] → result ≡ Ok (0, None) }
         ensures progress { piece.now ≢ [] → IfOk result (λ fed. 0 < fed.0) }
     {
+        let mut slot = Frame::empty();
+        match self.feed_into(&Octets::lent(piece), &mut slot) {
+            Ok(Filled::Whole(used)) => Ok((used, Some(slot))),
+            Ok(Filled::Part(used)) => {
+                drop(slot);
+                Ok((used, None))
+            }
+            Err(fault) => {
+                drop(slot);
+                Err(fault)
+            }
+        }
+    }
+
+    /// Takes some of the octets, at most to the end of one frame, and answers how many, with the frame left in the caller's slot: it has the frame where the
+    /// answer is `Whole`, and else may hold anything.
+    ///
+    /// A fault is answered as soon as the octets show it (`FrameFault`): the size once four octets of the frame are there, the rest of its
+    /// header once eight are, its body once it is whole. After a fault the framer is as before. A frame that lies whole in the octets is
+    /// read in place; its payload is a slice of shared octets, which it keeps alive, and of lent ones is copied once. Want of memory is told of octets that
+    /// show no fault.
+    pub fn feed_into(&mut self, octets: &Octets<'_>, slot: &mut Frame) -> Result<Filled, FrameFault>
+        ensures fed { FeedsSlot self.old.state octets.now result slot.new self.new.state }
+        ensures room { RoomySlot self.old octets.now result slot.new self.new }
+        ensures empty { octets.now ≡ [] → result ≡ Ok (Filled.Part 0) }
+        ensures progress { octets.now ≢ [] → IfOk result (λ filled. 0 < used_in filled) }
+    {
+        let piece = octets.as_slice();
         if piece.is_empty() {
             self.before = Some(self.kept().len());
-            return Ok((0, None));
+            return Ok(Filled::Part(0));
         }
         match examine_front(self.max_size, self.kept(), piece) {
             Err(fault) => Err(fault),
-            Ok(None) => self.keep(piece, 8),
-            Ok(Some(header)) => self.take(header, piece),
+            Ok(None) => self.keep(octets, 8),
+            Ok(Some(header)) => self.take(header, octets, slot),
         }
     }
 
@@ -116,14 +140,16 @@ impl Framer {
         }
     }
 
-    /// Keeps a piece that does not make the next frame whole. The frame has so many octets, or the header that tells it has.
-    fn keep(&mut self, piece: &[u8], size: usize) -> Result<(usize, Option<Frame>), FrameFault>
-        requires unfinished { IsUnfinished self.old.state.max_size (self.old.state.kept ++ piece.now) }
-        requires within { length (self.old.state.kept ++ piece.now) ≤ size }
-        requires size { 8 ≤ length (self.old.state.kept ++ piece.now) → size_of (self.old.state.kept ++ piece.now) ≤ size }
-        ensures fed { Feeds self.old.state piece.now result self.new.state }
-        ensures room { Roomy self.old piece.now result self.new }
+    /// Keeps octets that do not make the next frame whole. The frame has so many octets, or the header that tells it has.
+    #[inline(never)]
+    fn keep(&mut self, octets: &Octets<'_>, size: usize) -> Result<Filled, FrameFault>
+        requires unfinished { IsUnfinished self.old.state.max_size (self.old.state.kept ++ octets.now) }
+        requires within { length (self.old.state.kept ++ octets.now) ≤ size }
+        requires size { 8 ≤ length (self.old.state.kept ++ octets.now) → size_of (self.old.state.kept ++ octets.now) ≤ size }
+        ensures fed { (slot : Frame) → FeedsSlot self.old.state octets.now result slot self.new.state }
+        ensures room { (slot : Frame) → RoomySlot self.old octets.now result slot self.new }
     {
+        let piece = octets.as_slice();
         let count = self.kept().len();
         let Ok(()) = make_room(&mut self.buffer, count + piece.len(), size) else {
             return Err(FrameFault::NoMemory);
@@ -132,187 +158,109 @@ impl Framer {
         self.is_done = false;
         self.before = Some(count);
         self.buffer.append(piece);
-        Ok((piece.len(), None))
+        Ok(Filled::Part(piece.len()))
     }
 
-    /// Keeps the piece after a header that shows no fault, or gives the frame that it makes whole.
-    fn take(&mut self, header: Header, piece: &[u8]) -> Result<(usize, Option<Frame>), FrameFault>
-        requires { BeginsWith header self.old.state.max_size (self.old.state.kept ++ piece.now) }
-        ensures fed { Feeds self.old.state piece.now result self.new.state }
-        ensures room { Roomy self.old piece.now result self.new }
+    /// Keeps the octets after a header that shows no fault, or leaves the frame in the slot that they make whole.
+    #[inline(always)]
+    fn take(
+        &mut self,
+        header: Header,
+        octets: &Octets<'_>,
+        slot: &mut Frame,
+    ) -> Result<Filled, FrameFault>
+        requires { BeginsWith header self.old.state.max_size (self.old.state.kept ++ octets.now) }
+        ensures fed { FeedsSlot self.old.state octets.now result slot.new self.new.state }
+        ensures room { RoomySlot self.old octets.now result slot.new self.new }
     {
+        let piece = octets.as_slice();
         let count = self.kept().len();
         let size = header.size as usize;
         let missing = size - count;
         if piece.len() < missing {
-            return self.keep(piece, size);
+            return self.keep(octets, size);
         }
         if count <= header.start() {
-            self.finish_in_place(header, piece, missing)
+            self.finish_in_place(header, octets, missing, slot)
         } else {
-            self.finish(header, piece, missing)
+            self.finish(header, octets, missing, slot)
         }
     }
 
-    /// Gives the frame that the piece makes whole, where all contents lie in the piece.
+    /// Leaves the frame in the slot that the octets make whole, where all contents lie in them.
+    #[inline(always)]
     fn finish_in_place(
         &mut self,
         header: Header,
-        piece: &[u8],
+        octets: &Octets<'_>,
         missing: usize,
-    ) -> Result<(usize, Option<Frame>), FrameFault>
-        requires begins { BeginsWith header self.old.state.max_size (self.old.state.kept ++ piece.now) }
+        slot: &mut Frame,
+    ) -> Result<Filled, FrameFault>
+        requires begins { BeginsWith header self.old.state.max_size (self.old.state.kept ++ octets.now) }
         requires size { length self.old.state.kept + missing ≡ header.size }
-        requires whole { missing ≤ length piece.now }
+        requires whole { missing ≤ length octets.now }
         requires place { length self.old.state.kept ≤ 4 * header.doff }
-        ensures fed { Feeds self.old.state piece.now result self.new.state }
-        ensures room { Roomy self.old piece.now result self.new }
+        ensures fed { FeedsSlot self.old.state octets.now result slot.new self.new.state }
+        ensures room { RoomySlot self.old octets.now result slot.new self.new }
     {
         let count = self.kept().len();
-        let contents = &piece[header.start() - count..missing];
-        match read_contents(self.buffer.allocator(), header.channel, contents) {
-            Ok(frame) => {
+        match read_contents(
+            self.buffer.allocator(),
+            header.channel,
+            octets,
+            header.start() - count,
+            missing,
+            slot,
+        ) {
+            Ok(()) => {
                 self.before = Some(count);
                 self.is_done = true;
-                Ok((missing, Some(frame)))
+                Ok(Filled::Whole(missing))
             }
             Err(fault) => Err(fault),
         }
     }
 
-    /// Gives the frame that the piece makes whole, where contents are kept.
+    /// Leaves the frame in the slot that the octets make whole, where contents are kept.
     #[inline(never)]
     fn finish(
         &mut self,
         header: Header,
-        piece: &[u8],
+        octets: &Octets<'_>,
         missing: usize,
-    ) -> Result<(usize, Option<Frame>), FrameFault>
-        requires begins { BeginsWith header self.old.state.max_size (self.old.state.kept ++ piece.now) }
+        slot: &mut Frame,
+    ) -> Result<Filled, FrameFault>
+        requires begins { BeginsWith header self.old.state.max_size (self.old.state.kept ++ octets.now) }
         requires size { length self.old.state.kept + missing ≡ header.size }
-        requires whole { missing ≤ length piece.now }
+        requires whole { missing ≤ length octets.now }
         requires place { 4 * header.doff < length self.old.state.kept }
-        ensures fed { Feeds self.old.state piece.now result self.new.state }
-        ensures room { Roomy self.old piece.now result self.new }
+        ensures fed { FeedsSlot self.old.state octets.now result slot.new self.new.state }
+        ensures room { RoomySlot self.old octets.now result slot.new self.new }
     {
+        let piece = octets.as_slice();
         let count = self.kept().len();
         let Ok(()) = self.buffer.reserve(header.size as usize) else {
             return Err(front_fault(&self.buffer.as_slice()[header.start()..], &piece[..missing]));
         };
         self.buffer.append(&piece[..missing]);
+        let joined = Octets::lent(self.buffer.as_slice());
         match read_contents(
             self.buffer.allocator(),
             header.channel,
-            &self.buffer.as_slice()[header.start()..],
+            &joined,
+            header.start(),
+            header.size as usize,
+            slot,
         ) {
-            Ok(frame) => {
+            Ok(()) => {
                 self.before = Some(count);
                 self.is_done = true;
-                Ok((missing, Some(frame)))
+                Ok(Filled::Whole(missing))
             }
             Err(fault) => {
                 self.buffer.truncate(count);
                 Err(fault)
             }
-        }
-    }
-
-    /// As `feed` of the shared octets from a place on, with the frame left in the caller's slot: it has the frame where the answer is `Whole`, and else
-    /// may hold anything. The payload of a frame that lies whole in the octets is a slice of them, without a copy; so the slot keeps them alive.
-    pub fn feed_shared(
-        &mut self,
-        shared: &Bytes,
-        from: usize,
-        slot: &mut Frame,
-    ) -> Result<Filled, FrameFault>
-        requires { from ≤ length shared.now }
-        ensures fed { FeedsSlot self.old.state (drop from shared.now) result slot.new self.new.state }
-        ensures room { RoomySlot self.old (drop from shared.now) result slot.new self.new }
-    {
-        let piece = rest(shared, from);
-        let Some(header) = self.whole_front(piece) else {
-            return self.feed_apart(piece, slot);
-        };
-        match self.share(header, shared, from, slot) {
-            Ok(()) => Ok(Filled::Whole(header.size as usize)),
-            Err(fault) => Err(fault),
-        }
-    }
-
-    /// The header of a frame that lies whole in the piece and has contents, where no octets are kept.
-    #[inline(always)]
-    fn whole_front(&self, piece: &[u8]) -> Option<Header>
-        ensures none { IfSome result (λ _. self.now.state.kept ≡ []) }
-        ensures begins { IfSome result (λ header. BeginsWith header self.now.state.max_size (self.now.state.kept ++ piece.now)) }
-        ensures whole { IfSome result (λ header. header.size ≤ length piece.now) }
-        ensures some { IfSome result (λ header. 4 * header.doff < header.size) }
-    {
-        if piece.is_empty() || !self.kept().is_empty() {
-            return None;
-        }
-        match examine(self.max_size, piece) {
-            Ok(Some(header)) => {
-                if piece.len() < header.size as usize || header.size as usize == header.start() {
-                    return None;
-                }
-                Some(header)
-            }
-            _ => None,
-        }
-    }
-
-    /// As `feed_shared`, by way of `feed`.
-    #[inline(never)]
-    fn feed_apart(&mut self, piece: &[u8], slot: &mut Frame) -> Result<Filled, FrameFault>
-        ensures fed { FeedsSlot self.old.state piece.now result slot.new self.new.state }
-        ensures room { RoomySlot self.old piece.now result slot.new self.new }
-    {
-        match self.feed(piece) {
-            Ok((used, Some(frame))) => {
-                *slot = frame;
-                Ok(Filled::Whole(used))
-            }
-            Ok((used, None)) => Ok(Filled::Part(used)),
-            Err(fault) => Err(fault),
-        }
-    }
-
-    /// Leaves the frame in the slot that lies whole in the octets from a place on.
-    #[inline(always)]
-    fn share(
-        &mut self,
-        header: Header,
-        shared: &Bytes,
-        from: usize,
-        slot: &mut Frame,
-    ) -> Result<(), FrameFault>
-        requires from { from ≤ length shared.now }
-        requires begins { BeginsWith header self.old.state.max_size (self.old.state.kept ++ drop from shared.now) }
-        requires none { self.old.state.kept ≡ [] }
-        requires whole { header.size ≤ length (drop from shared.now) }
-        requires some { 4 * header.doff < header.size }
-        ensures fed { MatchResult result (λ _. FeedsSlot self.old.state (drop from shared.now) (Ok (Filled.Whole header.size)) slot.new self.new.state) (λ fault. FeedsSlot self.old.state (drop from shared.now) (Err fault) slot.new self.new.state) }
-        ensures room { self.new.room ≡ self.old.room }
-    {
-        let size = header.size as usize;
-        let alloc = self.buffer.allocator();
-        // No place is past the count of the octets.
-        let all = shared.len();
-        prove!(from <= all);
-        match share_contents(
-            alloc,
-            header.channel,
-            shared,
-            from + header.start(),
-            from + size,
-            slot,
-        ) {
-            Ok(()) => {
-                self.before = Some(0);
-                self.is_done = true;
-                Ok(())
-            }
-            Err(fault) => Err(fault),
         }
     }
 
@@ -346,16 +294,8 @@ fn make_room(buffer: &mut Buffer, count: usize, size: usize) -> Result<(), Alloc
     buffer.reserve(room)
 }
 
-/// The octets from a place on.
-#[inline(always)]
-fn rest(shared: &Bytes, from: usize) -> &[u8]
-    requires { from ≤ length shared.now }
-    ensures { result.now ≡ drop from shared.now }
-{
-    &shared.as_slice()[from..]
-}
-
 /// What the header of the octets that are kept and then come says. Nothing is copied where none are kept.
+#[inline(always)]
 fn examine_front(max: u32, kept: &[u8], piece: &[u8]) -> Result<Option<Header>, FrameFault>
     ensures { MatchResult result (λ found. MatchOption found (IsHeaderPart (kept.now ++ piece.now)) (λ header. BeginsWith header max (kept.now ++ piece.now))) (λ fault. IsHeaderFault fault max (kept.now ++ piece.now)) }
 {
@@ -371,6 +311,7 @@ fn examine_front(max: u32, kept: &[u8], piece: &[u8]) -> Result<Option<Header>, 
 }
 
 /// The first eight of the octets that are kept and then come, or all of them where they are fewer.
+#[inline(never)]
 fn first_octets(kept: &[u8], piece: &[u8]) -> ([u8; 8], usize)
     ensures octets { take result.1 result.0 ≡ take 8 (kept.now ++ piece.now) }
     ensures within { result.1 ≤ 8 }

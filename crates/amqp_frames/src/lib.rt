@@ -3,7 +3,7 @@
 //! | module | what it has |
 //! |---|---|
 //! | `frame`, `fault` | a frame; what is wrong with octets, and why a frame is not written |
-//! | `framer`, `stream`, `header`, `contents`, `filled` | frames out of pieces: kept octets, a whole piece, the header, what follows it, a slot for the frame |
+//! | `octets`, `framer`, `stream`, `header`, `contents`, `filled` | frames out of pieces: what came, kept octets, a whole piece, the header, what follows it, a slot for the frame |
 //! | `written`, `append`, `kinds`, `writing`, `leaf` | frames written: alone, behind others, by kind of performative, by field, by run of octets |
 //! | `measured`, `measure`, `lent`, `fair` | how long a frame will be, without memory, also from lent parts; whether it can be written |
 //! | `laws` | what octets in a frame's place are, and that cutting makes no difference |
@@ -12,7 +12,7 @@
 //! - Writing: [`write_frame`] into octets of its own; [`append_frame`] behind others, as for a batch. [`measure_frame`] tells without memory whether
 //!   and in how many octets a frame is written, and [`write_measured`] writes it then; [`frame_refusal`] tells the refusal alone.
 //! - Measures before a body is made, from lent parts: [`measure_open`], [`measure_begin`], [`measure_attach`], [`measure_resuming`], [`measure_disposition`], [`measure_detach`], [`measure_end`]
-//! - Reading: [`Framer`] takes pieces of a stream, by `feed`, `feed_shared` or `feed_all`, and tells a [`FrameFault`]
+//! - Reading: [`Framer`] takes pieces of a stream ([`Octets`], lent or shared), by `feed_into`, `feed` or `feed_all`, and tells a [`FrameFault`]
 //! - Laws: [`written_is_framed`], [`always_written`], [`one_answer`], [`one_frame`], [`cutting`]
 #![tactic(auto)]
 
@@ -31,6 +31,7 @@ mod leaf;
 mod lent;
 mod measure;
 mod measured;
+mod octets;
 mod stream;
 mod writing;
 mod written;
@@ -51,5 +52,6 @@ pub use lent::{
     measure_end, measure_open, measure_resuming,
 };
 pub use measured::{Measured, frame_refusal, measure_frame};
+pub use octets::Octets;
 pub use stream::Stopped;
 pub use written::{write_frame, write_measured, written_is_framed};

@@ -36,7 +36,7 @@ impl Framer {
     {
         let mut used = 0;
         loop {
-            match self.feed_into(&piece[used..], frames) {
+            match self.feed_front(&piece[used..], frames) {
                 Ok(more) => used += more,
                 Err(fault) => return Err(Stopped { fault, used }),
             }
@@ -47,7 +47,7 @@ impl Framer {
     }
 
     /// Feeds the piece once, and puts the frame that becomes whole behind the others.
-    fn feed_into(&mut self, piece: &[u8], frames: &mut Vec<Frame>) -> Result<usize, FrameFault>
+    fn feed_front(&mut self, piece: &[u8], frames: &mut Vec<Frame>) -> Result<usize, FrameFault>
         ensures fed { FeedsInto self.old.state piece.now frames.old.items result self.new.state frames.new.items }
         ensures room { self.new.room ≤ max self.old.room (max 512 (2 * (length self.old.state.kept + length piece.now))) }
         ensures list { vec_capacity frames.new ≤ max (vec_capacity frames.old) (max 4 (2 * length frames.new.items)) }

@@ -3,7 +3,7 @@ use crate::end::End;
 use crate::gate::{Gate, Opening};
 use crate::inbox::Inbox;
 use crate::keeping::make_room;
-use amqp_conn::{ConnFault, Phase};
+use amqp_conn::{ConnFault, Octets, Phase};
 use amqp_frames::Role;
 use amqp_rules::op::Op;
 use amqp_rules::refusal::Refusal;
@@ -235,11 +235,8 @@ impl<'a, N: Name> Reading<'a, N> {
             if from >= octets.len() {
                 return Ok(());
             }
-            match self
-                .end
-                .shared
-                .feed_shared(guard, &mut self.pass, octets, from)
-            {
+            let piece = Octets::shared(octets, from);
+            match self.end.shared.feed(guard, &mut self.pass, &piece) {
                 Ok(fed) => from = from.saturating_add(fed.used),
                 Err(ConnFault::Closed) => return Ok(()),
                 Err(fault) => return Err(ReadFault::Conn(fault)),

@@ -11,7 +11,7 @@ use crate::fault::SlotFault;
 use crate::handler::{Handler, Next};
 use crate::inbox::Unfed;
 use crate::lent::{Lent, recall};
-use amqp_conn::{Conn, Fed, Phase};
+use amqp_conn::{Conn, Fed, Octets, Phase};
 
 /// Hands on what a feed gave, where it added an entry to the journal.
 fn hand_on<H: Handler>(lent: &mut Lent, handler: &mut H, fed: Fed) -> Result<Next, SlotFault>
@@ -52,7 +52,7 @@ fn feed_once<H: Handler>(
     ensures told { IsOfFeeding (fault_in result) }
 {
     recall(&lent.conn);
-    match lent.conn.feed(unfed.octets()) {
+    match lent.conn.feed(&Octets::lent(unfed.octets())) {
         Ok(fed) => {
             unfed.skip(fed.used);
             hand_on(lent, handler, fed)

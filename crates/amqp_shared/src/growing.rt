@@ -1,5 +1,5 @@
 //! The calls of a connection, with what they add to its journal and its units; and the units that go on to the ring.
-ghost use Rattle.std.specs.Prelude.{◌≡◌, ◌≢◌, ◌<◌, ◌≤◌, ◌^◌, ◌+◌, [], length, drop, OnOk, Ok};
+ghost use Rattle.std.specs.Prelude.{◌≡◌, ◌≢◌, ◌<◌, ◌≤◌, ◌^◌, ◌+◌, [], length, OnOk, Ok};
 ghost use Rattle.rtrb.specs.Ring.{sent, known_free};
 ghost use Rattle.amqp_journal.specs.Units.{units, PutWithin};
 ghost use Rattle.amqp_conn.specs.Feeding.{Feeds, MovesOn};
@@ -11,13 +11,12 @@ ghost use Rattle.amqp_shared.specs.Units.{MovesUnits, moved_of};
 
 use crate::name::Numbered;
 use amqp_conn::{CloseRefusal, Conn, ConnFault, Fed};
-use amqp_frames::AmqpError;
+use amqp_frames::{AmqpError, Octets};
 use amqp_journal::unit::Unit;
 use amqp_rules::op::Op;
 use amqp_rules::refusal::Refusal;
 use amqp_rules::reply::Given;
 use amqp_types::Boxed;
-use bytes::Bytes;
 use rtrb::Producer;
 use std::alloc::Global;
 
@@ -41,27 +40,13 @@ pub(crate) fn do_operation(conn: &mut Conn, op: &Op) -> Result<Given, Refusal>
     conn.apply(op)
 }
 
-pub(crate) fn feed_octets(conn: &mut Conn, piece: &[u8]) -> Result<Fed, ConnFault>
-    ensures fed { Feeds conn.old piece.now result conn.new }
-    ensures progress { piece.now ≢ [] → MovesOn result }
+pub(crate) fn feed_octets(conn: &mut Conn, octets: &Octets<'_>) -> Result<Fed, ConnFault>
+    ensures fed { Feeds conn.old octets.now result conn.new }
+    ensures progress { octets.now ≢ [] → MovesOn result }
     ensures grows { Grows conn.old.core conn.new.core (steps_fed result) }
 {
     recall(conn);
-    conn.feed(piece)
-}
-
-pub(crate) fn feed_shared_octets(
-    conn: &mut Conn,
-    shared: &Bytes,
-    from: usize,
-) -> Result<Fed, ConnFault>
-    requires { from ≤ length shared.now }
-    ensures fed { Feeds conn.old (drop from shared.now) result conn.new }
-    ensures progress { drop from shared.now ≢ [] → MovesOn result }
-    ensures grows { Grows conn.old.core conn.new.core (steps_fed result) }
-{
-    recall(conn);
-    conn.feed_shared(shared, from)
+    conn.feed(octets)
 }
 
 pub(crate) fn put_close(

@@ -76,7 +76,7 @@ mod writer;
 pub use amqp_conn::{
     CloseRefusal, Config, Conn, ConnFault, Fed, Left, Phase, StartFault, error_of,
 };
-pub use amqp_frames::{AmqpError, CloseBody, DeliveryState, Frame, OpenBody, Role};
+pub use amqp_frames::{AmqpError, CloseBody, DeliveryState, Frame, Octets, OpenBody, Role};
 pub use amqp_journal::receipt::Receipt;
 pub use amqp_journal::unit::Unit;
 pub use amqp_links::end::End as LinkEnd;

@@ -1,5 +1,5 @@
 //! What lies under the lock.
-ghost use Rattle.std.specs.Prelude.{◌≡◌, ◌≢◌, ◌<◌, ◌≤◌, ◌^◌, ◌+◌, ◌-◌, ◌↔◌, [], length, drop, true, false, IfOk, IfErr, IfSome, IfNone, IsTrue, IsFalse, OnErr, OnOk, Ok};
+ghost use Rattle.std.specs.Prelude.{◌≡◌, ◌≢◌, ◌<◌, ◌≤◌, ◌^◌, ◌+◌, ◌-◌, ◌↔◌, [], length, true, false, IfOk, IfErr, IfSome, IfNone, IsTrue, IsFalse, OnErr, OnOk, Ok};
 ghost use Rattle.amqp_journal.specs.Units.{units};
 ghost use Rattle.amqp_conn.specs.Connection.{connection, in_phase};
 ghost use Rattle.amqp_conn.specs.Feeding.{Feeds, MovesOn};
@@ -11,21 +11,20 @@ ghost use Rattle.amqp_shared.specs.Units.{MovesUnits, unmoved};
 ghost use Rattle.amqp_shared.specs.Waking.{Held, told_of_units, units_came, with_want, with_units, waits_for, is_ended, is_full};
 
 use crate::growing::{
-    do_operation, feed_octets, feed_shared_octets, push_units, put_close, recall, steps_of,
+    do_operation, feed_octets, push_units, put_close, recall, steps_of,
 };
 use crate::name::{Name, Numbered};
 use crate::pass::Pass;
 use crate::sleepers::Sleepers;
 use crate::waiting::{Waiters, Want, is_closed};
 use amqp_conn::{CloseRefusal, Conn, ConnFault, Fed, Left, Phase};
-use amqp_frames::{AmqpError, Role};
+use amqp_frames::{AmqpError, Octets, Role};
 use amqp_journal::receipt::{Receipt, receipt_of};
 use amqp_journal::unit::Unit;
 use amqp_rules::op::Op;
 use amqp_rules::refusal::Refusal;
 use amqp_rules::reply::Given;
 use amqp_types::Boxed;
-use bytes::Bytes;
 use rtrb::Producer;
 use std::alloc::{AllocError, Global};
 use std::marker::Model;
@@ -147,36 +146,15 @@ impl<N: Name> Locked<N> {
     }
 
     /// A feed, whose step is counted in the pass.
-    pub(crate) fn feed(&mut self, pass: &mut Pass<N>, piece: &[u8]) -> Result<Fed, ConnFault>
-        ensures fed { Feeds self.old.conn piece.now result (unmoved self.old.conn self.new.conn) }
-        ensures progress { piece.now ≢ [] → MovesOn result }
+    pub(crate) fn feed(&mut self, pass: &mut Pass<N>, octets: &Octets<'_>) -> Result<Fed, ConnFault>
+        ensures fed { Feeds self.old.conn octets.now result (unmoved self.old.conn self.new.conn) }
+        ensures progress { octets.now ≢ [] → MovesOn result }
         ensures more { self.old.conn.core.log.popped ≤ self.new.conn.core.log.popped }
         ensures waiters { self.new.waiters ≡ self.old.waiters }
         ensures pass { CountsStep result pass.old pass.new }
     {
         recall(&self.conn);
-        let result = feed_octets(&mut self.conn, piece);
-        raise(&mut self.book, pass, steps_of(&result));
-        push_units(&mut self.conn, &mut self.producer);
-        result
-    }
-
-    /// A feed of shared octets, whose step is counted in the pass.
-    pub(crate) fn feed_shared(
-        &mut self,
-        pass: &mut Pass<N>,
-        shared: &Bytes,
-        from: usize,
-    ) -> Result<Fed, ConnFault>
-        requires { from ≤ length shared.now }
-        ensures fed { Feeds self.old.conn (drop from shared.now) result (unmoved self.old.conn self.new.conn) }
-        ensures progress { drop from shared.now ≢ [] → MovesOn result }
-        ensures more { self.old.conn.core.log.popped ≤ self.new.conn.core.log.popped }
-        ensures waiters { self.new.waiters ≡ self.old.waiters }
-        ensures pass { CountsStep result pass.old pass.new }
-    {
-        recall(&self.conn);
-        let result = feed_shared_octets(&mut self.conn, shared, from);
+        let result = feed_octets(&mut self.conn, octets);
         raise(&mut self.book, pass, steps_of(&result));
         push_units(&mut self.conn, &mut self.producer);
         result

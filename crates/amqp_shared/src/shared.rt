@@ -1,5 +1,5 @@
 //! A connection that threads share, and the calls on the session that is lent under its lock.
-ghost use Rattle.std.specs.Prelude.{◌≡◌, ◌≢◌, ◌<◌, ◌≤◌, [], length, drop, true, false, None, IfOk, IfErr, OnOk, OnErr, IsFalse};
+ghost use Rattle.std.specs.Prelude.{◌≡◌, ◌≢◌, ◌<◌, ◌≤◌, [], length, true, false, None, IfOk, IfErr, OnOk, OnErr, IsFalse};
 ghost use Rattle.amqp_conn.specs.Connection.{Connection, connection, in_phase};
 ghost use Rattle.amqp_conn.specs.Feeding.{Feeds, MovesOn};
 ghost use Rattle.amqp_conn.specs.Leaving.{Gives, GivesOf, left_of, but_left};
@@ -22,13 +22,12 @@ use crate::sleepers::Sleepers;
 use crate::waiting::{Change, Conditions, Due, Waiters, Want, awaited_by, brought, brought_by};
 use crate::writer::WriterEnd;
 use amqp_conn::{CloseRefusal, ConnFault, Fed, Left, Phase};
-use amqp_frames::{AmqpError, Role};
+use amqp_frames::{AmqpError, Octets, Role};
 use amqp_journal::receipt::Receipt;
 use amqp_rules::op::Op;
 use amqp_rules::refusal::Refusal;
 use amqp_rules::reply::Given;
 use amqp_types::Boxed;
-use bytes::Bytes;
 use std::alloc::AllocError;
 use std::marker::PhantomData;
 use std::sync::{Mutex, Wait};
@@ -156,7 +155,7 @@ impl<N: Name> Shared<N> {
         }
     }
 
-    /// Octets that were heard, as `Conn::feed`; a step that they make is counted in the pass.
+    /// Octets that were heard, lent or shared, as `Conn::feed`; a step that they make is counted in the pass.
     ///
     /// # Errors
     ///
@@ -165,40 +164,15 @@ impl<N: Name> Shared<N> {
         &self,
         guard: &mut Guard<'_, N>,
         pass: &mut Pass<N>,
-        piece: &[u8],
+        octets: &Octets<'_>,
     ) -> Result<Fed, ConnFault>
-        ensures fed { Feeds guard.old.conn piece.now result (unmoved guard.old.conn guard.new.conn) }
-        ensures progress { piece.now ≢ [] → MovesOn result }
+        ensures fed { Feeds guard.old.conn octets.now result (unmoved guard.old.conn guard.new.conn) }
+        ensures progress { octets.now ≢ [] → MovesOn result }
         ensures more { guard.old.conn.core.log.popped ≤ guard.new.conn.core.log.popped }
         ensures pass { CountsStep result pass.old pass.new }
         ensures told { IsTold (brought_by_feed guard.new.conn result) guard.old guard.new }
     {
-        let result = guard.locked.feed(pass, piece);
-        let change = brought(guard.conn(), &result);
-        self.tell(guard, change);
-        result
-    }
-
-    /// As `feed` of the shared octets from a place on, as `Conn::feed_shared`: a payload that lies whole in them is a slice of them.
-    ///
-    /// # Errors
-    ///
-    /// Those of `Conn::feed`.
-    pub fn feed_shared(
-        &self,
-        guard: &mut Guard<'_, N>,
-        pass: &mut Pass<N>,
-        shared: &Bytes,
-        from: usize,
-    ) -> Result<Fed, ConnFault>
-        requires { from ≤ length shared.now }
-        ensures fed { Feeds guard.old.conn (drop from shared.now) result (unmoved guard.old.conn guard.new.conn) }
-        ensures progress { drop from shared.now ≢ [] → MovesOn result }
-        ensures more { guard.old.conn.core.log.popped ≤ guard.new.conn.core.log.popped }
-        ensures pass { CountsStep result pass.old pass.new }
-        ensures told { IsTold (brought_by_feed guard.new.conn result) guard.old guard.new }
-    {
-        let result = guard.locked.feed_shared(pass, shared, from);
+        let result = guard.locked.feed(pass, octets);
         let change = brought(guard.conn(), &result);
         self.tell(guard, change);
         result

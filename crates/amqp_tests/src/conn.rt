@@ -139,7 +139,7 @@ fn puts_out(conn: &mut Conn, octets: &[u8]) -> bool {
 }
 
 fn fed(conn: &mut Conn, octets: &[u8]) -> Said {
-    match conn.feed(octets) {
+    match conn.feed(&Octets::lent(octets)) {
         Ok(fed) => Said::Used(fed.used, fed.stepped),
         Err(fault) => Said::Fault(fault),
     }
@@ -152,7 +152,7 @@ fn fed_shared(alloc: Global, conn: &mut Conn, octets: &[u8]) -> Said {
     if shared.len() == 0 {
         return Said::Done;
     }
-    match conn.feed_shared(&shared, 1) {
+    match conn.feed(&Octets::shared(&shared, 1)) {
         Ok(fed) => Said::Used(fed.used, fed.stepped),
         Err(fault) => Said::Fault(fault),
     }
@@ -247,7 +247,7 @@ pub(crate) fn hears(conn: &mut Conn, octets: &[u8]) -> bool {
         if rest.is_empty() {
             return true;
         }
-        match conn.feed(rest) {
+        match conn.feed(&Octets::lent(rest)) {
             Ok(fed) if fed.used <= rest.len() => rest = &rest[fed.used..],
             _ => return false,
         }

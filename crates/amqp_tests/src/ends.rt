@@ -177,7 +177,7 @@ fn hears(conn: &mut Conn, tally: &mut Tally, octets: &[u8]) {
         if rest.is_empty() {
             return;
         }
-        let (used, stepped) = match conn.feed(rest) {
+        let (used, stepped) = match conn.feed(&Octets::lent(rest)) {
             Ok(fed) => (fed.used, fed.stepped),
             Err(_) => return,
         };

@@ -11,7 +11,7 @@ use std::alloc::Global;
 
 /// Octets that are fed: in pieces of this length, or shared.
 #[derive(Clone, Copy)]
-enum Octets<'a> {
+enum Pieces<'a> {
     Cut(&'a [u8], usize),
     Shared(&'a Bytes),
 }
@@ -50,20 +50,22 @@ fn one_of(answer: Result<Fed, ConnFault>) -> One {
 }
 
 /// One feed of the octets from a place on.
-fn feeds(conn: &mut Conn, octets: Octets<'_>, from: usize) -> One {
+fn feeds(conn: &mut Conn, octets: Pieces<'_>, from: usize) -> One {
     match octets {
-        Octets::Cut(octets, size) => {
+        Pieces::Cut(octets, size) => {
             let rest = octets.get(from..).unwrap_or(&[]);
             let (piece, _) = rest.split_at(rest.len().min(size));
-            one_of(conn.feed(piece))
+            one_of(conn.feed(&Octets::lent(piece)))
         }
-        Octets::Shared(shared) if from <= shared.len() => one_of(conn.feed_shared(shared, from)),
-        Octets::Shared(_) => one_of(Err(ConnFault::Closed)),
+        Pieces::Shared(shared) if from <= shared.len() => {
+            one_of(conn.feed(&Octets::shared(shared, from)))
+        }
+        Pieces::Shared(_) => one_of(Err(ConnFault::Closed)),
     }
 }
 
 /// One feed, made again where it was refused memory and changed nothing.
-fn feeds_twice(conn: &mut Conn, octets: Octets<'_>, from: usize) -> One {
+fn feeds_twice(conn: &mut Conn, octets: Pieces<'_>, from: usize) -> One {
     let before = conn.shown();
     let one = feeds(conn, octets, from);
     if one.fault == WANTING && conn.shown() == before {
@@ -73,7 +75,7 @@ fn feeds_twice(conn: &mut Conn, octets: Octets<'_>, from: usize) -> One {
 }
 
 /// Feeds so many octets, which are all.
-fn feeds_all(conn: &mut Conn, octets: Octets<'_>, len: usize) -> Said {
+fn feeds_all(conn: &mut Conn, octets: Pieces<'_>, len: usize) -> Said {
     let mut all = One {
         used: 0,
         steps: 0,
@@ -103,7 +105,7 @@ fn feeds_shared(alloc: Global, conn: &mut Conn, octets: &[u8]) -> Said {
         Err(_) => Bytes::copy_from_slice(alloc, octets),
     };
     match shared {
-        Ok(shared) => feeds_all(conn, Octets::Shared(&shared), octets.len()),
+        Ok(shared) => feeds_all(conn, Pieces::Shared(&shared), octets.len()),
         Err(_) => Said::Wanting,
     }
 }
@@ -171,7 +173,7 @@ fn pops(conn: &mut Conn) -> Said {
 impl Subject for Conn {
     fn once(&mut self, alloc: Global, what: Do, _way: Way) -> Said {
         match what {
-            Do::Feed(octets, size) => feeds_all(self, Octets::Cut(octets, size), octets.len()),
+            Do::Feed(octets, size) => feeds_all(self, Pieces::Cut(octets, size), octets.len()),
             Do::FeedShared(octets) => feeds_shared(alloc, self, octets),
             Do::Pump(octets) => pumps(self, octets),
             Do::Own(act) => does(alloc, self, act),

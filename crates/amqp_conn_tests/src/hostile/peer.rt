@@ -112,7 +112,7 @@ fn feeds(conn: &mut Conn, piece: &[u8]) -> One {
     let before = conn.phase();
     let steps = conn.logged().steps();
     let units = conn.logged().put_out();
-    let (used, fault, violation) = told_by(conn.feed(piece));
+    let (used, fault, violation) = told_by(conn.feed(&Octets::lent(piece)));
     One {
         used,
         fault,

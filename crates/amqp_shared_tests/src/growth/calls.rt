@@ -5,7 +5,7 @@ use super::shown::{id_of, look, number_of};
 use crate::acts::{Act, made};
 use amqp_journal::receipt::Receipt;
 use amqp_shared::{
-    CloseRefusal, ConnFault, Fed, Given, Guard, Left, Name, Op, Pass, Refusal, Shared,
+    CloseRefusal, ConnFault, Fed, Given, Guard, Left, Name, Octets, Op, Pass, Refusal, Shared,
 };
 use std::alloc::Global;
 use std::sync::Wait;
@@ -100,7 +100,7 @@ fn locked<N: Name>(
     what: Do,
 ) -> Said {
     match what {
-        Do::Feed(octets) => fed(shared.feed(guard, pass, octets)),
+        Do::Feed(octets) => fed(shared.feed(guard, pass, &Octets::lent(octets))),
         Do::Call(act) => match made(alloc, act) {
             Some(op) => call(shared, guard, pass, op),
             None => None,

@@ -4,7 +4,7 @@ use super::looks::sees;
 use super::playing::{Before, Do, Due, Player};
 use crate::acts::{Act, made};
 use crate::octets::transfer;
-use amqp_shared::{ConnFault, Fed, Guard, Name, Op, Pass, Refusal, Shared};
+use amqp_shared::{ConnFault, Fed, Guard, Name, Octets, Op, Pass, Refusal, Shared};
 use std::alloc::Global;
 use std::sync::Wait;
 
@@ -113,7 +113,7 @@ pub(super) fn feeds<N: Name>(
     pass: &mut Pass<N>,
     piece: &[u8],
 ) -> bool {
-    match used(shared.feed(guard, pass, piece)) {
+    match used(shared.feed(guard, pass, &Octets::lent(piece))) {
         Some(used) => used == piece.len(),
         None => false,
     }
@@ -130,7 +130,7 @@ fn hears<N: Name>(
         if rest.is_empty() {
             return true;
         }
-        let Some(used) = used(shared.feed(guard, pass, rest)) else {
+        let Some(used) = used(shared.feed(guard, pass, &Octets::lent(rest))) else {
             return false;
         };
         rest = rest.get(used..).unwrap_or(&[]);

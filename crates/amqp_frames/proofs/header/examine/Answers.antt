@@ -1,5 +1,5 @@
 use Rattle.std.proofs.Common.{ℕ, ◌<◌, drop, get_or, arith, rules}
-use Rattle.amqp_frames.proofs.Octets.{header_parts}
+use Rattle.amqp_frames.proofs.Runs.{header_parts}
 use Rattle.amqp_frames.proofs.header.examine.Goals as goal
 
 pub returns : goal.returns

@@ -8,15 +8,15 @@ use Rattle.amqp_ready.proofs.feeding.feed_once.Goals as goal
 pub returns-in-Ok-clause-feeds : goal.returns-in-Ok-clause-feeds
 returns-in-Ok-clause-feeds g c =
     let conn = c.args.lent.now.conn in
-    let piece = subst (λ (x : List ℕ). Feeds conn x (Ok c.in-Ok.fed) c.feed.new.self) c.octets.ensures c.in-Ok.ensures.fed in
+    let piece = subst (λ (x : List ℕ). Feeds conn x (Ok c.in-Ok.fed) c.feed.new.self) (c.lent-2.ensures ∙ c.octets.ensures) c.in-Ok.ensures.fed in
     feeds-one (fault_in c.hand_on.result) c.in-Ok.fed conn c.feed.new.self c.hand_on.new.lent.conn c.args.unfed.now c.skip.new.self (g.H.Handler.told c.args.handler.now) (g.H.Handler.told c.hand_on.new.handler)
     piece (kept-still c.feed.new.self c.hand_on.new.lent.conn c.hand_on.ensures.kept) c.skip.ensures c.hand_on.ensures.refused c.hand_on.ensures.tells c.hand_on.ensures.still
 
 pub returns-in-Ok-clause-gone : goal.returns-in-Ok-clause-gone
 returns-in-Ok-clause-gone g c =
     kept-gone c.feed.new.self c.hand_on.new.lent.conn c.hand_on.ensures.kept
-    ∙ fed-gone c.args.lent.now.conn c.feed.new.self c.octets.result.now c.in-Ok.fed c.recall.ensures.within c.recall.ensures.some c.in-Ok.ensures.fed
+    ∙ fed-gone c.args.lent.now.conn c.feed.new.self c.lent-2.result c.in-Ok.fed c.recall.ensures.within c.recall.ensures.some c.in-Ok.ensures.fed
 
 pub returns-in-Err-clause-gone : goal.returns-in-Err-clause-gone
 returns-in-Err-clause-gone g c =
-    fault-gone c.in-Err.fault c.args.lent.now.conn c.feed.new.self c.octets.result.now c.recall.ensures.within c.recall.ensures.some c.in-Err.ensures.fed
+    fault-gone c.in-Err.fault c.args.lent.now.conn c.feed.new.self c.lent-2.result c.recall.ensures.within c.recall.ensures.some c.in-Err.ensures.fed
