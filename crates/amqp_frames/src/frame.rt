@@ -15,7 +15,7 @@ pub struct Frame {
 
 impl Frame {
     /// An empty frame on channel 0, as a slot that a frame is read into.
-    #[inline]
+    #[inline(always)]
     pub fn empty() -> Frame
         ensures { result ≡ record { channel = 0; body = None; payload = [] } }
     {

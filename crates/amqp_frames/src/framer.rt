@@ -102,6 +102,41 @@ impl Framer {
         ensures empty { octets.now ≡ [] → result ≡ Ok (Filled.Part 0) }
         ensures progress { octets.now ≢ [] → IfOk result (λ filled. 0 < used_in filled) }
     {
+        match self.whole_front(octets.as_slice()) {
+            Some(header) => self.finish_in_place(header, octets, header.size as usize, slot),
+            None => self.feed_apart(octets, slot),
+        }
+    }
+
+    /// The header of a frame that lies whole in the piece, where no octets are kept.
+    #[inline(always)]
+    fn whole_front(&self, piece: &[u8]) -> Option<Header>
+        ensures none { IfSome result (λ _. self.now.state.kept ≡ []) }
+        ensures begins { IfSome result (λ header. BeginsWith header self.now.state.max_size (self.now.state.kept ++ piece.now)) }
+        ensures whole { IfSome result (λ header. header.size ≤ length piece.now) }
+    {
+        if piece.is_empty() || !self.kept().is_empty() {
+            return None;
+        }
+        match examine(self.max_size, piece) {
+            Ok(Some(header)) => {
+                if piece.len() < header.size as usize {
+                    return None;
+                }
+                Some(header)
+            }
+            _ => None,
+        }
+    }
+
+    /// As `feed_into`, also where octets are kept, where the frame does not end in those that come, and where they show a fault.
+    #[inline(never)]
+    fn feed_apart(&mut self, octets: &Octets<'_>, slot: &mut Frame) -> Result<Filled, FrameFault>
+        ensures fed { FeedsSlot self.old.state octets.now result slot.new self.new.state }
+        ensures room { RoomySlot self.old octets.now result slot.new self.new }
+        ensures empty { octets.now ≡ [] → result ≡ Ok (Filled.Part 0) }
+        ensures progress { octets.now ≢ [] → IfOk result (λ filled. 0 < used_in filled) }
+    {
         let piece = octets.as_slice();
         if piece.is_empty() {
             self.before = Some(self.kept().len());
@@ -141,7 +176,6 @@ impl Framer {
     }
 
     /// Keeps octets that do not make the next frame whole. The frame has so many octets, or the header that tells it has.
-    #[inline(never)]
     fn keep(&mut self, octets: &Octets<'_>, size: usize) -> Result<Filled, FrameFault>
         requires unfinished { IsUnfinished self.old.state.max_size (self.old.state.kept ++ octets.now) }
         requires within { length (self.old.state.kept ++ octets.now) ≤ size }
@@ -162,7 +196,6 @@ impl Framer {
     }
 
     /// Keeps the octets after a header that shows no fault, or leaves the frame in the slot that they make whole.
-    #[inline(always)]
     fn take(
         &mut self,
         header: Header,
@@ -295,7 +328,6 @@ fn make_room(buffer: &mut Buffer, count: usize, size: usize) -> Result<(), Alloc
 }
 
 /// What the header of the octets that are kept and then come says. Nothing is copied where none are kept.
-#[inline(always)]
 fn examine_front(max: u32, kept: &[u8], piece: &[u8]) -> Result<Option<Header>, FrameFault>
     ensures { MatchResult result (λ found. MatchOption found (IsHeaderPart (kept.now ++ piece.now)) (λ header. BeginsWith header max (kept.now ++ piece.now))) (λ fault. IsHeaderFault fault max (kept.now ++ piece.now)) }
 {
@@ -311,7 +343,6 @@ fn examine_front(max: u32, kept: &[u8], piece: &[u8]) -> Result<Option<Header>, 
 }
 
 /// The first eight of the octets that are kept and then come, or all of them where they are fewer.
-#[inline(never)]
 fn first_octets(kept: &[u8], piece: &[u8]) -> ([u8; 8], usize)
     ensures octets { take result.1 result.0 ≡ take 8 (kept.now ++ piece.now) }
     ensures within { result.1 ≤ 8 }

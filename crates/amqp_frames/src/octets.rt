@@ -57,6 +57,7 @@ impl<'a> Octets<'a> {
     }
 
     /// Those from one place up to another: a slice of shared ones, or else a copy.
+    #[inline(always)]
     pub(crate) fn part(&self, alloc: Global, start: usize, end: usize) -> Result<Bytes, AllocError>
         requires order { start ≤ end }
         requires within { end ≤ length self.now }
