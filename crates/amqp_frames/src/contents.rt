@@ -1,5 +1,5 @@
 //! What follows a frame's header: nothing, or a performative and a transfer's payload (part 2, 2.3.2).
-ghost use Rattle.std.specs.Prelude.{◌≡◌, ◌≤◌, ◌<◌, ◌-◌, ◌↔◌, ◌++◌, ℕ, List, Ok, IsTrue, IfOk, OnOk, MatchResult, length, take, drop};
+ghost use Rattle.std.specs.Prelude.{◌≡◌, ◌≤◌, ◌<◌, ◌-◌, ◌↔◌, ◌++◌, ℕ, List, Ok, IsTrue, IfOk, MatchResult, length, take, drop};
 ghost use Rattle.amqp_performatives.specs.declared.performative.Performative.{Performative};
 ghost use Rattle.amqp_frames.specs.Framing.{is_transfer, MayFollow, AreContents};
 ghost use Rattle.amqp_performatives.specs.Spelling.{IsPerformative};
@@ -15,7 +15,7 @@ use amqp_halves::find_performative;
 use amqp_performatives::{Composite, Performative};
 use amqp_types::{Descriptor, read_descriptor, skip_value};
 use bytes::Bytes;
-use std::alloc::{AllocError, Global};
+use std::alloc::Global;
 
 /// Leaves the frame of contents in the slot that lie in the octets from one place up to another. An octet after a performative that is no transfer is a
 /// fault, also where memory is refused; after a fault the slot may hold anything.
@@ -73,28 +73,10 @@ fn read_payload(
     if !holds_transfer(&slot.body) {
         return Err(FrameFault::BadBody);
     }
-    match part_into(alloc, octets, start + size, end, &mut slot.payload) {
+    match octets.part_into(alloc, start + size, end, &mut slot.payload) {
         Ok(()) => Ok(()),
         Err(_) => Err(FrameFault::NoMemory),
     }
-}
-
-/// Leaves a part of the octets in the slot. Out of line, where its parts go from registers to their places.
-#[inline(never)]
-fn part_into(
-    alloc: Global,
-    octets: &Octets<'_>,
-    start: usize,
-    end: usize,
-    slot: &mut Bytes,
-) -> Result<(), AllocError>
-    requires order { start ≤ end }
-    requires within { end ≤ length octets.now }
-    ensures { OnOk result (slot.new ≡ take (end - start) (drop start octets.now)) }
-{
-    let part = octets.part(alloc, start, end)?;
-    *slot = part;
-    Ok(())
 }
 
 #[inline(always)]

@@ -1,5 +1,5 @@
 //! Octets of a stream, as they come.
-ghost use Rattle.std.specs.Prelude.{◌≡◌, ◌≤◌, ◌-◌, IfOk, length, take, drop};
+ghost use Rattle.std.specs.Prelude.{◌≡◌, ◌≤◌, ◌-◌, OnOk, length, take, drop};
 
 use bytes::Bytes;
 use std::alloc::{AllocError, Global};
@@ -56,21 +56,49 @@ impl<'a> Octets<'a> {
         self.slice
     }
 
-    /// Those from one place up to another: a slice of shared ones, or else a copy.
+    /// Leaves those from one place up to another in the slot: a slice of shared ones, or else a copy.
     #[inline(always)]
-    pub(crate) fn part(&self, alloc: Global, start: usize, end: usize) -> Result<Bytes, AllocError>
+    pub(crate) fn part_into(
+        &self,
+        alloc: Global,
+        start: usize,
+        end: usize,
+        slot: &mut Bytes,
+    ) -> Result<(), AllocError>
         requires order { start ≤ end }
         requires within { end ≤ length self.now }
-        ensures { IfOk result (λ part. part ≡ take (end - start) (drop start self.now)) }
+        ensures { OnOk result (slot.new ≡ take (end - start) (drop start self.now)) }
     {
         match self.shared {
-            None => Bytes::copy_from_slice(alloc, &self.slice[start..end]),
+            None => copy_into(alloc, &self.slice[start..end], slot),
             Some((octets, from)) => {
                 // No place is past the count of the octets.
                 let all = octets.len();
                 prove!(from <= all);
-                octets.slice(from + start..from + end)
+                slice_into(octets, from + start, from + end, slot)
             }
         }
     }
+}
+
+/// Leaves a copy of the octets in the slot.
+#[inline(never)]
+fn copy_into(alloc: Global, octets: &[u8], slot: &mut Bytes) -> Result<(), AllocError>
+    ensures { OnOk result (slot.new ≡ octets.now) }
+{
+    let copy = Bytes::copy_from_slice(alloc, octets)?;
+    *slot = copy;
+    Ok(())
+}
+
+/// Leaves a part of the octets in the slot, which are not copied. Out of line, where its parts go from registers to their places.
+#[inline(never)]
+fn slice_into(octets: &Bytes, start: usize, end: usize, slot: &mut Bytes) -> Result<(), AllocError>
+    requires order { start ≤ end }
+    requires within { end ≤ length octets.now }
+    ensures { OnOk result (slot.new ≡ take (end - start) (drop start octets.now)) }
+{
+    let part = octets.slice(start..end)?;
+    *slot = part;
+    Ok(())
 }
