@@ -147,10 +147,10 @@ refused NoMemory h max missing kept piece contents b s n e (body, payload, k) =
     inl (record { channel = h.channel; body = body; payload = payload }, whole kept missing piece, drop missing piece, p.0, p.1, whole_back kept piece missing)
 
 -- where the contents lie: in the piece, or in the octets kept and then those of the piece
-pub in_piece : (kept k piece : List ℕ) (place start missing : ℕ) → start ≡ place → k ≡ kept → length kept ≤ place → place ≤ length kept + missing → drop place (whole kept missing piece) ≡ take (missing - (start - length k)) (drop (start - length k) piece)
-in_piece kept k piece place start missing at same h l =
+pub in_piece : (kept piece : List ℕ) (place start missing count : ℕ) → start ≡ place → count ≡ length kept → count ≤ place → place ≤ count + missing → drop place (whole kept missing piece) ≡ take (missing - (start - count)) (drop (start - count) piece)
+in_piece kept piece place start missing count at same h l =
     let n : place ≡ length kept + (place - length kept) = omega arith in
-    let m : start - length k ≡ place - length kept = omega (arith, ap length same) in
+    let m : start - count ≡ place - length kept = omega arith in
     let e : drop place (whole kept missing piece) ≡ take (missing - (place - length kept)) (drop (place - length kept) piece) =
     ap (λ (t : ℕ). drop t (whole kept missing piece)) n ∙ drop-append-add kept (take missing piece) (place - length kept) ∙ drop-take_less piece (place - length kept) missing (omega arith) in
     subst (λ (t : ℕ). drop place (whole kept missing piece) ≡ take (missing - t) (drop t piece)) (sym m) e

@@ -103,7 +103,7 @@ impl Framer {
         ensures progress { octets.now ≢ [] → IfOk result (λ filled. 0 < used_in filled) }
     {
         match self.whole_front(octets.as_slice()) {
-            Some(header) => self.finish_in_place(header, octets, header.size as usize, slot),
+            Some(header) => self.finish_in_place(header, octets, 0, slot),
             None => self.feed_apart(octets, slot),
         }
     }
@@ -214,29 +214,29 @@ impl Framer {
             return self.keep(octets, size);
         }
         if count <= header.start() {
-            self.finish_in_place(header, octets, missing, slot)
+            self.finish_in_place(header, octets, count, slot)
         } else {
             self.finish(header, octets, missing, slot)
         }
     }
 
-    /// Leaves the frame in the slot that the octets make whole, where all contents lie in them.
+    /// Leaves the frame in the slot that the octets make whole, where all contents lie in them, and so many octets are kept.
     #[inline(always)]
     fn finish_in_place(
         &mut self,
         header: Header,
         octets: &Octets<'_>,
-        missing: usize,
+        count: usize,
         slot: &mut Frame,
     ) -> Result<Filled, FrameFault>
         requires begins { BeginsWith header self.old.state.max_size (self.old.state.kept ++ octets.now) }
-        requires size { length self.old.state.kept + missing ≡ header.size }
-        requires whole { missing ≤ length octets.now }
-        requires place { length self.old.state.kept ≤ 4 * header.doff }
+        requires kept { count ≡ length self.old.state.kept }
+        requires whole { header.size ≤ count + length octets.now }
+        requires place { count ≤ 4 * header.doff }
         ensures fed { FeedsSlot self.old.state octets.now result slot.new self.new.state }
         ensures room { RoomySlot self.old octets.now result slot.new self.new }
     {
-        let count = self.kept().len();
+        let missing = header.size as usize - count;
         match read_contents(
             self.buffer.allocator(),
             header.channel,
