@@ -342,6 +342,7 @@ impl Machine {
         if let Some(Performative::Close(_)) = &slot.body {
             self.phase = Phase::Closed;
             self.parting = close_in(taken_out(slot));
+            return nothing(used);
         }
         nothing(used)
     }
