@@ -18,7 +18,7 @@ returns-clause-fed c =
     let reads = subst (λ (v : Connection). IsTrue (reads_frames v.core.phase)) (sym c.self.view_is) c.requires in
     subst (λ (v : Connection). Feeds v c.args.octets.now c.act.result (left c.act.new.machine c.self.inside.head.items c.act.new.framer.state.kept)) c.self.view_is
     (acted c.self.inside.machine c.act.new.machine c.self.inside.head.items c.args.octets.now c.self.inside.framer.state c.feed_into-answer.new.self.state c.act.new.framer.state
-        (told_with c.feed_into-answer.result c.feed_into-answer.new.slot) c.act.result reads c.self.invariant.max_is c.feed_into-answer.ensures.fed c.act.ensures)
+    (told_with c.feed_into-answer.result c.feed_into-answer.new.slot) c.act.result reads c.self.invariant.max_is c.feed_into-answer.ensures.fed c.act.ensures)
 
 pub returns-clause-progress : goal.returns-clause-progress
 returns-clause-progress c some =
