@@ -84,26 +84,26 @@ ends-grows e k l w is =
 ended-grows : (e : ConnFault) (c d : Connection) (piece : List ℕ) → Within c.core → Ends e (more piece c) d → Grows c.core d.core 0
 ended-grows e c d piece w t = ends-grows e c.core d.core w (ap (λ (x : Connection). x.core) t.1)
 
-pub feed-grows : (c d : Connection) (piece : List ℕ) (r : Result Fed ConnFault) → Within c.core → Feeds c piece r d → Grows c.core d.core (steps_fed r)
-feed-grows c d piece (Ok fed) w t = fed-grows c d piece fed w t
-feed-grows c d piece (Err fault.Closed) w t = stays c.core d.core (ap (λ (x : Connection). x.core) t.1)
-feed-grows c d piece (Err fault.NoMemory) w t = stays c.core d.core (ap (λ (x : Connection). x.core) t.2)
-feed-grows c d piece (Err fault.BadHeader) w t = ended-grows fault.BadHeader c d piece w t
-feed-grows c d piece (Err (fault.Framing e)) w t = ended-grows (fault.Framing e) c d piece w t
-feed-grows c d piece (Err fault.OutOfPlace) w t = ended-grows fault.OutOfPlace c d piece w t
-feed-grows c d piece (Err fault.BadChannel) w t = ended-grows fault.BadChannel c d piece w t
-feed-grows c d piece (Err fault.JournalFull) w t = ended-grows fault.JournalFull c d piece w t
+pub feed_grows : (c d : Connection) (piece : List ℕ) (r : Result Fed ConnFault) → Within c.core → Feeds c piece r d → Grows c.core d.core (steps_fed r)
+feed_grows c d piece (Ok fed) w t = fed-grows c d piece fed w t
+feed_grows c d piece (Err fault.Closed) w t = stays c.core d.core (ap (λ (x : Connection). x.core) t.1)
+feed_grows c d piece (Err fault.NoMemory) w t = stays c.core d.core (ap (λ (x : Connection). x.core) t.2)
+feed_grows c d piece (Err fault.BadHeader) w t = ended-grows fault.BadHeader c d piece w t
+feed_grows c d piece (Err (fault.Framing e)) w t = ended-grows (fault.Framing e) c d piece w t
+feed_grows c d piece (Err fault.OutOfPlace) w t = ended-grows fault.OutOfPlace c d piece w t
+feed_grows c d piece (Err fault.BadChannel) w t = ended-grows fault.BadChannel c d piece w t
+feed_grows c d piece (Err fault.JournalFull) w t = ended-grows fault.JournalFull c d piece w t
 
-pub operation-grows : (k l : Core) (o : Op) (r : Result Given Refusal) → Within k → Does k o r l → OnOk r (Grows k l 1)
-operation-grows k l o (Ok given) w (reply, due, gives, is) = steps k l (Own o) reply w is
-operation-grows k l o (Err e) w t = tt
+pub operation_grows : (k l : Core) (o : Op) (r : Result Given Refusal) → Within k → Does k o r l → OnOk r (Grows k l 1)
+operation_grows k l o (Ok given) w (reply, due, gives, is) = steps k l (Own o) reply w is
+operation_grows k l o (Err e) w t = tt
 
-pub close-grows : (k l : Core) (error : Option AmqpError) (r : Result (Unit {0}) CloseRefusal) → Closes k error r l → Grows k l 0
-close-grows k l error (Ok done) t = sends k l phase.Closing (octets_of (close_frame error)) t.2
-close-grows k l error (Err refusal.NotOpen) t = stays k l t.1
-close-grows k l error (Err refusal.NotWritable) t = stays k l t.2
-close-grows k l error (Err refusal.FrameTooBig) t = stays k l t.2
-close-grows k l error (Err refusal.NoMemory) t = stays k l t.2
+pub close_grows : (k l : Core) (error : Option AmqpError) (r : Result (Unit {0}) CloseRefusal) → Closes k error r l → Grows k l 0
+close_grows k l error (Ok done) t = sends k l phase.Closing (octets_of (close_frame error)) t.2
+close_grows k l error (Err refusal.NotOpen) t = stays k l t.1
+close_grows k l error (Err refusal.NotWritable) t = stays k l t.2
+close_grows k l error (Err refusal.FrameTooBig) t = stays k l t.2
+close_grows k l error (Err refusal.NoMemory) t = stays k l t.2
 
 -- what was pushed stands
 pub pushed-stands : (k l : Core) (n : ℕ) → Grows k l n → k.log.popped ≤ length (units k.log)

@@ -1,22 +1,14 @@
-//! The calls of a connection, with what they add to its journal and its units; and the units that go on to the ring.
-ghost use Rattle.std.specs.Prelude.{◌≡◌, ◌≢◌, ◌<◌, ◌≤◌, ◌^◌, ◌+◌, [], length, OnOk, Ok};
+//! What always holds of a connection, what a feed adds to its journal, and the units that go on to the ring.
+ghost use Rattle.std.specs.Prelude.{◌≡◌, ◌<◌, ◌≤◌, ◌^◌, length, Ok};
 ghost use Rattle.rtrb.specs.Ring.{sent, known_free};
 ghost use Rattle.amqp_journal.specs.Units.{units, PutWithin};
-ghost use Rattle.amqp_conn.specs.Feeding.{Feeds, MovesOn};
-ghost use Rattle.amqp_conn.specs.Calling.{Does, Closes};
-ghost use Rattle.amqp_shared.specs.Growing.{Grows};
 ghost use Rattle.amqp_shared.specs.Passes.{steps_fed};
 ghost use Rattle.amqp_shared.specs.Ring.{pushes_to};
 ghost use Rattle.amqp_shared.specs.Units.{MovesUnits, moved_of};
 
 use crate::name::Numbered;
-use amqp_conn::{CloseRefusal, Conn, ConnFault, Fed};
-use amqp_frames::{AmqpError, Octets};
+use amqp_conn::{Conn, ConnFault, Fed};
 use amqp_journal::unit::Unit;
-use amqp_rules::op::Op;
-use amqp_rules::refusal::Refusal;
-use amqp_rules::reply::Given;
-use amqp_types::Boxed;
 use rtrb::Producer;
 use std::alloc::Global;
 
@@ -29,36 +21,6 @@ pub(crate) fn recall(conn: &Conn)
 {
     let _ = conn.logged().put_out();
     let _ = conn.logged().steps();
-}
-
-pub(crate) fn do_operation(conn: &mut Conn, op: &Op) -> Result<Given, Refusal>
-    ensures does { Does conn.old.core op.now result conn.new.core }
-    ensures unread { conn.new.unread ≡ conn.old.unread }
-    ensures grows { OnOk result (Grows conn.old.core conn.new.core 1) }
-{
-    recall(conn);
-    conn.apply(op)
-}
-
-pub(crate) fn feed_octets(conn: &mut Conn, octets: &Octets<'_>) -> Result<Fed, ConnFault>
-    ensures fed { Feeds conn.old octets.now result conn.new }
-    ensures progress { octets.now ≢ [] → MovesOn result }
-    ensures grows { Grows conn.old.core conn.new.core (steps_fed result) }
-{
-    recall(conn);
-    conn.feed(octets)
-}
-
-pub(crate) fn put_close(
-    conn: &mut Conn,
-    error: Option<Boxed<AmqpError>>,
-) -> Result<(), CloseRefusal>
-    ensures closes { Closes conn.old.core error result conn.new.core }
-    ensures unread { conn.new.unread ≡ conn.old.unread }
-    ensures grows { Grows conn.old.core conn.new.core 0 }
-{
-    recall(conn);
-    conn.close(error)
 }
 
 /// Moves units from the connection to the ring, as many as fit.

@@ -10,9 +10,7 @@ ghost use Rattle.amqp_shared.specs.Session.{Makes, IsReceipt, IsRefused, Fits};
 ghost use Rattle.amqp_shared.specs.Units.{MovesUnits, unmoved};
 ghost use Rattle.amqp_shared.specs.Waking.{Held, told_of_units, units_came, with_want, with_units, waits_for, is_ended, is_full};
 
-use crate::growing::{
-    do_operation, feed_octets, push_units, put_close, recall, steps_of,
-};
+use crate::growing::{push_units, recall, steps_of};
 use crate::name::{Name, Numbered};
 use crate::pass::Pass;
 use crate::sleepers::Sleepers;
@@ -122,6 +120,7 @@ impl<N: Name> Locked<N> {
         self.conn.left_len()
     }
 
+    #[tactic(auto, using(crate::proofs::Growth::operation_grows))]
     /// An operation, counted in the pass.
     pub(crate) fn apply(&mut self, pass: &mut Pass<N>, op: &Op) -> Result<(Receipt, Given), Refusal>
         ensures step { IfOk result (λ r. Makes self.old.conn op.now r.1 self.new.conn) }
@@ -135,7 +134,7 @@ impl<N: Name> Locked<N> {
     {
         recall(&self.conn);
         let place = self.conn.logged().steps() as u64;
-        match do_operation(&mut self.conn, op) {
+        match self.conn.apply(op) {
             Ok(given) => {
                 raise(&mut self.book, pass, 1);
                 push_units(&mut self.conn, &mut self.producer);
@@ -145,6 +144,7 @@ impl<N: Name> Locked<N> {
         }
     }
 
+    #[tactic(auto, using(crate::proofs::Growth::feed_grows))]
     /// A feed, whose step is counted in the pass.
     pub(crate) fn feed(&mut self, pass: &mut Pass<N>, octets: &Octets<'_>) -> Result<Fed, ConnFault>
         ensures fed { Feeds self.old.conn octets.now result (unmoved self.old.conn self.new.conn) }
@@ -154,12 +154,13 @@ impl<N: Name> Locked<N> {
         ensures pass { CountsStep result pass.old pass.new }
     {
         recall(&self.conn);
-        let result = feed_octets(&mut self.conn, octets);
+        let result = self.conn.feed(octets);
         raise(&mut self.book, pass, steps_of(&result));
         push_units(&mut self.conn, &mut self.producer);
         result
     }
 
+    #[tactic(auto, using(crate::proofs::Growth::close_grows))]
     /// Puts out our close.
     pub(crate) fn shut(&mut self, error: Option<Boxed<AmqpError>>) -> Result<(), CloseRefusal>
         ensures closes { Closes self.old.conn.core error result (unmoved self.old.conn self.new.conn).core }
@@ -168,7 +169,7 @@ impl<N: Name> Locked<N> {
         ensures waiters { self.new.waiters ≡ self.old.waiters }
         ensures err { OnErr result (self.new ≡ self.old) }
     {
-        match put_close(&mut self.conn, error) {
+        match self.conn.close(error) {
             Ok(()) => {
                 push_units(&mut self.conn, &mut self.producer);
                 Ok(())
