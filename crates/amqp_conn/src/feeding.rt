@@ -107,27 +107,23 @@ fn treat_whole(
     ensures back { PutsBack result framer.old.state framer.new.state }
 {
     let answer = machine.treat(used, slot);
-    put_back(framer, answer)
+    put_back(framer, &answer);
+    answer
 }
 
-/// Hands on what was answered, with the frame put back where it was not taken.
+/// The frame goes back where it was not taken.
 #[inline(always)]
-fn put_back(framer: &mut Framer, answer: Result<Fed, ConnFault>) -> Result<Fed, ConnFault>
+fn put_back(framer: &mut Framer, answer: &Result<Fed, ConnFault>)
     requires { IsSome framer.old.state.before }
-    ensures same { result ≡ answer }
-    ensures back { PutsBack answer framer.old.state framer.new.state }
+    ensures { PutsBack answer.now framer.old.state framer.new.state }
 {
     match answer {
         Ok(fed) => {
-            if let Some(_) = &fed.violation {
+            if fed.violation.is_some() {
                 framer.unread();
             }
-            Ok(fed)
         }
-        Err(ConnFault::NoMemory) => {
-            framer.unread();
-            Err(ConnFault::NoMemory)
-        }
-        Err(fault) => Err(fault),
+        Err(ConnFault::NoMemory) => framer.unread(),
+        Err(_) => {}
     }
 }

@@ -1,6 +1,6 @@
 -- A performative is read by its descriptor.
 use Rattle.std.proofs.Common.{◌≡◌, ◌≤◌, ℕ, List, ◌++◌, length, take, drop, refl, sym}
-use Rattle.std.specs.Prelude.{IfOk, Result, Ok, Err, Option, Some, None}
+use Rattle.std.specs.Prelude.{Result, Ok, Err, Option, Some, None}
 use Rattle.std.proofs.lemmas.List.{take-append-drop}
 use Rattle.amqp_types.specs.Datum.{Datum}
 use Rattle.amqp_decoder.specs.declared.fields.Cursor.{Cursor}
@@ -150,20 +150,6 @@ front_fault os d from used NoMemory o h = (h.0, take used os, drop used os, is_f
 
 pub front_missing : (os : List ℕ) → NotOpened 32 os → ReadsFront os (Err NoBody)
 front_missing os m = λ p x rest i e. m (descriptor_of p) (fields_of p) x rest (record { datum = i.datum; fits = i.fits; spelled = i.spelled }) e
-
-pub as_found : (os : List ℕ) (r : Result (Performative × ℕ) BodyFault) → ReadsFront os r → IfOk r (λ found. (found.1 ≤ length os) × IsPerformative found.0 (take found.1 os))
-as_found os (Ok x) h = h
-as_found os (Err e) h = tt
-
-pub as_none : (os : List ℕ) (r : Result (Performative × ℕ) BodyFault) → ReadsFront os r → r ≡ Err NoBody → (p : Performative) (x rest : List ℕ) → IsPerformative p x → os ≡ x ++ rest → ⊥
-as_none os (Ok x) h e = absurd cc
-as_none os (Err NoBody) h e = h
-as_none os (Err NoMemory) h e = absurd cc
-
-pub as_memory : (os : List ℕ) (r : Result (Performative × ℕ) BodyFault) → ReadsFront os r → r ≡ Err NoMemory → (p : Performative) × (x rest : List ℕ) × IsPerformative p x × (os ≡ x ++ rest)
-as_memory os (Ok x) h e = absurd cc
-as_memory os (Err NoBody) h e = absurd cc
-as_memory os (Err NoMemory) h e = h
 
 pub front_left : (os : List ℕ) (d : Datum) (from : Cursor) (used : ℕ) → OpensFront os d from used → (u : Unit {0}) (slot : Option Performative) → LeavesDescribed d from (Ok u) slot → LeavesFront os (Ok used) slot
 front_left os d from used o u (Some p) h = front_found os d from used o p h

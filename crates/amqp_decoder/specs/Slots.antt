@@ -3,6 +3,7 @@ use Rattle.std.specs.Prelude.{ℕ, Bool, true, false, Option, Some, None, Result
 use Rattle.amqp_types.specs.Datum.{Datum}
 use Rattle.amqp_decoder.specs.declared.fields.Cursor.{Cursor}
 use Rattle.amqp_performatives.specs.declared.performative.Performative.{Performative}
+use Rattle.amqp_performatives.specs.declared.performative.Performative.TheVariants.{Flow, Disposition}
 use Rattle.amqp_decoder.specs.declared.fault.BodyFault.{BodyFault}
 use Rattle.amqp_performatives.specs.Part.{IsDescriptor}
 use Rattle.amqp_decoder.specs.ReadPerformatives.{ReadsDescribed, ReadsFront}
@@ -18,7 +19,20 @@ LeavesFront octets (Ok used) (Some p) = ReadsFront octets (Ok (p, used))
 LeavesFront octets (Ok used) None = ⊥
 LeavesFront octets (Err fault) slot = ReadsFront octets (Err fault)
 
--- the same for whatever descriptor is that of this type; false says nothing
-abbrev pub LeavesKind : ℕ × List ℕ → Cursor → Bool → Option Performative → Type 0
-LeavesKind type from true slot = (u : Unit {0}) (descriptor : Datum) → IsDescriptor type descriptor → LeavesDescribed descriptor from (Ok u) slot
-LeavesKind type from false slot = Unit
+-- the same for whatever descriptor is that of this type
+abbrev pub LeavesKind : ℕ × List ℕ → Cursor → Result (Unit {0}) BodyFault → Option Performative → Type 0
+LeavesKind type from result slot = (descriptor : Datum) → IsDescriptor type descriptor → LeavesDescribed descriptor from result slot
+
+-- false says nothing
+abbrev pub LeavesCommon : ℕ × List ℕ → Cursor → Bool → Option Performative → Type 0
+LeavesCommon type from true slot = (u : Unit {0}) (descriptor : Datum) → IsDescriptor type descriptor → LeavesDescribed descriptor from (Ok u) slot
+LeavesCommon type from false slot = Unit
+
+-- what stands in the slot
+abbrev pub is_flow : Option Performative → Bool
+is_flow (Some (Flow b)) = true
+is_flow _ = false
+
+abbrev pub is_disposition : Option Performative → Bool
+is_disposition (Some (Disposition b)) = true
+is_disposition _ = false

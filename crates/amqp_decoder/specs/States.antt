@@ -5,8 +5,6 @@ use Rattle.amqp_performatives.specs.declared.state.DeliveryState.{DeliveryState}
 use Rattle.amqp_performatives.specs.declared.state.DeliveryState.TheVariants.{Received, Accepted, Rejected, Released, Modified, Other}
 use Rattle.amqp_decoder.specs.declared.states.StateKind.{StateKind}
 use Rattle.amqp_decoder.specs.declared.states.StateKind.TheVariants as kind
-use Rattle.amqp_decoder.specs.declared.states.BareState.{BareState}
-use Rattle.amqp_decoder.specs.declared.states.BareState.TheVariants as bare
 use Rattle.amqp_performatives.specs.Part.{Fields, no_field}
 use Rattle.amqp_performatives.specs.Bodies.{uint, ulong, boolean, any, error, optional, ◌▸◌, received_type, accepted_type, rejected_type, released_type, modified_type}
 
@@ -40,7 +38,3 @@ state_fields Released = no_field
 state_fields (Modified delivery_failed undeliverable_here message_annotations) =
     optional boolean delivery_failed ▸ optional boolean undeliverable_here ▸ optional any message_annotations ▸ no_field
 state_fields (Other v) = no_field
-
-abbrev pub bare_in : BareState → DeliveryState
-bare_in bare.Accepted = Accepted
-bare_in bare.Released = Released

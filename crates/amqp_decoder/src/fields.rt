@@ -252,54 +252,39 @@ impl<'a> Cursor<'a> {
         }
     }
 
-    /// A delivery tag that is there: a binary of at most 32 octets (part 2, 2.8.7).
+    /// The octets of a delivery tag that is there: a binary of at most 32 octets (part 2, 2.8.7).
     #[inline(always)]
-    fn required_tag(self) -> Option<(Tag, Cursor<'a>)>
-        ensures { Reads binary is_tag self.entry result }
+    fn required_tag(self) -> Option<(&'a [u8], Cursor<'a>)>
+        ensures reads { Reads binary is_tag self.entry (option_map (λ r. (r.0.now, r.1)) result) }
+        ensures short { IfSome result (λ r. length r.0.now ≤ 32) }
     {
         if self.left == 0 {
             return None;
         }
         match read_binary(self.octets) {
-            Some((octets, used)) => match Tag::new(octets) {
-                Some(tag) => Some((tag, self.after(used))),
-                None => None,
+            Some((octets, used)) => if octets.len() <= Tag::MAX_LEN {
+                Some((octets, self.after(used)))
+            } else {
+                None
             },
             None => None,
         }
     }
 
-    /// A delivery tag.
-    #[inline(always)]
-    pub(crate) fn tag(self) -> Option<(Option<Tag>, Cursor<'a>)>
-        ensures { Reads (optional binary) (where_present is_tag) self.entry result }
-    {
-        match self.absent() {
-            Some(others) => Some((None, others)),
-            None => match self.required_tag() {
-                Some((value, others)) => Some((Some(value), others)),
-                None => None,
-            },
-        }
-    }
-
-    /// A delivery tag, left in the slot. None says nothing: then `tag` is to be asked.
+    /// A delivery tag, left in the slot.
     #[inline(always)]
     pub(crate) fn tag_into(self, slot: &mut Option<Tag>) -> Option<Cursor<'a>>
-        ensures { IfSome result (λ others. Reads (optional binary) (where_present is_tag) self.entry (Some (slot.new, others))) }
+        ensures { Reads (optional binary) (where_present is_tag) self.entry (option_map (λ others. (slot.new, others)) result) }
     {
         match self.absent() {
             Some(others) => {
                 *slot = None;
                 Some(others)
             }
-            None => match read_binary(self.octets) {
-                Some((octets, used)) => {
-                    if octets.len() > Tag::MAX_LEN {
-                        return None;
-                    }
+            None => match self.required_tag() {
+                Some((octets, others)) => {
                     set_tag(octets, slot);
-                    Some(self.after(used))
+                    Some(others)
                 }
                 None => None,
             },
@@ -337,6 +322,7 @@ impl<'a> Cursor<'a> {
     }
 
     /// A value of whatever type.
+    #[inline(always)]
     pub(crate) fn any(self) -> Option<(Option<ValueRef<'a>>, Cursor<'a>)>
         ensures { Reads (optional any) (where_present is_present) self.entry (option_map (λ r. (option_map (λ v. value_in v.octets.now) r.0, r.1)) result) }
     {

@@ -6,39 +6,32 @@ ghost use Rattle.amqp_performatives.specs.Spelling.{IsPerformative};
 ghost use Rattle.amqp_types.specs.declared.value.Value.{Value};
 ghost use Rattle.amqp_types.specs.Grammar.{Spells};
 ghost use Rattle.amqp_types.specs.View.{view};
-ghost use Rattle.amqp_decoder.specs.ReadPerformatives.{ReadsDescribed, ReadsFront};
+ghost use Rattle.amqp_performatives.specs.Part.{IsDescriptor};
+ghost use Rattle.amqp_decoder.specs.ReadPerformatives.{ReadsDescribed, flow_type, transfer_type, disposition_type};
 ghost use Rattle.amqp_decoder.specs.Slots.{LeavesDescribed, LeavesFront};
 
-use crate::common::{common_disposition, common_flow, transfer_into};
 use crate::fault::BodyFault;
 use crate::fields::Cursor;
 use crate::opening::open;
-use crate::reading::{
-    read_close, read_detach, read_disposition, read_end, read_flow, read_transfer,
-};
+use crate::reading::{disposition_into, flow_into, read_close, read_detach, read_end};
 use crate::setup::{read_attach, read_begin, read_open};
+use crate::transfer::transfer_into;
 use amqp_performatives::{Composite, Performative};
 use amqp_types::{Descriptor, MAX_DEPTH};
 use std::alloc::Global;
 
-/// The performative with this descriptor and these fields.
+/// The performative with this descriptor and these fields, of the kinds that are less frequent.
 fn read_described(
     alloc: Global,
     descriptor: Descriptor<'_>,
     fields: Cursor<'_>,
 ) -> Result<Performative, BodyFault>
-    requires { 5 ≤ fields.depth }
+    requires deep { 5 ≤ fields.depth }
+    requires transfer { IsDescriptor transfer_type (datum_of descriptor) → ⊥ }
+    requires flow { IsDescriptor flow_type (datum_of descriptor) → ⊥ }
+    requires disposition { IsDescriptor disposition_type (datum_of descriptor) → ⊥ }
     ensures { ReadsDescribed (datum_of descriptor.entry) fields.entry result }
 {
-    if Composite::Transfer.is_named(descriptor) {
-        return read_transfer(alloc, fields);
-    }
-    if Composite::Flow.is_named(descriptor) {
-        return read_flow(alloc, fields);
-    }
-    if Composite::Disposition.is_named(descriptor) {
-        return read_disposition(alloc, fields);
-    }
     if Composite::Open.is_named(descriptor) {
         return read_open(alloc, fields);
     }
@@ -60,41 +53,18 @@ fn read_described(
     Err(BodyFault::NoBody)
 }
 
-/// The performative in front of the octets, with the whole depth that values may have.
-fn read_front(alloc: Global, octets: &[u8]) -> Result<(Performative, usize), BodyFault>
-    ensures { ReadsFront octets.now result }
-{
-    match open(octets, MAX_DEPTH) {
-        Some(opened) => match read_described(alloc, opened.descriptor, opened.fields) {
-            Ok(performative) => Ok((performative, opened.used)),
-            Err(fault) => Err(fault),
-        },
-        None => Err(BodyFault::NoBody),
-    }
-}
-
-/// Reads the performative at the front of the octets (part 1, 1.4; part 2, 2.7), and tells how many octets spell it.
-///
-/// # Errors
-///
-/// `NoBody` where no performative is in front, and `NoMemory` where one is and there is no memory for what it owns.
-pub fn read_performative(alloc: Global, octets: &[u8]) -> Result<(Performative, usize), BodyFault>
-    ensures found { IfOk result (λ found. (found.1 ≤ length octets.now) × IsPerformative found.0 (take found.1 octets.now)) }
-    ensures none { result ≡ Err BodyFault.NoBody → (p : Performative) (x rest : List ℕ) → IsPerformative p x → octets.now ≡ x ++ rest → ⊥ }
-    ensures memory { result ≡ Err BodyFault.NoMemory → (p : Performative) × (x rest : List ℕ) × IsPerformative p x × (octets.now ≡ x ++ rest) }
-{
-    read_front(alloc, octets)
-}
-
-/// Leaves the performative with this descriptor and these fields in the slot.
+/// Leaves the performative with this descriptor and these fields in the slot, of the kinds that are less frequent.
 #[inline(never)]
-fn described_into(
+fn rare_into(
     alloc: Global,
     descriptor: Descriptor<'_>,
     fields: Cursor<'_>,
     slot: &mut Option<Performative>,
 ) -> Result<(), BodyFault>
-    requires { 5 ≤ fields.depth }
+    requires deep { 5 ≤ fields.depth }
+    requires transfer { IsDescriptor transfer_type (datum_of descriptor) → ⊥ }
+    requires flow { IsDescriptor flow_type (datum_of descriptor) → ⊥ }
+    requires disposition { IsDescriptor disposition_type (datum_of descriptor) → ⊥ }
     ensures { LeavesDescribed (datum_of descriptor.entry) fields.entry result slot.new }
 {
     match read_described(alloc, descriptor, fields) {
@@ -106,9 +76,9 @@ fn described_into(
     }
 }
 
-/// The same; a transfer, a flow or a disposition in its common spelling is made in the slot.
+/// The same, of each kind.
 #[inline(always)]
-fn common_into(
+fn described_into(
     alloc: Global,
     descriptor: Descriptor<'_>,
     fields: Cursor<'_>,
@@ -118,21 +88,15 @@ fn common_into(
     ensures { LeavesDescribed (datum_of descriptor.entry) fields.entry result slot.new }
 {
     if Composite::Transfer.is_named(descriptor) {
-        if transfer_into(fields, slot) {
-            return Ok(());
-        }
-    } else if Composite::Flow.is_named(descriptor) {
-        if let Some(body) = common_flow(fields) {
-            *slot = Some(Performative::Flow(body));
-            return Ok(());
-        }
-    } else if Composite::Disposition.is_named(descriptor) {
-        if let Some(body) = common_disposition(fields) {
-            *slot = Some(Performative::Disposition(body));
-            return Ok(());
-        }
+        return transfer_into(alloc, fields, slot);
     }
-    described_into(alloc, descriptor, fields, slot)
+    if Composite::Flow.is_named(descriptor) {
+        return flow_into(alloc, fields, slot);
+    }
+    if Composite::Disposition.is_named(descriptor) {
+        return disposition_into(alloc, fields, slot);
+    }
+    rare_into(alloc, descriptor, fields, slot)
 }
 
 /// Leaves the performative at the front of the octets in the slot, and tells how many octets spell it: what `read_performative` reads, without
@@ -150,11 +114,31 @@ pub fn read_performative_into(
     ensures { LeavesFront octets.now result slot.new }
 {
     match open(octets, MAX_DEPTH) {
-        Some(opened) => match common_into(alloc, opened.descriptor, opened.fields, slot) {
+        Some(opened) => match described_into(alloc, opened.descriptor, opened.fields, slot) {
             Ok(()) => Ok(opened.used),
             Err(fault) => Err(fault),
         },
         None => Err(BodyFault::NoBody),
+    }
+}
+
+/// Reads the performative at the front of the octets (part 1, 1.4; part 2, 2.7), and tells how many octets spell it.
+///
+/// # Errors
+///
+/// `NoBody` where no performative is in front, and `NoMemory` where one is and there is no memory for what it owns.
+pub fn read_performative(alloc: Global, octets: &[u8]) -> Result<(Performative, usize), BodyFault>
+    ensures found { IfOk result (λ found. (found.1 ≤ length octets.now) × IsPerformative found.0 (take found.1 octets.now)) }
+    ensures none { result ≡ Err BodyFault.NoBody → (p : Performative) (x rest : List ℕ) → IsPerformative p x → octets.now ≡ x ++ rest → ⊥ }
+    ensures memory { result ≡ Err BodyFault.NoMemory → (p : Performative) × (x rest : List ℕ) × IsPerformative p x × (octets.now ≡ x ++ rest) }
+{
+    let mut slot = None;
+    match read_performative_into(alloc, octets, &mut slot) {
+        Ok(used) => match slot {
+            Some(performative) => Ok((performative, used)),
+            None => Err(BodyFault::NoBody),
+        },
+        Err(fault) => Err(fault),
     }
 }
 

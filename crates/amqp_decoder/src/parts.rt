@@ -1,5 +1,5 @@
 //! The composite types that stand in fields of performatives: errors (part 2, 2.8.14) and delivery states (part 3, 3.4).
-ghost use Rattle.std.specs.Prelude.{◌≡◌, ◌≤◌, ◌↔◌, ℕ, IsTrue, IfOk, MatchOption, false, option_map};
+ghost use Rattle.std.specs.Prelude.{◌≡◌, ◌≤◌, ◌↔◌, ℕ, IsTrue, IfOk, OnOk, MatchOption, false, option_map};
 ghost use Rattle.amqp_types.specs.View.{view};
 ghost use Rattle.amqp_performatives.specs.Bodies.{any, mapping, error as error_part, state, optional};
 ghost use Rattle.amqp_decoder.specs.Borrowed.{is_mapping, pairs_in};
@@ -114,6 +114,30 @@ pub(crate) fn owned_value(
         }
         None => Ok(None),
     }
+}
+
+/// The same, kept in a slot. Where there is none, and none was, nothing is dropped.
+#[inline(always)]
+pub(crate) fn keep_value(
+    alloc: Global,
+    value: Option<ValueRef<'_>>,
+    slot: &mut Option<Boxed<Value>>,
+) -> Result<(), AllocError>
+    ensures part { OnOk result (optional any slot.new ≡ optional any (values_in value.entry)) }
+    ensures fair { OnOk result (where_present is_present slot.new ≡ where_present is_present (values_in value.entry)) }
+{
+    match value {
+        Some(borrowed) => {
+            let value = borrowed.boxed(alloc)?;
+            *slot = Some(value);
+        }
+        None => {
+            if slot.is_some() {
+                *slot = None;
+            }
+        }
+    }
+    Ok(())
 }
 
 /// A text, where there is one, in memory of its own.

@@ -1,5 +1,5 @@
 //! Delivery states (part 3, 3.4).
-ghost use Rattle.std.specs.Prelude.{◌≡◌, ◌≤◌, ◌&&◌, false, ℕ, Some, IfOk, IfSome, MatchOption, option_map};
+ghost use Rattle.std.specs.Prelude.{◌≡◌, ◌≤◌, ◌&&◌, false, ℕ, IfOk, OnOk, IfSome, MatchOption, option_map};
 ghost use Rattle.amqp_types.specs.Heads.{datum_of};
 ghost use Rattle.amqp_performatives.specs.Bodies.{state as state_part, optional};
 ghost use Rattle.amqp_performatives.specs.Fair.{where_present, is_present, is_fair_state, names_state};
@@ -7,7 +7,7 @@ ghost use Rattle.amqp_decoder.specs.Opening.{NoStateNamed, IsBareList};
 ghost use Rattle.amqp_performatives.specs.Part.{IsDescriptor};
 ghost use Rattle.amqp_decoder.specs.Parts.{ReadsAll, state_in, values_in};
 ghost use Rattle.amqp_decoder.specs.Reading.{Reads, MissesAbsent, every};
-ghost use Rattle.amqp_decoder.specs.States.{type_of, is_of, received_fields, modified_fields, state_fields, bare_in};
+ghost use Rattle.amqp_decoder.specs.States.{type_of, is_of, received_fields, modified_fields, state_fields};
 
 use crate::borrowed::{StateRef, ValueRef};
 use crate::fields::Cursor;
@@ -25,13 +25,6 @@ enum StateKind {
     Rejected,
     Released,
     Modified,
-}
-
-/// A state that has no fields.
-#[derive(Clone, Copy)]
-pub(crate) enum BareState {
-    Accepted,
-    Released,
 }
 
 /// The number of the described list without items in front of the octets, where four of them spell it, the fewest that can.
@@ -157,7 +150,7 @@ impl<'a> Cursor<'a> {
         }
     }
 
-    /// A state that is there.
+    /// A state that is there, of whatever spelling.
     fn required_state(self) -> Option<(StateRef<'a>, Cursor<'a>)>
         requires deep { 5 ≤ self.depth }
         requires present { MissesAbsent self.left self.octets.now }
@@ -181,36 +174,42 @@ impl<'a> Cursor<'a> {
         }
     }
 
-    /// A state.
-    #[inline]
-    pub(crate) fn state(self) -> Option<(Option<StateRef<'a>>, Cursor<'a>)>
-        requires { 5 ≤ self.depth }
-        ensures { Reads (optional state_part) (where_present is_fair_state) self.entry (option_map (λ r. (option_map state_in r.0, r.1)) result) }
+    /// The same, left in the slot.
+    #[inline(never)]
+    fn required_state_into(self, slot: &mut Option<StateRef<'a>>) -> Option<Cursor<'a>>
+        requires deep { 5 ≤ self.depth }
+        requires present { MissesAbsent self.left self.octets.now }
+        ensures { Reads (optional state_part) (where_present is_fair_state) self.entry (option_map (λ others. (option_map state_in slot.new, others)) result) }
     {
-        match self.absent() {
-            Some(others) => Some((None, others)),
-            None => match self.required_state() {
-                Some((state, others)) => Some((Some(state), others)),
-                None => None,
-            },
+        match self.required_state() {
+            Some((state, others)) => {
+                *slot = Some(state);
+                Some(others)
+            }
+            None => None,
         }
     }
-}
 
-impl<'a> Cursor<'a> {
-    /// No state or one without fields, in its common spelling. None says nothing: then `state` is to be asked.
+    /// A state, left in the slot: accepted and released at once, where they are spelled in four octets.
     #[inline(always)]
-    pub(crate) fn bare_state(self) -> Option<(Option<BareState>, Cursor<'a>)>
-        requires { 3 ≤ self.depth }
-        ensures { IfSome result (λ r. Reads (optional state_part) (where_present is_fair_state) self.entry (Some (option_map bare_in r.0, r.1))) }
+    pub(crate) fn state_into(self, slot: &mut Option<StateRef<'a>>) -> Option<Cursor<'a>>
+        requires { 5 ≤ self.depth }
+        ensures { Reads (optional state_part) (where_present is_fair_state) self.entry (option_map (λ others. (option_map state_in slot.new, others)) result) }
     {
-        match self.absent() {
-            Some(others) => Some((None, others)),
-            None => match bare_list(self.octets) {
-                Some(0x24) => Some((Some(BareState::Accepted), self.after(4))),
-                Some(0x26) => Some((Some(BareState::Released), self.after(4))),
-                _ => None,
-            },
+        if let Some(others) = self.absent() {
+            *slot = None;
+            return Some(others);
+        }
+        match bare_list(self.octets) {
+            Some(0x24) => {
+                *slot = Some(StateRef::Accepted);
+                Some(self.after(4))
+            }
+            Some(0x26) => {
+                *slot = Some(StateRef::Released);
+                Some(self.after(4))
+            }
+            _ => self.required_state_into(slot),
         }
     }
 }
@@ -253,19 +252,26 @@ fn owned_present(alloc: Global, state: StateRef<'_>) -> Result<DeliveryState, Al
     }
 }
 
-/// A state, where there is one, in memory of its own.
-pub(crate) fn owned_state(
+/// A state, where there is one, in memory of its own in a slot. Where there is none, and none was, nothing is dropped.
+#[inline(always)]
+pub(crate) fn keep_state(
     alloc: Global,
     state: Option<StateRef<'_>>,
-) -> Result<Option<DeliveryState>, AllocError>
-    ensures part { IfOk result (λ s. optional state_part s ≡ optional state_part (option_map state_in state.entry)) }
-    ensures fair { IfOk result (λ s. where_present is_fair_state s ≡ where_present is_fair_state (option_map state_in state.entry)) }
+    slot: &mut Option<DeliveryState>,
+) -> Result<(), AllocError>
+    ensures part { OnOk result (optional state_part slot.new ≡ optional state_part (option_map state_in state.entry)) }
+    ensures fair { OnOk result (where_present is_fair_state slot.new ≡ where_present is_fair_state (option_map state_in state.entry)) }
 {
     match state {
         Some(borrowed) => {
             let state = owned_present(alloc, borrowed)?;
-            Ok(Some(state))
+            *slot = Some(state);
         }
-        None => Ok(None),
+        None => {
+            if slot.is_some() {
+                *slot = None;
+            }
+        }
     }
+    Ok(())
 }

@@ -101,7 +101,7 @@ pub(super) fn tellings(
     requires { IsWithin span items.now.items }
     ensures { IfOk result (λ v. v.items ≡ filter_map (told_first said.now) (part span items.now.items)) }
 {
-    let mut told = Vec::new(alloc);
+    let mut told = Vec::with_capacity(alloc, span.len())?;
     for place in span.start..span.end {
         let entry = &items[place];
         add_telling(&mut told, entry, said)?;

@@ -159,7 +159,6 @@ impl Endpoint {
     }
 
     /// The transfer comes, and brings a delivery in that waits: it begins unsettled, with our state.
-    #[inline(never)]
     fn come_back(
         &mut self,
         b: &TransferBody,
@@ -192,7 +191,6 @@ impl Endpoint {
     }
 
     /// The transfer comes, and no unsettled delivery begins.
-    #[inline(never)]
     fn come_on(
         &mut self,
         b: &TransferBody,

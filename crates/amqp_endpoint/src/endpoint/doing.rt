@@ -19,7 +19,6 @@ use std::alloc::AllocError;
 
 impl Endpoint {
     /// Does what was planned.
-    #[inline(never)]
     fn follow(&mut self, plan: Plan) -> Result<Done, AllocError>
         requires steps { self.old.steps < 2 ^ 30 }
         requires sound { IsSound self.old plan }
@@ -51,7 +50,6 @@ impl Endpoint {
     }
 
     /// Does an operation by its plan.
-    #[inline(never)]
     fn own_planned(&mut self, op: &Op) -> Result<Done, Refusal>
         requires steps { self.old.steps < 2 ^ 30 }
         requires planned { is_planned op.now ≡ true }
@@ -69,7 +67,6 @@ impl Endpoint {
     }
 
     /// Takes a frame that is heard and not dropped by its plan.
-    #[inline(never)]
     fn heard_planned(&mut self, frame: &Frame) -> Result<Done, Violation>
         requires steps { self.old.steps < 2 ^ 30 }
         requires planned { is_transfer frame.now.body ≡ false }

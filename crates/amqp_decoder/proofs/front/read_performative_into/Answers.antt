@@ -3,7 +3,7 @@ use Rattle.amqp_decoder.proofs.ByDescriptor.{front_left, front_fault, front_miss
 use Rattle.amqp_decoder.proofs.front.read_performative_into.Goals as goal
 
 pub returns-in-Ok : goal.returns-in-Ok
-returns-in-Ok c = front_left c.args.octets.now (datum_of c.in-Some.opened.descriptor) c.in-Some.opened.fields c.in-Some.opened.used c.in-Some.ensures _ c.common_into.new.slot c.in-Ok.ensures
+returns-in-Ok c = front_left c.args.octets.now (datum_of c.in-Some.opened.descriptor) c.in-Some.opened.fields c.in-Some.opened.used c.in-Some.ensures _ c.described_into.new.slot c.in-Ok.ensures
 
 pub returns-in-Err : goal.returns-in-Err
 returns-in-Err c = front_fault c.args.octets.now (datum_of c.in-Some.opened.descriptor) c.in-Some.opened.fields c.in-Some.opened.used c.in-Err.fault c.in-Some.ensures c.in-Err.ensures

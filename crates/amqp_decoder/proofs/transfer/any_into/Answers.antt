@@ -1,7 +1,7 @@
 use Rattle.amqp_decoder.specs.ReadBodies.{transfer_in}
 use Rattle.amqp_performatives.specs.declared.performative.Performative.TheVariants.{Transfer}
 use Rattle.amqp_decoder.proofs.ByDescriptor.{none_transfer}
-use Rattle.amqp_decoder.proofs.reading.read_transfer.Goals as goal
+use Rattle.amqp_decoder.proofs.transfer.any_into.Goals as goal
 
 pub returns-in-Ok : goal.returns-in-Ok
 returns-in-Ok c = λ d is. (rw c.in-Ok.ensures.fair c.in-Some.ensures.0, is, rw c.in-Ok.ensures.part c.in-Some.ensures.1)

@@ -3,7 +3,7 @@ use Rattle.amqp_performatives.specs.Part.{no_field}
 use Rattle.amqp_decoder.specs.Reading.{AreFields}
 use Rattle.amqp_decoder.proofs.DescribedLists.{not_named}
 use Rattle.amqp_decoder.proofs.FirstField.{always}
-use Rattle.amqp_decoder.proofs.reading.flow_fields.Goals as goal
+use Rattle.amqp_decoder.proofs.reading.set_flow.Goals as goal
 
 pub returns-in_err-next_incoming_id : goal.returns-in_err-next_incoming_id
 returns-in_err-next_incoming_id c = rw c.from_residual.ensures (λ b fair h. c.in_err-next_incoming_id.ensures b.next_incoming_id _ (always b.next_incoming_id) h)
