@@ -303,7 +303,7 @@ impl Hand {
         if let Some(Given::Taken(taken)) = conn.conn().given() {
             let taken = taken.get();
             self.counts.taken = self.counts.taken.saturating_add(1);
-            let count = taken.payload.len() as u64;
+            let count = taken.payload.len();
             self.counts.octets = self.counts.octets.saturating_add(count);
             let first = match self.fresh {
                 Some((first, _)) => first,

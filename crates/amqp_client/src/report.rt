@@ -78,7 +78,12 @@ pub(crate) fn show_taken<T: Reports>(
     taken: Boxed<Taken>,
 ) -> Result<Came, ExchangeFault> {
     let came = came_of(taken.get());
-    let shown = reports.show(&taken.get().payload);
+    let Ok(payload) = taken.get().payload.join() else {
+        drop(taken);
+        return Err(ExchangeFault::NoMemory);
+    };
+    let shown = reports.show(&payload);
+    drop(payload);
     drop(taken);
     match shown {
         Ok(()) => Ok(came),
@@ -91,7 +96,7 @@ fn came_of(taken: &Taken) -> Came {
         id: taken.id,
         tag: taken.tag,
         is_settled: taken.settled,
-        octets: taken.payload.len() as u64,
+        octets: taken.payload.len(),
     }
 }
 

@@ -1,5 +1,5 @@
 //! Worked examples, and a thousand deliveries whose ids wrap. A table, a payload and what is said are owned by one helper each, over no way out.
-use amqp_deliveries::{Disposition, Held, HeldItem, Partial};
+use amqp_deliveries::{Disposition, Held, HeldItem, Partial, Parts};
 use amqp_performatives::DeliveryState;
 use amqp_types::Tag;
 use bytes::Bytes;
@@ -409,4 +409,66 @@ fn payloads_join(rt: HostRuntime) {
         assert!(rt; is_joined_alone(rt.alloc(), row));
     }
     assert!(rt; joined_in_turn(rt.alloc()) == JOINED.len());
+}
+
+/// Whether the slices, one after the other, are these octets.
+fn are_slices(parts: &Parts, octets: &[u8]) -> bool {
+    let mut from = 0usize;
+    for _ in 0..=octets.len() {
+        let slice = parts.slice_from(from as u64);
+        let Some(others) = octets.get(from..) else {
+            return false;
+        };
+        if !others.starts_with(slice) {
+            return false;
+        }
+        from = from.saturating_add(slice.len());
+    }
+    from == octets.len()
+}
+
+fn is_copied(parts: &Parts) -> bool {
+    match parts.clone() {
+        Ok(copy) => {
+            let is_same = copy == *parts;
+            drop(copy);
+            is_same
+        }
+        Err(_) => false,
+    }
+}
+
+/// Whether a payload is the same as these octets in one slice, and as no others.
+fn is_just(alloc: Global, parts: &Parts, octets: &'static [u8]) -> bool {
+    let whole = Parts::one(alloc, Bytes::from_static(octets));
+    let other = Parts::one(alloc, Bytes::from_static(b"xz"));
+    let is_so = *parts == whole && whole == *parts && *parts != other && other != *parts;
+    drop(whole);
+    drop(other);
+    is_so && parts.is(octets) && !parts.is(b"xz")
+}
+
+fn is_its_octets(alloc: Global, row: &Joined) -> bool {
+    let mut partial = Partial::start(alloc);
+    for payload in row.come {
+        if !comes(&mut partial, payload, false) {
+            return false;
+        }
+    }
+    let has_last = is_last(&mut partial, &row.last);
+    let parts = partial.finish();
+    drop(partial);
+    let is_so = is_just(alloc, &parts, row.octets)
+        && are_slices(&parts, row.octets)
+        && is_copied(&parts);
+    drop(parts);
+    has_last && is_so
+}
+
+/// However it is cut.
+#[test]
+fn a_payload_is_its_octets(rt: HostRuntime) {
+    for row in JOINED {
+        assert!(rt; is_its_octets(rt.alloc(), row));
+    }
 }

@@ -1,3 +1,4 @@
+pub mod SameOctets
 pub mod Serials
 pub mod Search
 pub mod Spans

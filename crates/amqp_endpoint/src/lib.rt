@@ -13,7 +13,7 @@
 //! | attach, of either end | O(log n + m), for m links of its name; where deliveries wait or are told, O(k) for k of them more |
 //! | rejoin | as an attach, and a step for each pair of its deliveries |
 //! | resume | O(log n) |
-//! | take | O(log n), and one copy of a payload that came in several transfers |
+//! | take | O(log n), and a handle of each slice of the payload, one for each of its transfers |
 //! | abort | O(log n + log u) |
 //! | dispose, the peer's disposition, of k deliveries | O(log u + k), and O(log n) for each that the peer tells of; those beside them on the shorter side move where deliveries end |
 //! | detach, of either end | O(log n + u) |

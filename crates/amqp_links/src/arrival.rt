@@ -95,13 +95,12 @@ pub struct Waiting {
 }
 
 impl Model for Waiting {
-    ghost use Rattle.std.specs.List.{concat};
     ghost use Rattle.std.specs.Prelude.{false};
     ghost use Rattle.amqp_events.specs.Joined.{Delivery, Complete};
 
     ghost Value = { Delivery };
 
-    ghost view = { λ u. record { id = u.id; tag = u.tag; format = u.format; second = u.second; settled = u.settled; resumed = false; payload = concat u.parts; status = Complete } };
+    ghost view = { λ u. record { id = u.id; tag = u.tag; format = u.format; second = u.second; settled = u.settled; resumed = false; payload = u.parts; status = Complete } };
 }
 
 impl Unfinished {
@@ -234,11 +233,11 @@ impl Waiting {
         self.settled
     }
 
-    /// Its payload in one piece. Where it came in one transfer it is shared, else copied once.
-    pub fn payload(&self) -> Result<Bytes, AllocError>
+    /// Its payload, as the slices that came: they are shared, and not copied.
+    pub fn payload(&self) -> Result<Parts, AllocError>
         ensures { IfOk result (λ p. p ≡ self.now.payload) }
     {
-        self.parts.join()
+        self.parts.clone()
     }
 }
 

@@ -172,7 +172,7 @@ fn left_on(alloc: Global, found: Option<Found<'_>>) -> Result<Vec<Left>, AllocEr
 }
 
 impl Links {
-    /// What all links leave, in their order. O(n) for n links, and a copy of each thing; payloads of one transfer are shared.
+    /// What all links leave, in their order. O(n) for n links, and a copy of each thing; payloads are shared.
     pub fn left_by_all(&self) -> Result<VecDeque<Left>, AllocError>
         ensures { IfOk result (λ v. v.items ≡ left_on_all self.now.list) }
     {

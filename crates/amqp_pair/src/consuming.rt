@@ -35,7 +35,7 @@ impl<'a, N: Name, R: Wait> Drop for Accepting<'a, N, R> {
 
 impl<'a, N: Name, R: Wait> Work for Accepting<'a, N, R> {
     fn consume(&mut self, item: &Taken) -> DeliveryState {
-        self.octets = self.octets.saturating_add(item.payload.len() as u64);
+        self.octets = self.octets.saturating_add(item.payload.len());
         DeliveryState::Accepted
     }
 

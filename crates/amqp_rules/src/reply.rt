@@ -1,6 +1,7 @@
 //! What a step gives: frames with their octets, deliveries that it ended, and what it tells.
 ghost use Rattle.std.specs.Prelude.{◌≡◌, IfOk};
 
+use amqp_deliveries::Parts;
 use amqp_frames::{DeliveryState, Frame, Role};
 use amqp_performatives::copying::copy_state;
 use amqp_types::{Boxed, Items, Tag, Text};
@@ -23,7 +24,8 @@ pub struct Taken {
     pub tag: Tag,
     /// The message-format (part 2, 2.8.11).
     pub format: u32,
-    pub payload: Bytes,
+    /// As the slices that came.
+    pub payload: Parts,
     /// It came settled: nothing is to be told of it.
     pub settled: bool,
     /// Its receiver settles second (part 2, 2.8.3).

@@ -1,7 +1,7 @@
 //! The text of an answer.
 ghost use Rattle.std.specs.Prelude.{◌≤◌, length};
 
-use amqp_deliveries::HeldItem;
+use amqp_deliveries::{HeldItem, Parts};
 use amqp_endpoint::endpoint::Endpoint;
 use amqp_endpoint::refusal::Refusal;
 use amqp_endpoint::reply::{Given, Learned, Reply, Resumed, Sent, Suspended, Taken};
@@ -83,7 +83,7 @@ fn write_taken<W: Write>(taken: &Taken, f: &mut Formatter<W>) -> fmt::Result {
     write!(f, "taken:{}:", taken.id)?;
     write_octets(taken.tag.octets(), f)?;
     f.write_str(":")?;
-    write_octets(taken.payload.as_slice(), f)
+    write_payload(&taken.payload, f)
 }
 
 fn write_learned<W: Write>(learned: &Learned, f: &mut Formatter<W>) -> fmt::Result {
@@ -159,6 +159,23 @@ fn write_octets<W: Write>(octets: &[u8], f: &mut Formatter<W>) -> fmt::Result {
         return f.write_str("-");
     }
     write_hex(octets, f)
+}
+
+/// The same, slice by slice.
+fn write_payload<W: Write>(payload: &Parts, f: &mut Formatter<W>) -> fmt::Result {
+    let mut from = 0;
+    for _ in 0..u64::MAX {
+        let slice = payload.slice_from(from);
+        if slice.is_empty() {
+            break;
+        }
+        write_hex(slice, f)?;
+        from = from.saturating_add(slice.len() as u64);
+    }
+    if from == 0 {
+        return f.write_str("-");
+    }
+    Ok(())
 }
 
 /// How many octets are written at a time.

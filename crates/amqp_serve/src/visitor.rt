@@ -171,7 +171,7 @@ impl Visitor {
     }
 
     fn keep(&mut self, taken: &Taken) -> Result<(), Refusal> {
-        let Ok(payload) = taken.payload.clone() else {
+        let Ok(payload) = taken.payload.join() else {
             return Err(Refusal::NoMemory);
         };
         let arrived = Arrived {

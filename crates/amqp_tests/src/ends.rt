@@ -113,9 +113,7 @@ impl Tally {
 
     /// A delivery counts where it is the one that the peer sent with its id.
     fn take(&mut self, taken: &Taken) {
-        let is_sent = taken.link == 1
-            && taken.settled
-            && taken.payload.as_slice() == b"x".as_slice();
+        let is_sent = taken.link == 1 && taken.settled && taken.payload.is(b"x".as_slice());
         if is_sent && u32::from(taken.tag.octets().first().copied().unwrap_or(9)) == taken.id {
             mark(&mut self.taken, taken.id);
         }

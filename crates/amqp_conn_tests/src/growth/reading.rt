@@ -2,7 +2,8 @@
 //! after each step, and then forgets all entries, pops all units and all that was left. It makes as many growths as the first.
 //!
 //! `a_delivery_that_waits` and `a_delivery_that_is_taken` differ by a take of a payload that came in one transfer: by one growth, that of the box of what
-//! was taken. `parts_that_wait` and `parts_that_are_taken` differ by three, since the payload that came in three is joined.
+//! was taken. `parts_that_wait` and `parts_that_are_taken` differ by two, since the
+//! payload that came in three is given as its slices, whose list is one.
 
 use crate::act::Act;
 use crate::growth::octets::*;

@@ -15,7 +15,7 @@ pub(crate) enum Said {
     Delivery(u32),
     Ready(u32, u32),
     /// With this id, and so many octets.
-    Taken(u32, usize),
+    Taken(u32, u64),
     /// Of this id, and whether it was settled.
     Learned(u32, bool),
     /// So many deliveries were put aside.
@@ -59,7 +59,7 @@ fn said_of(given: &Given) -> Said {
 }
 
 fn taken_of(taken: &Taken) -> Said {
-    Said::Taken(taken.id, taken.payload.as_slice().len())
+    Said::Taken(taken.id, taken.payload.len())
 }
 
 fn learned_of(learned: &Learned) -> Said {

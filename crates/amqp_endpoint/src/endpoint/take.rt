@@ -15,7 +15,7 @@ use amqp_types::Boxed;
 use bytes::Bytes;
 use std::alloc::AllocError;
 
-/// What is given of a delivery that waits on this link. A payload that came in one transfer is shared, else it is copied once.
+/// What is given of a delivery that waits on this link. Its payload is shared.
 fn taken_of(link: u32, waiting: &Waiting) -> Result<Taken, AllocError>
     ensures { IfOk result (λ t. t ≡ taken_of link waiting.now) }
 {
@@ -48,7 +48,7 @@ impl Endpoint {
         }
     }
 
-    /// What waits first is made. O(1), besides the join of a payload that came in several transfers.
+    /// What waits first is made. O(n) for a payload that came in n transfers, none of whose octets are copied.
     fn make_taken(&self, link: u32) -> Result<(usize, Boxed<Taken>), Refusal>
         ensures { Makes Refusal.NoMemory self.now (take_answer self.now link) (next_take self.now link) (λ both. take_plan self.now both.0 link both.1) result }
     {

@@ -229,7 +229,7 @@ fn is_sent(item: &Taken, tag: u8, settled: bool) -> bool {
         && item.settled == settled
         && item.second
         && item.tag.octets() == [tag].as_slice()
-        && item.payload.as_slice() == [0x78].as_slice()
+        && item.payload.is([0x78].as_slice())
 }
 
 fn does_then<N: Name, R: Wait>(rt: &R, shared: &Shared<N>, pass: &mut Pass<N>, then: Then) -> bool {

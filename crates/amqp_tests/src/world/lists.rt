@@ -164,11 +164,14 @@ fn was_sent(before: &[Entry], theirs: &[Entry], taken: &Taken) -> bool {
     let Some(link) = source(before, theirs, taken.link) else {
         return false;
     };
+    let Ok(payload) = taken.payload.join() else {
+        return false;
+    };
     let content = Content {
         id: taken.id,
         tag: taken.tag,
         format: taken.format,
-        sum: sum(1, taken.payload.as_slice()),
+        sum: sum(1, payload.as_slice()),
         settled: taken.settled,
     };
     complete(theirs, link, count_taken(before, taken.link)) == Some(content)
