@@ -218,12 +218,30 @@ pub(crate) fn is_twice(twice: &[u8], octets: &[u8]) -> bool {
     one == octets && other == octets
 }
 
+/// Whether what stands before the payload of a transfer is written by itself; of any other frame nothing is.
+fn is_head_written(frame: &Frame, octets: &[u8], out: &mut Vec<u8>, again: bool) -> bool {
+    out.clear();
+    let written = match append_head(frame, 65536, out) {
+        Some(Err(FrameRefusal::NoMemory)) if again => append_head(frame, 65536, out),
+        written => written,
+    };
+    match written {
+        Some(Ok(())) => {
+            let (head, payload) = octets.split_at(out.len().min(octets.len()));
+            out.as_slice() == head && frame.payload.as_slice() == payload
+        }
+        Some(Err(_)) => false,
+        None => out.is_empty(),
+    }
+}
+
 /// Whether these octets are written and appended for the frame, and behind them for a copy of it.
 pub(crate) fn is_each_way(alloc: Global, frame: &Frame, octets: &[u8], again: bool) -> bool {
     let mut out = Vec::new(alloc);
     is_written(alloc, frame, octets, &mut out, again)
         && is_copy_written(alloc, frame, octets, &mut out, again)
         && is_twice(out.as_slice(), octets)
+        && is_head_written(frame, octets, &mut out, again)
 }
 
 /// The octets, shared.
@@ -350,10 +368,13 @@ fn is_written_from_pieces(alloc: Global, framer: &mut Framer, octets: &[u8]) -> 
     false
 }
 
+/// What stands before the payload of a transfer of 5000 octets.
+const HEAD: &[u8] =
+    b"\x00\x00\x13\x88\x02\x00\x00\x00\x00\x53\x14\xc0\x07\x04\x43\x43\xa0\x01\x00\x43";
+
 /// A transfer with 4980 octets of payload: room for it grows from piece to piece.
 fn is_long_in_pieces(alloc: Global) -> bool {
-    let front = b"\x00\x00\x13\x88\x02\x00\x00\x00\x00\x53\x14\xc0\x07\x04\x43\x43\xa0\x01\x00\x43";
-    match long_frame(alloc, front, 5000) {
+    match long_frame(alloc, HEAD, 5000) {
         Ok(long) => {
             let mut framer = Framer::new(alloc, 65536);
             let answer = is_written_from_pieces(alloc, &mut framer, long.as_slice());
@@ -367,6 +388,40 @@ fn is_long_in_pieces(alloc: Global) -> bool {
 #[test]
 fn a_long_frame_in_pieces(rt: HostRuntime) {
     assert!(rt; is_long_in_pieces(rt.alloc()));
+}
+
+/// Whether the payload of a frame whose head came before is the slice that came, and is written from there.
+fn is_shared_behind_its_head(framer: &mut Framer, out: &mut Vec<u8>, payload: Bytes) -> bool {
+    let mut slot = Frame::empty();
+    let head = framer.feed_into(&Octets::lent(HEAD), &mut slot);
+    let behind = framer.feed_into(&Octets::shared(&payload, 0), &mut slot);
+    let is_whole = matches!(head, Ok(Filled::Part(20)))
+        && matches!(behind, Ok(Filled::Whole(4980)));
+    let is_same = slot.payload == payload && append_head(&slot, 65536, out) == Some(Ok(()));
+    let is_shared = payload.reclaim().is_none();
+    drop(slot);
+    is_whole && is_same && is_shared && out.as_slice() == HEAD
+}
+
+fn goes_without_a_copy(alloc: Global) -> bool {
+    let payload = match long_frame(alloc, &[], 4980) {
+        Ok(long) => Bytes::from_vec(long),
+        Err(_) => return false,
+    };
+    let Ok(payload) = payload else {
+        return false;
+    };
+    let mut framer = Framer::new(alloc, 65536);
+    let mut out = Vec::new(alloc);
+    let answer = is_shared_behind_its_head(&mut framer, &mut out, payload);
+    drop(framer);
+    answer
+}
+
+/// What no clause tells: which octets a `Bytes` shares.
+#[test]
+fn a_payload_behind_its_head_is_not_copied(rt: HostRuntime) {
+    assert!(rt; goes_without_a_copy(rt.alloc()));
 }
 
 /// Why a frame of this performative and payload is not written; told by both calls, or else none.

@@ -10,7 +10,7 @@ use Rattle.amqp_performatives.specs.Part.{Part, Fields, absent, value, composite
 use Rattle.amqp_frames.specs.declared.fault.FrameRefusal.{FrameRefusal}
 use Rattle.amqp_frames.specs.declared.fault.FrameRefusal.TheVariants as refusal
 use Rattle.amqp_frames.specs.Field.{composite_datum, list_octets, body_answer, header, size_answer}
-use Rattle.amqp_frames.specs.Plain.{full, before_others, trim, IsShown, AreShown, Appended}
+use Rattle.amqp_frames.specs.Plain.{full, before_others, trim, IsShown, AreShown, Appended, AppendedHead}
 use Rattle.amqp_frames.proofs.Composites.{composite_form, composite_octets}
 use Rattle.amqp_frames.proofs.Measuring.{is_there}
 use Rattle.amqp_types.specs.declared.class.Run.TheVariants as Run
@@ -171,10 +171,10 @@ plain_sized code count end ds x head low high p =
 same_octets : (x y : List ℕ) (form : Option (List ℕ)) → form ≡ Some x → form ≡ Some y → x ≡ y
 same_octets x y form e f = let q : Some x ≡ Some y = sym e ∙ f in cc
 
-pub plain_there : (code count end size channel max : ℕ) (ds : Data) (x head head' payload old out out' : List ℕ) → 14 ≤ end → end ≤ 96 → 96 ≤ length head → IsPlain code count end ds x head → take end head ≡ take 14 head ++ x
+pub plain_there : (code count end size channel max : ℕ) (ds : Data) (x head head' payload old out : List ℕ) → 14 ≤ end → end ≤ 96 → 96 ≤ length head → IsPlain code count end ds x head → take end head ≡ take 14 head ++ x
     → Ok size ≡ size_answer (8 + ((end - 8) + length payload)) max → length (header size channel) ≡ 8 → head' ≡ (header size channel ++ 0x00 ∷ 0x53 ∷ code ∷ 0xc0 ∷ (end - 13) ∷ count ∷ []) ++ drop 14 head
-    → out ≡ old ++ take end head' → out' ≡ out ++ payload → Appended (Ok tt) (body_answer channel max (canon (composite_datum code ds)) payload) old out'
-plain_there code count end size channel max ds x head head' payload old out out' low high room p t s eight h o o' =
+    → out ≡ old ++ take end head' → AppendedHead payload (Ok tt) (body_answer channel max (canon (composite_datum code ds)) payload) old out
+plain_there code count end size channel max ds x head head' payload old out low high room p t s eight h o =
     let front = header size channel ++ 0x00 ∷ 0x53 ∷ code ∷ 0xc0 ∷ (end - 13) ∷ count ∷ [] in
     let there = is_there (end - 8) size channel max (canon (composite_datum code ds)) payload (plain_sized code count end ds x head low high p) s in
     let same : there.0 ≡ 0x00 ∷ 0x53 ∷ code ∷ 0xc0 ∷ (1 + length x) ∷ count ∷ x = same_octets _ _ _ there.1.form_is p.canonical in
@@ -184,5 +184,9 @@ plain_there code count end size channel max ds x head head' payload old out out'
     let exact : front ++ x ≡ header size channel ++ there.0 = append_assoc (header size channel) (0x00 ∷ 0x53 ∷ code ∷ 0xc0 ∷ (end - 13) ∷ count ∷ []) x ∙ ap (λ k. header size channel ++ 0x00 ∷ 0x53 ∷ code ∷ 0xc0 ∷ k ∷ count ∷ x) sized ∙ ap (λ y. header size channel ++ y) (sym same) in (
       header size channel ++ (there.0 ++ payload),
       there.1.answer,
-      o' ∙ ap (λ y. y ++ payload) (o ∙ ap (λ y. old ++ y) (written ∙ exact)) ∙ append_assoc old (header size channel ++ there.0) payload ∙ ap (λ y. old ++ y) (append_assoc (header size channel) there.0 payload),
+      ap (λ y. y ++ payload) (o ∙ ap (λ y. old ++ y) (written ∙ exact)) ∙ append_assoc old (header size channel ++ there.0) payload ∙ ap (λ y. old ++ y) (append_assoc (header size channel) there.0 payload),
     )
+
+-- the payload behind what stands before it
+pub payload_behind : (u : Unit {0}) (answer : Result (List ℕ) FrameRefusal) (payload old out out' : List ℕ) → AppendedHead payload (Ok u) answer old out → out' ≡ out ++ payload → Appended (Ok u) answer old out'
+payload_behind u answer payload old out out' h e = (h.0, h.1, e ∙ h.2)

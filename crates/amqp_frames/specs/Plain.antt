@@ -79,3 +79,8 @@ abbrev pub Appended : Result (Unit {0}) FrameRefusal → Result (List ℕ) Frame
 Appended (Ok u) answer old new = (x : List ℕ) × (answer ≡ Ok x) × (new ≡ old ++ x)
 Appended (Err refusal.NoMemory) (Ok x) old new = new ≡ old
 Appended (Err e) answer old new = (answer ≡ Err e) × (new ≡ old)
+
+-- The same where the payload stays apart: it would make the octets whole.
+abbrev pub AppendedHead : List ℕ → Result (Unit {0}) FrameRefusal → Result (List ℕ) FrameRefusal → List ℕ → List ℕ → Type 0
+AppendedHead payload (Ok u) answer old new = (x : List ℕ) × (answer ≡ Ok x) × (new ++ payload ≡ old ++ x)
+AppendedHead payload (Err e) answer old new = Appended (Err e) answer old new

@@ -1,7 +1,7 @@
 //! Frames written behind octets: transfers, flows and dispositions of plain fields by way of a small buffer, any other as `write_frame` does.
-ghost use Rattle.std.specs.Prelude.{◌≡◌, ◌≤◌, ◌<◌, ◌+◌, ◌-◌, ◌++◌, [], ◌∷◌, ℕ, List, Option, Some, None, IfSome, length, take, option_map, if◌then◌else◌, nat_lt, nat_eq};
+ghost use Rattle.std.specs.Prelude.{◌≡◌, ◌≤◌, ◌<◌, ◌+◌, ◌-◌, ◌++◌, [], ◌∷◌, ℕ, List, Option, Some, None, IfSome, length, take, option_map, if◌then◌else◌, nat_lt, nat_eq, IfNone, OnOk, false, vec_len, vec_capacity};
 ghost use Rattle.std.specs.Int.{to_be_bytes, w32};
-ghost use Rattle.amqp_frames.specs.Plain.{Holds, full, trim, uint_octets, boolean_octets, ubyte_octets, binary_octets, bare_octets, state_of, IsShown, AreShown, Appended};
+ghost use Rattle.amqp_frames.specs.Plain.{Holds, full, trim, uint_octets, boolean_octets, ubyte_octets, binary_octets, bare_octets, state_of, IsShown, AreShown, Appended, AppendedHead};
 ghost use Rattle.amqp_types.specs.Datum.{Data, count_of, greatest_depth_of};
 ghost use Rattle.amqp_types.specs.Canon.{canon, parts_form};
 ghost use Rattle.amqp_performatives.specs.Composite.{type_of};
@@ -352,6 +352,43 @@ fn plain_head(size: u32, channel: u16, code: u8, end: usize, count: usize) -> [u
     ]
 }
 
+/// For how many octets room is made: for those before the payload alone where it stays apart, else for all.
+#[inline(always)]
+fn room_of(apart: bool, end: usize, size: usize) -> usize
+    ensures { result ≡ (if apart then end else size) }
+{
+    if apart { end } else { size }
+}
+
+/// Appends what stands before the payload of the frame whose fields stand in the buffer from its fifteenth place on, so many as are shown.
+#[inline(always)]
+fn append_plain_head(
+    envelope: &Envelope<'_>,
+    composite: Composite,
+    shown: (usize, usize),
+    apart: bool,
+    head: &mut [u8; ROOM],
+    out: &mut Vec<u8>,
+) -> Result<(), FrameRefusal>
+    requires some { (0 < shown.1) × (shown.1 < 256) }
+    requires bound { (14 ≤ shown.0) × (shown.0 ≤ 96) }
+    ensures head { (ds : Data) (x : List ℕ) → parts_form ds None ≡ Some x → count_of ds ≡ shown.1 → greatest_depth_of ds ≤ 3 → take shown.0 head.old ≡ take 14 head.old ++ x → AppendedHead envelope.now.payload.now result (body_answer envelope.now.channel envelope.now.max (canon (composite_datum (type_of composite).0 ds)) envelope.now.payload.now) out.old.items out.new.items }
+    ensures room { false ≡ apart → OnOk result (vec_len out.new + length envelope.now.payload.now ≤ vec_capacity out.new) }
+{
+    let (end, count) = shown;
+    let code = composite.number();
+    let size = match frame_size((end - 8) as u64, envelope.payload.len(), envelope.max) {
+        Ok(size) => size,
+        Err(refusal) => return Err(refusal),
+    };
+    head[..14].copy_from_slice(&plain_head(size, envelope.channel, code, end, count));
+    let Ok(()) = out.reserve(room_of(apart, end, size as usize)) else {
+        return Err(FrameRefusal::NoMemory);
+    };
+    out.extend_from_slice(&head[..end]).unwrap();
+    Ok(())
+}
+
 /// Appends the frame whose fields stand in the buffer from its fifteenth place on, so many as are shown.
 #[inline(always)]
 fn append_plain(
@@ -365,20 +402,29 @@ fn append_plain(
     requires bound { (14 ≤ shown.0) × (shown.0 ≤ 96) }
     ensures { (ds : Data) (x : List ℕ) → parts_form ds None ≡ Some x → count_of ds ≡ shown.1 → greatest_depth_of ds ≤ 3 → take shown.0 head.old ≡ take 14 head.old ++ x → Appended result (body_answer envelope.now.channel envelope.now.max (canon (composite_datum (type_of composite).0 ds)) envelope.now.payload.now) out.old.items out.new.items }
 {
-    let (end, count) = shown;
-    let payload = envelope.payload;
-    let code = composite.number();
-    let size = match frame_size((end - 8) as u64, payload.len(), envelope.max) {
-        Ok(size) => size,
-        Err(refusal) => return Err(refusal),
-    };
-    head[..14].copy_from_slice(&plain_head(size, envelope.channel, code, end, count));
-    let Ok(()) = out.reserve(size as usize) else {
-        return Err(FrameRefusal::NoMemory);
-    };
-    out.extend_from_slice(&head[..end]).unwrap();
-    out.extend_from_slice(payload).unwrap();
-    Ok(())
+    match append_plain_head(envelope, composite, shown, false, head, out) {
+        Ok(()) => {
+            out.extend_from_slice(envelope.payload).unwrap();
+            Ok(())
+        }
+        Err(refusal) => Err(refusal),
+    }
+}
+
+/// Appends the frame with the transfer but its payload.
+#[inline(always)]
+fn append_transfer_head(
+    envelope: &Envelope<'_>,
+    body: &TransferBody,
+    reached: PlainState,
+    out: &mut Vec<u8>,
+) -> Result<(), FrameRefusal>
+    requires { body.now.state ≡ state_of reached }
+    ensures { AppendedHead envelope.now.payload.now result (body_answer envelope.now.channel envelope.now.max (canon (composite_datum (type_of Composite.Transfer).0 (canonical_fields (transfer_fields body.now)))) envelope.now.payload.now) out.old.items out.new.items }
+{
+    let mut head = [0; ROOM];
+    let shown = put_transfer(body, reached, &mut head);
+    append_plain_head(envelope, Composite::Transfer, shown, true, &mut head, out)
 }
 
 /// Appends the frame with the transfer and the payload.
@@ -480,4 +526,32 @@ pub fn append_frame(frame: &Frame, max: u32, out: &mut Vec<u8>) -> Result<(), Fr
         _ => (),
     }
     append_written(frame, max, out)
+}
+
+/// Writes what stands before the payload of a transfer behind the octets that are there: what `append_frame` writes but the payload, which so is not copied.
+/// It answers none, and writes nothing, where it is no transfer, or one with a state that has fields: `append_frame` writes these.
+///
+/// # Errors
+///
+/// Those of `append_frame`.
+pub fn append_head(frame: &Frame, max: u32, out: &mut Vec<u8>) -> Option<Result<(), FrameRefusal>>
+    ensures some { IfSome result (λ r. AppendedHead frame.now.payload r (write_answer frame.now max) out.old.items out.new.items) }
+    ensures none { IfNone result (out.new.items ≡ out.old.items) }
+{
+    let Some(performative) = &frame.body else {
+        return None;
+    };
+    if !is_fair(performative) {
+        return None;
+    }
+    let Performative::Transfer(body) = performative else {
+        return None;
+    };
+    let reached = bare_state(&body.state)?;
+    let envelope = Envelope {
+        channel: frame.channel,
+        payload: frame.payload.as_slice(),
+        max,
+    };
+    Some(append_transfer_head(&envelope, body, reached, out))
 }

@@ -6,6 +6,7 @@ ghost use Rattle.amqp_performatives.specs.Spelling.{IsPerformative};
 ghost use Rattle.amqp_decoder.specs.Slots.{LeavesFront};
 ghost use Rattle.amqp_frames.specs.Contents.{AreNoContents, BeginsWithPerformative};
 ghost use Rattle.amqp_frames.specs.Slots.{holds_transfer};
+ghost use Rattle.std.specs.Bool.{OnTrue};
 
 use crate::fault::FrameFault;
 use crate::frame::Frame;
@@ -17,22 +18,24 @@ use amqp_types::{Descriptor, read_descriptor, skip_value};
 use bytes::Bytes;
 use std::alloc::Global;
 
-/// Leaves the frame of contents in the slot that lie in the octets from one place up to another. An octet after a performative that is no transfer is a
-/// fault, also where memory is refused; after a fault the slot may hold anything.
+/// Leaves the frame of contents in the slot that lie in the octets from one place up to another; the piece is their slice. An octet after a performative that
+/// is no transfer is a fault, also where memory is refused; after a fault the slot may hold anything.
 #[inline(always)]
 pub(crate) fn read_contents(
     alloc: Global,
     channel: u16,
+    piece: &[u8],
     octets: &Octets<'_>,
     start: usize,
     end: usize,
     slot: &mut Frame,
 ) -> Result<(), FrameFault>
+    requires same { piece.now ≡ octets.now }
     requires order { start ≤ end }
     requires within { end ≤ length octets.now }
     ensures { MatchResult result (λ _. (slot.new.channel ≡ channel) × AreContents slot.new.body slot.new.payload (take (end - start) (drop start octets.now))) (λ fault. AreNoContents fault (take (end - start) (drop start octets.now))) }
 {
-    let contents = &octets.as_slice()[start..end];
+    let contents = &piece[start..end];
     slot.channel = channel;
     if contents.is_empty() {
         slot.body = None;
@@ -77,6 +80,32 @@ fn read_payload(
         Ok(()) => Ok(()),
         Err(_) => Err(FrameFault::NoMemory),
     }
+}
+
+/// Leaves the frame in the slot whose contents lie in two places, a transfer's performative in the head and the payload in the octets, up to this place, and
+/// tells whether it did. Where the head is anything else, or memory is refused, the slot may hold anything.
+pub(crate) fn read_behind(
+    alloc: Global,
+    channel: u16,
+    head: &[u8],
+    octets: &Octets<'_>,
+    end: usize,
+    slot: &mut Frame,
+) -> bool
+    requires { end ≤ length octets.now }
+    ensures { OnTrue result ((slot.new.channel ≡ channel) × AreContents slot.new.body slot.new.payload (head.now ++ take end octets.now)) }
+{
+    let Ok(size) = read_performative_into(alloc, head, &mut slot.body) else {
+        return false;
+    };
+    if size != head.len() {
+        return false;
+    }
+    if !holds_transfer(&slot.body) {
+        return false;
+    }
+    slot.channel = channel;
+    octets.part_into(alloc, 0, end, &mut slot.payload).is_ok()
 }
 
 #[inline(always)]

@@ -5,9 +5,10 @@ ghost use Rattle.amqp_frames.specs.Header.{BeginsWith, IsHeaderPart, IsHeaderFau
 ghost use Rattle.amqp_frames.specs.Contents.{AreNoContents};
 ghost use Rattle.amqp_frames.specs.Framer.{Feeds, Roomy};
 ghost use Rattle.amqp_frames.specs.Slots.{FeedsSlot, RoomySlot, used_in};
+ghost use Rattle.std.specs.Bool.{OnTrue};
 
 use crate::buffer::Buffer;
-use crate::contents::{front_fault, read_contents};
+use crate::contents::{front_fault, read_behind, read_contents};
 use crate::fault::FrameFault;
 use crate::filled::Filled;
 use crate::frame::Frame;
@@ -94,16 +95,33 @@ impl Framer {
     ///
     /// A fault is answered as soon as the octets show it (`FrameFault`): the size once four octets of the frame are there, the rest of its
     /// header once eight are, its body once it is whole. After a fault the framer is as before. A frame that lies whole in the octets is
-    /// read in place; its payload is a slice of shared octets, which it keeps alive, and of lent ones is copied once. Want of memory is told of octets that
-    /// show no fault.
+    /// read in place; its payload is a slice of shared octets, which it keeps alive, and of lent ones is copied once. So is a payload that lies whole in the
+    /// octets, behind a performative that was kept. Want of memory is told of octets that show no fault.
+    #[inline(always)]
     pub fn feed_into(&mut self, octets: &Octets<'_>, slot: &mut Frame) -> Result<Filled, FrameFault>
         ensures fed { FeedsSlot self.old.state octets.now result slot.new self.new.state }
         ensures room { RoomySlot self.old octets.now result slot.new self.new }
         ensures empty { octets.now ≡ [] → result ≡ Ok (Filled.Part 0) }
         ensures progress { octets.now ≢ [] → IfOk result (λ filled. 0 < used_in filled) }
     {
-        match self.whole_front(octets.as_slice()) {
-            Some(header) => self.finish_in_place(header, octets, 0, slot),
+        self.feed_piece(octets.as_slice(), octets, slot)
+    }
+
+    /// As `feed_into`, with the slice of the octets beside them: it comes in registers, where a first read of what an `Octets` in memory has waits for its stores.
+    fn feed_piece(
+        &mut self,
+        piece: &[u8],
+        octets: &Octets<'_>,
+        slot: &mut Frame,
+    ) -> Result<Filled, FrameFault>
+        requires same { piece.now ≡ octets.now }
+        ensures fed { FeedsSlot self.old.state octets.now result slot.new self.new.state }
+        ensures room { RoomySlot self.old octets.now result slot.new self.new }
+        ensures empty { octets.now ≡ [] → result ≡ Ok (Filled.Part 0) }
+        ensures progress { octets.now ≢ [] → IfOk result (λ filled. 0 < used_in filled) }
+    {
+        match self.whole_front(piece) {
+            Some(header) => self.finish_in_place(header, piece, octets, 0, slot),
             None => self.feed_apart(octets, slot),
         }
     }
@@ -214,10 +232,14 @@ impl Framer {
             return self.keep(octets, size);
         }
         if count <= header.start() {
-            self.finish_in_place(header, octets, count, slot)
-        } else {
-            self.finish(header, octets, missing, slot)
+            return self.finish_in_place(header, piece, octets, count, slot);
         }
+        if self.reads_behind(header, octets, missing, slot) {
+            self.before = Some(count);
+            self.is_done = true;
+            return Ok(Filled::Whole(missing));
+        }
+        self.finish(header, octets, missing, slot)
     }
 
     /// Leaves the frame in the slot that the octets make whole, where all contents lie in them, and so many octets are kept.
@@ -225,10 +247,12 @@ impl Framer {
     fn finish_in_place(
         &mut self,
         header: Header,
+        piece: &[u8],
         octets: &Octets<'_>,
         count: usize,
         slot: &mut Frame,
     ) -> Result<Filled, FrameFault>
+        requires same { piece.now ≡ octets.now }
         requires begins { BeginsWith header self.old.state.max_size (self.old.state.kept ++ octets.now) }
         requires kept { count ≡ length self.old.state.kept }
         requires whole { header.size ≤ count + length octets.now }
@@ -240,6 +264,7 @@ impl Framer {
         match read_contents(
             self.buffer.allocator(),
             header.channel,
+            piece,
             octets,
             header.start() - count,
             missing,
@@ -252,6 +277,29 @@ impl Framer {
             }
             Err(fault) => Err(fault),
         }
+    }
+
+    /// Leaves the frame in the slot that the octets make whole, where what is kept ends with a transfer's performative, and tells whether it did: so nothing is
+    /// joined, and the payload is read where it lies. A frame of which more is kept was most likely cut within its payload, and would be read twice.
+    #[inline(never)]
+    fn reads_behind(
+        &self,
+        header: Header,
+        octets: &Octets<'_>,
+        missing: usize,
+        slot: &mut Frame,
+    ) -> bool
+        requires whole { missing ≤ length octets.now }
+        requires place { 4 * header.doff < length self.now.state.kept }
+        ensures { OnTrue result ((slot.new.channel ≡ header.channel) × AreContents slot.new.body slot.new.payload (drop (4 * header.doff) self.now.state.kept ++ take missing octets.now)) }
+    {
+        let kept = self.kept();
+        if kept.len() > MIN_MAX_FRAME_SIZE {
+            return false;
+        }
+        let head = &kept[header.start()..];
+        let alloc = self.buffer.allocator();
+        read_behind(alloc, header.channel, head, octets, missing, slot)
     }
 
     /// Leaves the frame in the slot that the octets make whole, where contents are kept.
@@ -276,11 +324,12 @@ impl Framer {
             return Err(front_fault(&self.buffer.as_slice()[header.start()..], &piece[..missing]));
         };
         self.buffer.append(&piece[..missing]);
-        let joined = Octets::lent(self.buffer.as_slice());
+        let joined = self.buffer.as_slice();
         match read_contents(
             self.buffer.allocator(),
             header.channel,
-            &joined,
+            joined,
+            &Octets::lent(joined),
             header.start(),
             header.size as usize,
             slot,

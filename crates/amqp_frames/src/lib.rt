@@ -9,7 +9,7 @@
 //! | `laws` | what octets in a frame's place are, and that cutting makes no difference |
 //!
 //! - [`Frame`]: a channel, a performative and a transfer's payload
-//! - Writing: [`write_frame`] into octets of its own; [`append_frame`] behind others, as for a batch. [`measure_frame`] tells without memory whether
+//! - Writing: [`write_frame`] into octets of its own; [`append_frame`] behind others, as for a batch; [`append_head`] what stands before a transfer's payload. [`measure_frame`] tells without memory whether
 //!   and in how many octets a frame is written, and [`write_measured`] writes it then; [`frame_refusal`] tells the refusal alone.
 //! - Measures before a body is made, from lent parts: [`measure_open`], [`measure_begin`], [`measure_attach`], [`measure_resuming`], [`measure_disposition`], [`measure_detach`], [`measure_end`]
 //! - Reading: [`Framer`] takes pieces of a stream ([`Octets`], lent or shared), by `feed_into`, `feed` or `feed_all`, and tells a [`FrameFault`]
@@ -40,7 +40,7 @@ pub use amqp_performatives::{
     AmqpError, AttachBody, BeginBody, CloseBody, DeliveryState, DetachBody, DispositionBody,
     EndBody, FlowBody, OpenBody, Performative, Role, TransferBody,
 };
-pub use append::append_frame;
+pub use append::{append_frame, append_head};
 pub use fair::is_fair_state;
 pub use fault::{FrameFault, FrameRefusal};
 pub use filled::Filled;

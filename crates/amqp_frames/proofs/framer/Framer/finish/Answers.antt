@@ -47,7 +47,7 @@ returns-in-Ok-read_contents-clause-fed c =
     let some : 0 < length kept = omega (arith, c.requires.begins.low, c.requires.place) in
     let same = not_done c.self.inside.is_done c.self.inside.buffer.octets kept held some in
     let items = c.append.ensures.octets ∙ ap (λ (t : List ℕ). t ++ take c.args.missing c.as_slice-piece.result.now) c.reserve.ensures.octets ∙ ap (λ (t : List ℕ). c.self.inside.buffer.octets ++ take c.args.missing t) c.as_slice-piece.ensures in
-    let at = in_joined kept c.args.octets.now c.lent-joined.result (4 * c.args.header.doff) c.start-2.result c.args.header.size c.args.missing c.start-2.ensures (c.lent-joined.ensures ∙ c.as_slice-2.ensures ∙ items ∙ ap (λ (t : List ℕ). t ++ take c.args.missing c.args.octets.now) same) c.requires.whole c.requires.size in
+    let at = in_joined kept c.args.octets.now c.lent.result (4 * c.args.header.doff) c.start-2.result c.args.header.size c.args.missing c.start-2.ensures (c.lent.ensures ∙ c.as_slice-joined.ensures ∙ items ∙ ap (λ (t : List ℕ). t ++ take c.args.missing c.args.octets.now) same) c.requires.whole c.requires.size in
     let f = framed c.read_contents.new.slot c.args.header c.args.self.now.state.max_size c.args.missing kept c.args.octets.now _ c.requires.begins c.requires.size c.requires.whole at c.in-Ok-read_contents.ensures.0 c.in-Ok-read_contents.ensures.1 in
     (c.requires.whole, f.0, f.1, done_view _ _ _ _ kept (ap view_max c.self.view_is) (front_taken c.append.new.self.octets c.self.inside.buffer.octets (take c.args.missing c.args.octets.now) c.kept-count.result.now kept items same c.kept-count.ensures.value))
 
@@ -59,7 +59,7 @@ returns-in-Err-clause-fed c =
     let same = not_done c.self.inside.is_done c.self.inside.buffer.octets kept held some in
     let items = c.append.ensures.octets ∙ ap (λ (t : List ℕ). t ++ take c.args.missing c.as_slice-piece.result.now) c.reserve.ensures.octets ∙ ap (λ (t : List ℕ). c.self.inside.buffer.octets ++ take c.args.missing t) c.as_slice-piece.ensures in
     let back = c.truncate.ensures.octets ∙ front_taken c.append.new.self.octets c.self.inside.buffer.octets (take c.args.missing c.args.octets.now) c.kept-count.result.now kept items same c.kept-count.ensures.value ∙ sym same in
-    let at = in_joined kept c.args.octets.now c.lent-joined.result (4 * c.args.header.doff) c.start-2.result c.args.header.size c.args.missing c.start-2.ensures (c.lent-joined.ensures ∙ c.as_slice-2.ensures ∙ items ∙ ap (λ (t : List ℕ). t ++ take c.args.missing c.args.octets.now) same) c.requires.whole c.requires.size in
+    let at = in_joined kept c.args.octets.now c.lent.result (4 * c.args.header.doff) c.start-2.result c.args.header.size c.args.missing c.start-2.ensures (c.lent.ensures ∙ c.as_slice-joined.ensures ∙ items ∙ ap (λ (t : List ℕ). t ++ take c.args.missing c.args.octets.now) same) c.requires.whole c.requires.size in
     (refused _ c.args.header _ c.args.missing kept c.args.octets.now _ c.requires.begins c.requires.size c.requires.whole at c.in-Err.ensures, same_view c.self.inside.max_size c.self.inside.is_done c.self.inside.before c.truncate.new.self.octets c.self.inside.buffer.octets back ∙ ap view_state c.self.view_is)
 
 pub returns-in-Ok-read_contents-clause-room : goal.returns-in-Ok-read_contents-clause-room
