@@ -3,7 +3,7 @@
 use crate::hand::{Counts, Hand};
 use crate::session::Messages;
 use amqp_conn::{
-    Bytes, Config, Conn, ConnFault, Fed, Octets, Phase, Refusal, Role, StartFault, Text,
+    Bytes, Config, Conn, ConnFault, Fed, Octets, Phase, Refusal, Role, Sliced, StartFault, Text,
 };
 use std::alloc::{AllocError, Global};
 use thiserror::Error;
@@ -73,7 +73,27 @@ impl End {
         Ok(())
     }
 
+    /// Takes a unit of the peer's.
+    fn hear_all(&mut self, unit: Sliced) -> Result<(), EndFault> {
+        let (head, rest) = unit.into_slices();
+        if let Err(fault) = self.hear(&head) {
+            drop(rest);
+            return Err(fault);
+        }
+        match rest {
+            Some(rest) => self.hear_rest(&rest),
+            None => Ok(()),
+        }
+    }
+
+    /// As `hear`, out of line, since few units have a second slice.
+    #[inline(never)]
+    fn hear_rest(&mut self, octets: &Bytes) -> Result<(), EndFault> {
+        self.hear(octets)
+    }
+
     /// Takes octets of the peer's.
+    #[inline(always)]
     fn hear(&mut self, octets: &Bytes) -> Result<(), EndFault> {
         let mut from = 0;
         for _ in 0..u64::MAX {
@@ -87,6 +107,7 @@ impl End {
         Ok(())
     }
 
+    #[inline(always)]
     fn take(&mut self, fed: Fed) -> Result<(), EndFault> {
         let Fed { stepped, given, .. } = fed;
         if stepped {
@@ -95,7 +116,7 @@ impl End {
         Ok(())
     }
 
-    fn pop(&mut self) -> Option<Bytes> {
+    fn pop(&mut self) -> Option<Sliced> {
         match self.conn.pop_unit() {
             Some(unit) => Some(unit.bytes),
             None => None,
@@ -110,7 +131,7 @@ pub fn exchange(from: &mut End, to: &mut End) -> Result<bool, EndFault> {
         match from.pop() {
             Some(octets) => {
                 is_any = true;
-                to.hear(&octets)?;
+                to.hear_all(octets)?;
             }
             None => break,
         }

@@ -1,5 +1,5 @@
 -- Octets that are written a part at a time.
-use Rattle.std.proofs.Common.{◌≡◌, ◌≤◌, ◌+◌, ◌-◌, ℕ, List, ◌++◌, length, take, drop, Option, Some, None, sym, ap, ◌∙◌, subst, arith, length-drop}
+use Rattle.std.proofs.Common.{◌≡◌, ◌≤◌, ◌+◌, ◌-◌, ℕ, List, ◌++◌, length, take, drop, Option, Some, None, sym, ap, ◌∙◌, subst, arith, length-drop, append_assoc}
 use Rattle.std.proofs.lemmas.List.{take-append-drop, length-take-le, take_all}
 use Rattle.std.proofs.Math.Seq.{take-append-add}
 use Rattle.std.specs.Io.KnownBytes.{Appends, Keeps}
@@ -27,3 +27,7 @@ appends_more a b c n m xs h p q =
     let all : take (length xs - n) (drop n xs) ≡ drop n xs = take_all (length xs - n) (drop n xs) (omega (arith, length-drop n xs)) in
     let more : Appends b c (take m (drop n xs)) = subst (λ (t : List ℕ). Appends b c (take m t)) all q in
     subst (λ (t : List ℕ). Appends a c t) (sym (take_more n m xs h)) (appends-then a b c (take n xs) (take m (drop n xs)) p more)
+
+-- octets, and then a front of others
+pub front_behind : (a b c : Option (List ℕ)) (xs ys : List ℕ) → Appends a b xs → AppendsFront b c ys → AppendsFront a c (xs ++ ys)
+front_behind a b c xs ys p h = record { front = xs ++ h.front; back = h.back; split = ap (λ t. xs ++ t) h.split ∙ sym (append_assoc xs h.front h.back); appends = appends-then a b c xs h.front p h.appends }

@@ -48,7 +48,7 @@
 //!
 //! ```text
 //! loop {
-//!     while let Some(unit) = conn.pop_unit() { socket.write_all(unit.bytes.as_slice())?; }
+//!     while let Some(unit) = conn.pop_unit() { let (head, rest) = unit.bytes.slices(); socket.write_all(head)?; socket.write_all(rest)?; }
 //!     if conn.phase() == Phase::Closed { break; }
 //!     let count = socket.read(&mut buffer)?;
 //!     if count == 0 { conn.lost(); break; }
@@ -143,6 +143,7 @@ pub use amqp_links::link::Link;
 pub use amqp_rules::op::{Op, Rejoin};
 pub use amqp_rules::refusal::Refusal;
 pub use amqp_rules::reply::{Given, Learned, Resumed, Suspended, Taken};
+pub use amqp_rules::sliced::Sliced;
 pub use amqp_rules::violation::{Violation, ViolationKind};
 pub use amqp_types::{Boxed, Tag, Text, Value};
 pub use amqp_waiting::{Brought, SuspendedItem, Verdict};

@@ -1,10 +1,11 @@
 //! A connection over a source and a sink.
 ghost use Rattle.std.specs.Prelude.{ℕ, List, Option, Err, ◌≡◌, ◌≢◌, ◌<◌, ◌≤◌, ◌+◌, ◌-◌, ◌^◌, [], length, drop, IfOk, IfErr, IfSome, OnOk, OnErr, MatchBool};
 ghost use Rattle.std.specs.Bool.{OnTrue, OnFalse};
+ghost use Rattle.std.specs.Io.KnownBytes.{Appends};
 ghost use Rattle.amqp_journal.specs.Units.{units, waiting, PutWithin};
 ghost use Rattle.amqp_conn.specs.Connection.{IsQuiet};
 ghost use Rattle.amqp_conn.specs.Feeding.{Feeds, IsFed};
-ghost use Rattle.amqp_conn.specs.Pumping.{line, Fails, Runs, AllWent, OnlyWrote, CountsFailures, Adds, Tells};
+ghost use Rattle.amqp_conn.specs.Pumping.{line, AppendsFront, Fails, Runs, AllWent, OnlyWrote, CountsFailures, Adds, Tells};
 ghost use Rattle.amqp_conn.specs.Turning.{GoesOn, Took, IsTaken, ClosesWell, StoppedBy, WritesOne, WriteFails, TellsLast, CountsWrites, FedAll, Turned, TurnFails};
 
 use crate::conn::Conn;
@@ -15,6 +16,7 @@ use crate::phase::Phase;
 use crate::pump::Pump;
 use amqp_frames::Octets;
 use amqp_rules::reply::Given;
+use amqp_rules::sliced::Sliced;
 use thiserror::Error;
 
 /// Why a pump stopped.
@@ -158,6 +160,28 @@ fn feed_all<H: Hears>(conn: &mut Conn, each: &mut H, piece: &[u8]) -> Result<(),
     Ok(())
 }
 
+/// Octets go out, slice by slice.
+fn write_slices<K: Sink>(sink: &mut K, octets: &Sliced) -> Result<(), Failed>
+    requires { K.failed sink.old < 2 ^ 64 - 1 }
+    ensures octets { OnOk result (Appends (K.written sink.old) (K.written sink.new) octets.now) }
+    ensures front { OnErr result (AppendsFront (K.written sink.old) (K.written sink.new) octets.now) }
+    ensures ok { OnOk result (K.failed sink.new ≡ K.failed sink.old) }
+    ensures err { OnErr result (K.failed sink.new ≡ K.failed sink.old + 1) }
+{
+    let (head, rest) = octets.slices();
+    match sink.write_all(head) {
+        Ok(()) => {}
+        Err(failed) => return Err(failed),
+    }
+    if rest.is_empty() {
+        return Ok(());
+    }
+    match sink.write_all(rest) {
+        Ok(()) => Ok(()),
+        Err(failed) => Err(failed),
+    }
+}
+
 /// One unit goes out; or none waits.
 fn write_unit<K: Sink>(sink: &mut K, conn: &mut Conn) -> Result<bool, Failed>
     requires { K.failed sink.old < 2 ^ 64 - 1 }
@@ -174,7 +198,7 @@ fn write_unit<K: Sink>(sink: &mut K, conn: &mut Conn) -> Result<bool, Failed>
     let Some(unit) = conn.pop_unit() else {
         return Ok(false);
     };
-    match sink.write_all(unit.bytes.as_slice()) {
+    match write_slices(sink, &unit.bytes) {
         Ok(()) => Ok(true),
         Err(failed) => Err(failed),
     }

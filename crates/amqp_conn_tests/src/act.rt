@@ -15,7 +15,7 @@ pub(crate) enum Act {
     Bare(Role, u64),
     /// With this tag; whether it is settled, and whether more follows. Its payload has memory of its own.
     Start(u32, u8, bool, bool),
-    /// Whether more follows.
+    /// Whether more follows. Its payload is long.
     Carry(u32, bool),
     /// With this tag, and a payload that is none of the allocator's.
     Send(u32, u8),
@@ -100,6 +100,9 @@ fn bare(name: Text, role: Role, max_message: u64) -> Op {
         max_message,
     }
 }
+
+/// A payload that is sent from where it stands.
+const LONG: [u8; 5000] = [0x61; 5000];
 
 /// A transfer with this payload.
 fn transfer(act: Act, payload: Bytes) -> Op {
@@ -201,9 +204,8 @@ fn op(alloc: Global, act: Act) -> Result<Op, AllocError> {
     match act {
         Act::Attach(role, name) => attach(alloc, role, name),
         Act::Bare(role, most) => Ok(bare(Text::new(alloc, "q")?, role, most)),
-        Act::Start(_, _, _, _) | Act::Carry(_, _) => {
-            Ok(transfer(act, Bytes::copy_from_slice(alloc, b"payload")?))
-        }
+        Act::Start(_, _, _, _) => Ok(transfer(act, Bytes::copy_from_slice(alloc, b"payload")?)),
+        Act::Carry(_, _) => Ok(transfer(act, Bytes::copy_from_slice(alloc, &LONG)?)),
         Act::Dispose(role, first, last, settled, state) => {
             dispose(role, first, last, settled, told(alloc, state))
         }

@@ -3,11 +3,11 @@ ghost use Rattle.std.specs.Prelude.{◌≡◌, ◌<◌, ◌^◌, OnOk, OnErr, If
 ghost use Rattle.amqp_steps.specs.Plan.{IsSound, KeepsApart, octets_sent, plan_reply, planned};
 
 use crate::reply::Reply;
+use amqp_rules::sliced::Sliced;
 use amqp_steps::cutting::Cutter;
 use amqp_steps::plan::{Plan, Session};
 use amqp_steps::sending::list_sent;
 use amqp_steps::stores::Stores;
-use bytes::Bytes;
 use std::alloc::{AllocError, Global};
 use std::marker::Model;
 
@@ -87,7 +87,7 @@ impl Model for Endpoint {
 impl Endpoint {
     /// Does what was planned of this endpoint, since when no step was done: its reply, and a handle of the octets that are sent. All memory is
     /// asked for before anything changes.
-    pub(crate) fn commit(&mut self, plan: Plan) -> Result<(Reply, Option<Bytes>), AllocError>
+    pub(crate) fn commit(&mut self, plan: Plan) -> Result<(Reply, Option<Sliced>), AllocError>
         requires steps { self.old.steps < 2 ^ 30 }
         requires sound { IsSound self.old plan }
         requires apart { KeepsApart self.old (planned self.old plan) }

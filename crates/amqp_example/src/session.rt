@@ -219,7 +219,8 @@ fn hand_on(alloc: Global, lines: &mut Vec<u8>, from: &mut End, to: &mut End) -> 
     let Some(unit) = from.logged.pop_unit() else {
         return Ok(());
     };
-    let heard = to.hear(alloc, lines, unit.bytes.as_slice());
+    let joined = unit.bytes.join(alloc);
     drop(unit);
-    heard
+    let octets = joined?;
+    to.hear(alloc, lines, octets.as_slice())
 }

@@ -218,9 +218,10 @@ fn write_to_peer<N: Name>(
     let Some(unit) = units.take() else {
         return peer.hear(alloc, lines, &[]);
     };
-    let answer = peer.hear(alloc, lines, unit.bytes.as_slice());
+    let joined = unit.bytes.join(alloc);
     drop(unit);
-    answer
+    let octets = joined?;
+    peer.hear(alloc, lines, octets.as_slice())
 }
 
 /// Feeds all of the octets.

@@ -31,6 +31,7 @@ use amqp_rules::config::Config;
 use amqp_rules::op::Op;
 use amqp_rules::refusal::Refusal;
 use amqp_rules::reply::{Given, Reply};
+use amqp_rules::sliced::Sliced;
 use amqp_rules::violation::{Violation, ViolationKind};
 use amqp_types::{Boxed, Items};
 use bytes::Bytes;
@@ -54,7 +55,7 @@ pub struct Logged {
     journal: Vec<Entry>,
     /// What was put, each with the number of entries before it.
     put: Vec<(u64, Bytes)>,
-    waiting: VecDeque<Bytes>,
+    waiting: VecDeque<Sliced>,
     /// How many octets wait.
     octets: u128,
     popped: u64,
@@ -364,7 +365,7 @@ impl Logged {
         room_for_put(&mut self.put, &mut self.waiting)?;
         self.put
             .push_reserved((self.endpoint.steps() as u64, octets));
-        queue(&mut self.waiting, &mut self.octets, Some(copy));
+        queue(&mut self.waiting, &mut self.octets, Some(Sliced::one(copy)));
         Ok(())
     }
 
@@ -487,7 +488,7 @@ fn heard_refused(endpoint: &Endpoint, frame: &Frame) -> Violation
 }
 
 /// Room for one entry and one unit more.
-fn room_for_one(journal: &mut Vec<Entry>, waiting: &mut VecDeque<Bytes>) -> Result<(), AllocError>
+fn room_for_one(journal: &mut Vec<Entry>, waiting: &mut VecDeque<Sliced>) -> Result<(), AllocError>
     ensures journal { journal.new.items ≡ journal.old.items }
     ensures waiting { waiting.new.items ≡ waiting.old.items }
     ensures room { OnOk result (vec_len journal.new < vec_capacity journal.new) }
@@ -500,7 +501,7 @@ fn room_for_one(journal: &mut Vec<Entry>, waiting: &mut VecDeque<Bytes>) -> Resu
 /// Room for one entry and one unit more; and what the operation leaves is behind what was left.
 fn room_to_do(
     journal: &mut Vec<Entry>,
-    waiting: &mut VecDeque<Bytes>,
+    waiting: &mut VecDeque<Sliced>,
     left: &mut VecDeque<Left>,
     endpoint: &Endpoint,
     op: &Op,
@@ -519,7 +520,7 @@ fn room_to_do(
 /// The same for a frame that is heard.
 fn room_to_hear(
     journal: &mut Vec<Entry>,
-    waiting: &mut VecDeque<Bytes>,
+    waiting: &mut VecDeque<Sliced>,
     left: &mut VecDeque<Left>,
     endpoint: &Endpoint,
     frame: &Frame,
@@ -538,7 +539,7 @@ fn room_to_hear(
 /// The same as `room_to_do`, and the step with its copy of the operation.
 fn room_for_own(
     journal: &mut Vec<Entry>,
-    waiting: &mut VecDeque<Bytes>,
+    waiting: &mut VecDeque<Sliced>,
     left: &mut VecDeque<Left>,
     endpoint: &Endpoint,
     op: &Op,
@@ -566,7 +567,7 @@ fn room_for_own(
 /// Room for what is put, in its list and in the queue.
 fn room_for_put(
     put: &mut Vec<(u64, Bytes)>,
-    waiting: &mut VecDeque<Bytes>,
+    waiting: &mut VecDeque<Sliced>,
 ) -> Result<(), AllocError>
     ensures put { put.new.items ≡ put.old.items }
     ensures waiting { waiting.new.items ≡ waiting.old.items }
@@ -578,7 +579,7 @@ fn room_for_put(
 }
 
 /// The unit of a step waits behind the others, and its octets are counted; there is room for it.
-fn queue(waiting: &mut VecDeque<Bytes>, octets: &mut u128, unit: Option<Bytes>)
+fn queue(waiting: &mut VecDeque<Sliced>, octets: &mut u128, unit: Option<Sliced>)
     requires { deque_len waiting.old < deque_capacity waiting.old }
     ensures waiting { waiting.new.items ≡ waiting.old.items ++ option_to_list unit }
     ensures counted { IsCounted octets.old waiting.old.items → IsCounted octets.new waiting.new.items }

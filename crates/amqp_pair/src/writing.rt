@@ -2,7 +2,7 @@
 //! its peer reads, so a thread beside it writes what it has put out.
 use crate::end::End;
 use crate::fault::PairFault;
-use amqp_shared::{Bytes, Name, Shared, WriterEnd};
+use amqp_shared::{Bytes, Name, Shared, Sliced, WriterEnd};
 use std::alloc::Global;
 use std::io;
 use std::io::{ErrorKind, IoSlice, Write};
@@ -50,7 +50,7 @@ impl Batch {
         self.copied.len() > BATCH - LONG || self.longs.len() >= LONGS
     }
 
-    /// Puts a unit behind the others. What does not fit beside it is written before.
+    /// Puts octets behind the others. What does not fit beside them is written before.
     fn put(&mut self, stream: &mut TcpStream, octets: Bytes) -> io::Result<()> {
         if self.is_full() {
             if let Err(fault) = self.write(stream) {
@@ -175,12 +175,25 @@ impl<N: Name> Outgoing<N> {
         unreachable!()
     }
 
+    /// Puts a unit behind the others, a long payload as a part of its own.
+    fn put(&mut self, octets: Sliced) -> io::Result<()> {
+        let (head, rest) = octets.into_slices();
+        if let Err(fault) = self.batch.put(&mut self.stream, head) {
+            drop(rest);
+            return Err(fault);
+        }
+        match rest {
+            Some(rest) => self.batch.put(&mut self.stream, rest),
+            None => Ok(()),
+        }
+    }
+
     /// Takes what is in the ring: how many units.
     fn take_all<R: Wait>(&mut self, rt: &R) -> io::Result<u64> {
         let before = self.end.taken();
         for _ in rt.forever() {
             match self.end.take() {
-                Some(unit) => self.batch.put(&mut self.stream, unit.bytes)?,
+                Some(unit) => self.put(unit.bytes)?,
                 None => return Ok(self.end.taken().saturating_sub(before)),
             }
         }

@@ -1,9 +1,12 @@
 -- Octets that are written a part at a time.
-use Rattle.std.proofs.Common.{◌≡◌, ◌≤◌, ◌<◌, ◌-◌, ℕ, zero, suc, List, [], ◌∷◌, ◌++◌, length, take, drop, Option, refl, sym, ap, ◌∙◌, arith, append_assoc}
-use Rattle.std.proofs.lemmas.List.{take-append-drop}
+use Rattle.std.proofs.Common.{◌≡◌, ◌≤◌, ◌<◌, ◌-◌, ℕ, zero, suc, List, [], ◌∷◌, ◌++◌, length, take, drop, Option, refl, sym, ap, subst, ◌∙◌, arith, append_assoc, length-append}
+use Rattle.std.specs.Prelude.{Result, Ok, Err, IfOk}
+use Rattle.std.proofs.lemmas.List.{take-append-drop, take-append-le}
 use Rattle.std.proofs.KnownBytes.{Appends-nil, Appends-trans, Appends-kept}
 use Rattle.std.specs.Io.KnownBytes.{Appends, Keeps}
-use Rattle.amqp_ready.specs.Moving.{PassesOn}
+use Rattle.amqp_ready.specs.declared.device.Moved.{Moved}
+use Rattle.amqp_ready.specs.declared.device.Moved.TheVariants.{Octets, Waits}
+use Rattle.amqp_ready.specs.Moving.{PassesOn, MovesSome, Writes, count}
 
 -- so many of the first, and the others of the second
 pub drop-both : (n o : ℕ) (xs ys : List ℕ) → o ≤ n → o ≤ length xs → (o < n → length xs ≤ o) → drop o xs ++ drop (n - o) ys ≡ drop n (xs ++ ys)
@@ -33,3 +36,18 @@ passes-then a b c x y z p q =
       split = p.split ∙ ap (λ w. p.front ++ w) q.split ∙ sym (append_assoc p.front q.front z);
       appends = Appends-trans a b c p.front q.front p.appends q.appends;
     }
+
+-- what is written of a front is written of all
+pub writes-front : {E : Type 0} (w v : Option (List ℕ)) (r : Result Moved E) (x behind : List ℕ) → IfOk r (λ m. count m ≤ length x) → Writes w v r x → Writes w v r (x ++ behind)
+writes-front w v (Ok (Octets n)) x behind b h = subst (λ (t : List ℕ). Appends w v t) (sym (take-append-le n x behind b)) h
+writes-front w v (Ok Waits) x behind b h = h
+writes-front w v (Err e) x behind b h = h
+
+pub moves-front : {E : Type 0} (r : Result Moved E) (x behind : List ℕ) → (x ≡ [] → ⊥) → IfOk r (MovesSome x) → IfOk r (MovesSome (x ++ behind))
+moves-front (Ok (Octets n)) x behind some h = λ z. absurd (some (h z))
+moves-front (Ok Waits) x behind some h = h
+moves-front (Err e) x behind some h = h
+
+pub bound-front : {E : Type 0} (r : Result Moved E) (x behind : List ℕ) → IfOk r (λ m. count m ≤ length x) → IfOk r (λ m. count m ≤ length (x ++ behind))
+bound-front (Ok m) x behind h = omega (arith, h, length-append x behind)
+bound-front (Err e) x behind h = h

@@ -63,3 +63,16 @@ copied-behind sent short short' long x left within view none same =
 pub long-behind : (sent : ℕ) (short short' long x left : List ℕ) → drop sent short ++ long ≡ left → long ≡ [] → short' ≡ short → drop sent short' ++ x ≡ left ++ x
 long-behind sent short short' long x left view none same =
     ap (λ y. drop sent y ++ x) same ∙ ap (λ y. y ++ x) (sym (append-nil (drop sent short)) ∙ ap (λ y. drop sent short ++ y) (sym none) ∙ view)
+
+-- what is left has more octets behind: a front of them copied, and the others from where they stand
+pub head-behind : (sent : ℕ) (short still copied long more rest x left : List ℕ) → sent ≤ length short → drop sent short ++ long ≡ left → long ≡ [] → still ≡ short → copied ≡ still ++ more → more ++ rest ≡ x → drop sent copied ++ rest ≡ left ++ x
+head-behind sent short still copied long more rest x left within view none same new all =
+    let inside : sent ≤ length still = omega (arith, ap length same, within) in
+    ap (λ y. drop sent y ++ rest) new
+    ∙ ap (λ y. y ++ rest) (drop-append-le sent still more inside)
+    ∙ append_assoc (drop sent still) more rest
+    ∙ ap (λ y. drop sent still ++ y) all
+    ∙ long-behind sent short still long x left view none same
+
+pub both-none : (long last : List ℕ) → long ≡ [] → last ≡ [] → long ++ last ≡ []
+both-none long last e f = ap (λ x. x ++ last) e ∙ f

@@ -1,12 +1,12 @@
 //! Octets on their way out.
-ghost use Rattle.std.specs.Prelude.{◌≡◌, ◌≢◌, ◌≤◌, ◌++◌, ◌==◌, [], length, drop, true, IfOk, OnOk, OnErr};
+ghost use Rattle.std.specs.Prelude.{ℕ, List, ◌≡◌, ◌≢◌, ◌≤◌, ◌++◌, ◌==◌, [], length, drop, true, IfOk, OnOk, OnErr};
 ghost use Rattle.std.specs.Bool.{OnTrue, OnFalse};
 ghost use Rattle.amqp_conn.specs.Pumping.{AllWent, OnlyWrote};
 ghost use Rattle.amqp_ready.specs.Gathering.{Gathers};
-ghost use Rattle.amqp_ready.specs.Moving.{PassesOn, Sends};
+ghost use Rattle.amqp_ready.specs.Moving.{PassesOn, Sends, Writes, MovesSome, count};
 
 use crate::device::{Moved, NonBlocking};
-use amqp_conn::{Conn, Failed};
+use amqp_conn::{Conn, Failed, Sliced};
 use bytes::Bytes;
 use std::alloc::Global;
 use std::marker::Model;
@@ -17,12 +17,13 @@ const LONG: usize = 8192;
 /// No more units are gathered where so many octets are left.
 const GATHERED: usize = 65536;
 
-/// Octets of units that were popped and not written: those of short units, of which so many went out, and behind them the rest of a long one.
+/// Octets of units that were popped and not written: those of short units, of which so many went out, and behind them the rest of a long one, in one or two slices.
 #[derive(Drop)]
 pub struct Outbox {
     short: Vec<u8>,
     sent: usize,
     long: Bytes,
+    last: Bytes,
 }
 
 /// What a connection gave.
@@ -42,14 +43,31 @@ fn has_none(octets: &Bytes) -> bool
 }
 
 /// Copies the octets of a short unit, where there is room: whether it did.
-fn copies(short: &mut Vec<u8>, octets: &Bytes) -> bool
+fn copies(short: &mut Vec<u8>, octets: &Sliced) -> bool
     ensures copied { OnTrue result (short.new.items ≡ short.old.items ++ octets.now) }
     ensures still { OnFalse result (short.new.items ≡ short.old.items) }
 {
-    if octets.len() >= LONG {
+    if octets.len() >= LONG || short.reserve(octets.len()).is_err() {
         return false;
     }
-    short.extend_from_slice(octets.as_slice()).is_ok()
+    let (head, rest) = octets.slices();
+    short.extend_from_slice(head).unwrap();
+    short.extend_from_slice(rest).unwrap();
+    true
+}
+
+/// Copies what stands before a long unit's payload, where there is room: what is then left of the unit.
+fn copies_head(short: &mut Vec<u8>, octets: Sliced) -> (Bytes, Bytes)
+    ensures { (more : List ℕ) × (short.new.items ≡ short.old.items ++ more) × (more ++ (result.0 ++ result.1) ≡ octets) }
+{
+    let (head, rest) = octets.into_slices();
+    let Some(rest) = rest else {
+        return (head, Bytes::new());
+    };
+    if short.extend_from_slice(head.as_slice()).is_err() {
+        return (head, rest);
+    }
+    (rest, Bytes::new())
 }
 
 impl Model for Outbox {
@@ -57,7 +75,7 @@ impl Model for Outbox {
 
     ghost Value = { List ℕ };
 
-    ghost view = { λ o. drop o.sent o.short.items ++ o.long };
+    ghost view = { λ o. drop o.sent o.short.items ++ (o.long ++ o.last) };
 
     ghost invariant = { λ o. o.sent ≤ length o.short.items };
 }
@@ -71,14 +89,16 @@ impl Outbox {
             short: Vec::new(alloc),
             sent: 0,
             long: Bytes::new(),
+            last: Bytes::new(),
         }
     }
 
     /// How many octets are left.
-    pub fn len(&self) -> usize
+    pub fn len(&self) -> u128
         ensures { result ≡ length self.now }
     {
-        self.short.as_slice().len() - self.sent + self.long.len()
+        let short = self.short.as_slice().len() - self.sent;
+        short as u128 + self.long.len() as u128 + self.last.len() as u128
     }
 
     /// Nothing is left.
@@ -122,7 +142,10 @@ impl Outbox {
         ensures only { OnlyWrote conn.old conn.new }
         ensures all { result ≡ Gathered.All → AllWent conn.new }
     {
-        if !has_none(&self.long) || self.short.as_slice().len() >= GATHERED {
+        if !has_none(&self.long)
+            || !has_none(&self.last)
+            || self.short.as_slice().len() >= GATHERED
+        {
             return Gathered::Full;
         }
         let Some(unit) = conn.pop_unit() else {
@@ -131,7 +154,9 @@ impl Outbox {
         if copies(&mut self.short, &unit.bytes) {
             return Gathered::Unit;
         }
-        self.long = unit.bytes;
+        let (long, last) = copies_head(&mut self.short, unit.bytes);
+        self.long = long;
+        self.last = last;
         Gathered::Unit
     }
 
@@ -142,7 +167,25 @@ impl Outbox {
     {
         let of_short = count.min(self.short.as_slice().len() - self.sent);
         self.sent += of_short;
-        self.long.advance(count - of_short);
+        let of_long = (count - of_short).min(self.long.len());
+        self.long.advance(of_long);
+        self.last.advance(count - of_short - of_long);
+    }
+
+    /// Writes octets in front, so many as the stream takes.
+    fn write_front<S: NonBlocking>(&self, stream: &mut S) -> Result<Moved, Failed>
+        ensures bound { IfOk result (λ moved. count moved ≤ length self.now) }
+        ensures some { IfOk result (MovesSome self.now) }
+        ensures octets { Writes (S.written stream.old) (S.written stream.new) result self.now }
+        ensures remaining { S.remaining stream.new ≡ S.remaining stream.old }
+        ensures ok { OnOk result (S.failed stream.new ≡ S.failed stream.old) }
+        ensures err { OnErr result (S.failed stream.new ≡ true) }
+    {
+        let short = &self.short.as_slice()[self.sent..];
+        if short.is_empty() {
+            return stream.write_two(self.long.as_slice(), self.last.as_slice());
+        }
+        stream.write_two(short, self.long.as_slice())
     }
 
     /// Writes once.
@@ -154,7 +197,7 @@ impl Outbox {
         ensures ok { OnOk result (S.failed stream.new ≡ S.failed stream.old) }
         ensures failed { OnErr result (S.failed stream.new ≡ true) }
     {
-        let answer = stream.write_two(&self.short.as_slice()[self.sent..], self.long.as_slice());
+        let answer = self.write_front(stream);
         if let Ok(Moved::Octets(count)) = answer {
             self.advance(count);
         }

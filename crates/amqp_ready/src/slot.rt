@@ -123,8 +123,10 @@ impl<S: NonBlocking, H: Handler> Slot<S, H> {
     pub fn unsent(&self) -> u64
         ensures { result ≡ unsent self.now.lent.conn self.now.outbox }
     {
-        let waiting = self.lent.conn.logged().waiting_octets();
-        waiting.saturating_add(self.outbox.len() as u64)
+        let waiting = self.lent.conn.logged().waiting_octets() as u128;
+        waiting
+            .saturating_add(self.outbox.len())
+            .min(u64::MAX as u128) as u64
     }
 
     /// How many reads brought octets.

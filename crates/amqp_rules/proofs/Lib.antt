@@ -9,3 +9,4 @@ pub mod Counts
 pub mod InRange
 pub mod Writing
 pub mod Same
+pub mod Slices

@@ -45,6 +45,8 @@ pub mod Status
 pub mod RefusalNumbers
 pub mod ViolationNumbers
 pub mod ViolationAnswer
+-- octets that are sent
+pub mod Sliced
 -- what the laws say
 pub mod Sound
 pub mod Ranges

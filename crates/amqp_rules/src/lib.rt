@@ -5,7 +5,7 @@
 //! | module | what it has |
 //! |---|---|
 //! | `config` | what is settled before the first step |
-//! | `op`, `reply` | operations, and what a step gives |
+//! | `op`, `reply`, `sliced` | operations, and what a step gives; octets that are sent |
 //! | `refusal`, `violation` | why an operation is refused, and a frame |
 //! | `status` | the windows and a link as they are shown |
 //! | `laws` | the frames of each reply have octets |
@@ -84,6 +84,7 @@ pub mod laws;
 pub mod op;
 pub mod refusal;
 pub mod reply;
+pub mod sliced;
 pub mod status;
 pub mod violation;
 mod violation_answer;

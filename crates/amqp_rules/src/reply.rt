@@ -1,19 +1,20 @@
 //! What a step gives: frames with their octets, deliveries that it ended, and what it tells.
 ghost use Rattle.std.specs.Prelude.{◌≡◌, IfOk};
 
+use crate::sliced::Sliced;
 use amqp_deliveries::Parts;
 use amqp_frames::{DeliveryState, Frame, Role};
 use amqp_performatives::copying::copy_state;
 use amqp_types::{Boxed, Items, Tag, Text};
 use amqp_waiting::{SuspendedItem, Verdict};
-use bytes::Bytes;
 use std::alloc::AllocError;
 
 /// A frame that is sent, with its octets.
 #[derive(Debug, PartialEq, Eq, Drop)]
 pub struct Sent {
     pub frame: Frame,
-    pub bytes: Bytes,
+    /// A long payload stands in a slice of its own, the one that the frame has.
+    pub bytes: Sliced,
 }
 
 /// A delivery that the application takes.

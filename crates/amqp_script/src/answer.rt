@@ -8,6 +8,7 @@ use amqp_endpoint::reply::{Given, Learned, Reply, Resumed, Sent, Suspended, Take
 use amqp_endpoint::status::{LinkPhase, LinkStatus, WindowView};
 use amqp_endpoint::violation::ViolationKind;
 use amqp_frames::{DeliveryState, Role};
+use amqp_rules::sliced::Sliced;
 use amqp_types::{Items, Tag};
 use amqp_waiting::{SuspendedItem, Verdict};
 use std::fmt;
@@ -148,9 +149,16 @@ fn write_frames<W: Write>(sent: &Items<Sent>, f: &mut Formatter<W>) -> fmt::Resu
         if place > 0 {
             f.write_str(",")?;
         }
-        write_hex(frame.bytes.as_slice(), f)?;
+        write_sliced(&frame.bytes, f)?;
     }
     Ok(())
+}
+
+/// Octets in hexadecimal, slice by slice.
+pub fn write_sliced<W: Write>(octets: &Sliced, f: &mut Formatter<W>) -> fmt::Result {
+    let (head, rest) = octets.slices();
+    write_hex(head, f)?;
+    write_hex(rest, f)
 }
 
 /// Hexadecimal, or `-` for no octets.

@@ -42,6 +42,7 @@ use Rattle.amqp_types.proofs.boxed.Boxed.TheSendSync as boxed
 use Rattle.amqp_types.specs.contracts.value.Value as value
 use Rattle.amqp_types.proofs.value.Value.TheLaws.TheKnot.{send-Value}
 use Rattle.amqp_rules.proofs.reply.Taken.TheSendSync as taken_crosses
+use Rattle.amqp_rules.proofs.sliced.Sliced.TheSendSync as sliced_crosses
 use Rattle.amqp_deliveries.proofs.tags.TagIndex.TheSendSync as tag_index_crosses
 use Rattle.amqp_links.proofs.credit.Credit.TheSendSync as credit_crosses
 use Rattle.amqp_links.proofs.marks.Sending.TheSendSync as sending_crosses
@@ -154,7 +155,7 @@ pub frame_send : IsSend (frame.the_field).row
 frame_send = search (sendable, crosses, bytes_send, performative_send) depth 40 fits 20000
 
 pub sent_send : IsSend (sent.the_field).row
-sent_send = search (sendable, crosses, bytes_send, frame_send) depth 40 fits 20000
+sent_send = search (sendable, crosses, sliced_crosses.the_send, frame_send) depth 40 fits 20000
 
 pub judged_send : IsSend (judged.the_field).row
 judged_send = search (sendable, crosses, taken_crosses.the_field_send, delivery_state_send) depth 40 fits 20000
@@ -250,7 +251,7 @@ pub left_send : IsSend (left.the_field).row
 left_send = search (sendable, crosses, text.the_send, boxed.the_send, taken_crosses.the_send, learned_send) depth 40 fits 20000
 
 pub logged_send : IsSend (logged.the_field).row
-logged_send = search (sendable, crosses, session_config_crosses.the_send, endpoint_send, entry_send, bytes_send, history_crosses.the_send, left_send, heap.the_send) depth 40 fits 20000
+logged_send = search (sendable, crosses, session_config_crosses.the_send, endpoint_send, entry_send, bytes_send, sliced_crosses.the_send, history_crosses.the_send, left_send, heap.the_send) depth 40 fits 20000
 
 pub machine_send : IsSend (machine.the_field).row
 machine_send = search (sendable, crosses, config_crosses.the_send, bytes_send, phase_crosses.the_send, logged_send, boxed.the_send, open_body_send, close_body_send) depth 40 fits 20000

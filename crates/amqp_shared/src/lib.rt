@@ -84,6 +84,7 @@ pub use amqp_links::link::Link;
 pub use amqp_rules::op::{Op, Rejoin};
 pub use amqp_rules::refusal::Refusal;
 pub use amqp_rules::reply::{Given, Learned, Resumed, Suspended, Taken};
+pub use amqp_rules::sliced::Sliced;
 pub use amqp_rules::violation::{Violation, ViolationKind};
 pub use amqp_types::{Boxed, Tag, Text};
 pub use amqp_waiting::{Brought, SuspendedItem, Verdict};

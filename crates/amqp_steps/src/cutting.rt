@@ -54,6 +54,7 @@ impl Cutter {
     }
 
     /// The octets of the draft.
+    #[inline(always)]
     pub(crate) fn cut(&mut self) -> Result<Bytes, AllocError>
         ensures { IfOk result (λ octets. octets ≡ self.old.draft.items) }
     {

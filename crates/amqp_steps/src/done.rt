@@ -2,21 +2,21 @@
 ghost use Rattle.std.specs.Prelude.{◌≡◌, [], None};
 
 use amqp_rules::reply::{Given, Reply};
+use amqp_rules::sliced::Sliced;
 use amqp_types::Items;
-use bytes::Bytes;
 use std::alloc::Global;
 
 /// What a step gives: its reply, a handle of the octets that it sends, and once more what it tells the application.
 #[derive(Drop)]
 pub struct Done {
     pub reply: Reply,
-    pub octets: Option<Bytes>,
+    pub octets: Option<Sliced>,
     pub given: Given,
 }
 
 impl Done {
     /// Its reply and its octets, without what it tells once more.
-    pub fn once(self) -> (Reply, Option<Bytes>)
+    pub fn once(self) -> (Reply, Option<Sliced>)
         ensures reply { result.0 ≡ self.reply }
         ensures octets { result.1 ≡ self.octets }
     {

@@ -1,14 +1,19 @@
 //! Frames as they are sent: all on channel 0, each with its octets.
-ghost use Rattle.std.specs.Prelude.{ℕ, Option, ◌≡◌, ◌<◌, vec_capacity, vec_len, ◌⊎◌, ◌∷◌, Some, None, IfOk, MatchResult, [], option_map, option_to_list};
+ghost use Rattle.std.specs.Prelude.{ℕ, Option, ◌≡◌, ◌<◌, vec_capacity, vec_len, ◌⊎◌, ◌∷◌, Some, None, ◌++◌, IfOk, IfSome, IfNone, MatchResult, [], option_map, option_to_list};
 ghost use Rattle.amqp_steps.specs.Plan.{octets_sent};
-ghost use Rattle.amqp_steps.specs.Written.{Writes};
+ghost use Rattle.amqp_steps.specs.Written.{Writes, Drafted, apart_of};
+ghost use Rattle.amqp_frames.specs.Plain.{Appended};
+ghost use Rattle.amqp_frames.specs.Written.{write_answer};
 ghost use Rattle.amqp_frames.specs.Measuring.{Measures};
 ghost use Rattle.amqp_rules.specs.Sending.{told, frame_of, frame_refused, sent_of};
 
 use crate::cutting::Cutter;
-use amqp_frames::{Frame, FrameRefusal, Measured, Performative, append_frame, frame_refusal};
+use amqp_frames::{
+    Frame, FrameRefusal, Measured, Performative, append_frame, append_head, frame_refusal,
+};
 use amqp_rules::refusal::Refusal;
 use amqp_rules::reply::Sent;
+use amqp_rules::sliced::Sliced;
 use amqp_types::Items;
 use bytes::Bytes;
 use std::alloc::{AllocError, Global};
@@ -18,7 +23,7 @@ use std::marker::Model;
 #[derive(Drop)]
 pub struct Written {
     list: Items<Sent>,
-    octets: Bytes,
+    octets: Sliced,
 }
 
 impl Model for Written {
@@ -37,7 +42,8 @@ impl Model for Written {
 }
 
 /// A place for one frame, and one handle more of its octets.
-fn make_place(alloc: Global, bytes: &Bytes) -> Result<(Vec<Sent>, Bytes), AllocError>
+#[inline(always)]
+fn make_place(alloc: Global, bytes: &Sliced) -> Result<(Vec<Sent>, Sliced), AllocError>
     ensures empty { IfOk result (λ t. t.0.items ≡ []) }
     ensures room { IfOk result (λ t. vec_len t.0 < vec_capacity t.0) }
     ensures handle { IfOk result (λ t. t.1 ≡ bytes.now) }
@@ -49,7 +55,7 @@ fn make_place(alloc: Global, bytes: &Bytes) -> Result<(Vec<Sent>, Bytes), AllocE
 
 /// The frame with its octets moves to where it stays.
 #[inline(always)]
-fn keep_frame(alloc: Global, frame: Frame, bytes: Bytes) -> Result<Written, AllocError>
+fn keep_frame(alloc: Global, frame: Frame, bytes: Sliced) -> Result<Written, AllocError>
     ensures { IfOk result (λ w. w ≡ record { frame = frame; bytes = bytes }) }
 {
     match make_place(alloc, &bytes) {
@@ -112,7 +118,7 @@ pub fn write(
                 drop(frame);
                 return Err(Refusal::NoMemory);
             };
-            match keep_frame(alloc, frame, bytes) {
+            match keep_frame(alloc, frame, Sliced::one(bytes)) {
                 Ok(written) => Ok(written),
                 Err(_) => Err(Refusal::NoMemory),
             }
@@ -127,7 +133,68 @@ pub fn write(
 /// A frame whose payload has more octets than these has a block of its own.
 const SHORT: usize = 512;
 
-/// As `write`, with the octets of a short frame out of the cutter's block.
+/// A payload of more octets than these is sent from where it stands.
+const LONG: usize = 4096;
+
+/// Writes the frame into the draft, one with a long payload as far as that: whether it did so.
+#[inline(always)]
+fn draft_frame(frame: &Frame, max: u32, draft: &mut Vec<u8>) -> Result<bool, FrameRefusal>
+    ensures { MatchResult result (λ apart. Drafted apart frame.now max draft.old.items draft.new.items) (λ e. Appended (Err e) (write_answer frame.now max) draft.old.items draft.new.items) }
+{
+    if LONG < frame.payload.len() {
+        if let Some(answer) = draft_head(frame, max, draft) {
+            return answer;
+        }
+    }
+    match append_frame(frame, max, draft) {
+        Ok(()) => Ok(false),
+        Err(fault) => Err(fault),
+    }
+}
+
+/// Writes the frame as far as its payload, where it has a plain transfer. Out of line, since few frames are long.
+#[inline(never)]
+fn draft_head(frame: &Frame, max: u32, draft: &mut Vec<u8>) -> Option<Result<bool, FrameRefusal>>
+    ensures some { IfSome result (λ r. MatchResult r (λ apart. Drafted apart frame.now max draft.old.items draft.new.items) (λ e. Appended (Err e) (write_answer frame.now max) draft.old.items draft.new.items)) }
+    ensures none { IfNone result (draft.new.items ≡ draft.old.items) }
+{
+    match append_head(frame, max, draft)? {
+        Ok(()) => Some(Ok(true)),
+        Err(fault) => Some(Err(fault)),
+    }
+}
+
+/// The octets, and behind them the payload, which is shared. Out of line, since few frames are long.
+#[inline(never)]
+fn beside(alloc: Global, octets: Bytes, payload: &Bytes) -> Result<Sliced, AllocError>
+    ensures { IfOk result (λ all. all ≡ octets ++ payload.now) }
+{
+    match payload.clone() {
+        Ok(rest) => Sliced::two(alloc, octets, rest),
+        Err(error) => {
+            drop(octets);
+            Err(error)
+        }
+    }
+}
+
+/// The octets, and behind them the payload, where it stays apart.
+#[inline(always)]
+fn with_payload(
+    alloc: Global,
+    octets: Bytes,
+    payload: &Bytes,
+    apart: bool,
+) -> Result<Sliced, AllocError>
+    ensures { IfOk result (λ all. all ≡ octets ++ apart_of apart payload.now) }
+{
+    if apart {
+        return beside(alloc, octets, payload);
+    }
+    Ok(Sliced::one(octets))
+}
+
+/// As `write`, with the octets of a short frame out of the cutter's block, and those before a long payload.
 fn write_cut(
     alloc: Global,
     cutter: &mut Cutter,
@@ -143,9 +210,13 @@ fn write_cut(
         payload,
     };
     cutter.draft.clear();
-    match append_frame(&frame, max, &mut cutter.draft) {
-        Ok(()) => {
-            let Ok(bytes) = cutter.cut() else {
+    match draft_frame(&frame, max, &mut cutter.draft) {
+        Ok(apart) => {
+            let Ok(octets) = cutter.cut() else {
+                drop(frame);
+                return Err(Refusal::NoMemory);
+            };
+            let Ok(bytes) = with_payload(alloc, octets, &frame.payload, apart) else {
                 drop(frame);
                 return Err(Refusal::NoMemory);
             };
@@ -161,7 +232,7 @@ fn write_cut(
     }
 }
 
-/// As `write_sharing`, with the octets of a short frame out of the cutter's block.
+/// As `write_sharing`, with the octets of a short frame out of the cutter's block, and a long payload where it stands.
 pub fn cut_sharing(
     alloc: Global,
     cutter: &mut Cutter,
@@ -171,7 +242,7 @@ pub fn cut_sharing(
 ) -> Result<Written, Refusal>
     ensures { Writes max body payload.now (sent_of body payload.now) result }
 {
-    if SHORT < payload.len() {
+    if SHORT < payload.len() && payload.len() <= LONG {
         return write_sharing(alloc, body, payload, max);
     }
     if let Ok(handle) = payload.clone() {
@@ -197,7 +268,7 @@ pub fn write_sharing(
 
 impl Written {
     /// The list of it alone, and a handle of its octets.
-    pub(crate) fn listed(self) -> (Items<Sent>, Bytes)
+    pub(crate) fn listed(self) -> (Items<Sent>, Sliced)
         ensures list { result.0 ≡ self ∷ [] }
         ensures octets { result.1 ≡ self.bytes }
     {
@@ -207,7 +278,7 @@ impl Written {
 }
 
 /// The frame that is sent, if there is one, and a handle of its octets.
-pub fn list_sent(alloc: Global, sent: Option<Written>) -> (Items<Sent>, Option<Bytes>)
+pub fn list_sent(alloc: Global, sent: Option<Written>) -> (Items<Sent>, Option<Sliced>)
     ensures list { result.0 ≡ option_to_list sent }
     ensures octets { result.1 ≡ octets_sent sent }
 {

@@ -133,7 +133,7 @@ fn start(alloc: Global, name: &str, window: u32) -> Result<Conn, StartFault> {
 /// Whether the next unit has these octets; where there are none, whether no unit waits.
 fn puts_out(conn: &mut Conn, octets: &[u8]) -> bool {
     match conn.pop_unit() {
-        Some(unit) => unit.bytes.as_slice() == octets,
+        Some(unit) => unit.bytes.is(octets),
         None => octets.is_empty(),
     }
 }

@@ -26,7 +26,7 @@ fn are_so(replies: (Reply, Reply), octets: &[u8]) -> bool {
 fn is_so(reply: &Reply, octets: &[u8]) -> bool {
     let sent = reply.sent.as_slice();
     let is_sent = match sent.get(0) {
-        Some(frame) => sent.len() == 1 && *frame.bytes == *octets,
+        Some(frame) => sent.len() == 1 && frame.bytes.is(octets),
         None => octets.is_empty(),
     };
     let is_given = match &reply.given {

@@ -270,14 +270,19 @@ fn starts(alloc: Global, conn: &mut Conn, tag: u8) {
     }
 }
 
-/// Begins, attaches `p` as link 0 and `q` as link 1, grants five deliveries, and starts three.
-fn sets_up(alloc: Global, conn: &mut Conn) {
+/// Begins, attaches `p` as link 0 and `q` as link 1, and grants five deliveries; three may be started.
+pub(crate) fn links_up(alloc: Global, conn: &mut Conn) {
     hears(conn, &mut NONE, GREETING);
     let _ = conn.perform(ops::begin());
     attaches(alloc, conn, "p", Role::Sender);
     hears(conn, &mut NONE, LINKS);
     attaches(alloc, conn, "q", Role::Receiver);
     let _ = conn.perform(ops::grant(1, 5));
+}
+
+/// The same, and three are started.
+fn sets_up(alloc: Global, conn: &mut Conn) {
+    links_up(alloc, conn);
     for tag in 0..3 {
         starts(alloc, conn, tag);
     }

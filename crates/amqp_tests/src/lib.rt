@@ -9,6 +9,7 @@
 //! | `ends` | what came before an end is had once |
 //! | `said` | what the peer said of itself, and of why it ended something |
 //! | `told` | what both attaches told of a link |
+//! | `sliced` | octets that are sent, in one slice or in two |
 //! | `world` | two ends that speak with each other |
 //! | `acts`, `octets` | what they share: operations as tables write them, and what a peer sends |
 #![tactic(auto)]
@@ -27,6 +28,8 @@ mod journal;
 mod octets;
 #[cfg(test)]
 mod said;
+#[cfg(test)]
+mod sliced;
 #[cfg(test)]
 mod told;
 #[cfg(test)]

@@ -216,9 +216,7 @@ fn answers_all<S: Subject>(alloc: Global, subject: &mut S, lists: &[Steps], way:
 
 fn is_same_unit(one: Option<Unit>, other: Option<Unit>) -> bool {
     match (&one, &other) {
-        (Some(one), Some(other)) => {
-            one.number == other.number && one.bytes.as_slice() == other.bytes.as_slice()
-        }
+        (Some(one), Some(other)) => one.number == other.number && one.bytes == other.bytes,
         (None, None) => true,
         _ => false,
     }

@@ -260,7 +260,7 @@ pub(crate) fn last_tells(conn: &mut Conn, code: u32, condition: &[u8]) -> bool {
     let mut told = false;
     for _ in 0..99 {
         match conn.pop_unit() {
-            Some(unit) => told = tells(unit.bytes.as_slice(), code, condition),
+            Some(unit) => told = tells(unit.bytes.slices().0, code, condition),
             None => break,
         }
     }

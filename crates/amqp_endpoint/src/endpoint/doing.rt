@@ -12,9 +12,9 @@ use crate::refusal::Refusal;
 use crate::reply::{Given, Reply};
 use crate::violation::{Violation, ViolationKind};
 use amqp_frames::{Frame, Performative};
+use amqp_rules::sliced::Sliced;
 use amqp_steps::done::{Done, quiet_done};
 use amqp_steps::plan::Plan;
-use bytes::Bytes;
 use std::alloc::AllocError;
 
 impl Endpoint {
@@ -110,7 +110,7 @@ impl Endpoint {
     }
 
     /// The same, where what it tells is wanted once: in the reply.
-    pub fn own_once(&mut self, op: &Op) -> Result<(Reply, Option<Bytes>), Refusal>
+    pub fn own_once(&mut self, op: &Op) -> Result<(Reply, Option<Sliced>), Refusal>
         requires { self.old.steps < 2 ^ 30 }
         ensures done { DoesOnce Refusal.NoMemory (own_answer self.old op.now) (next_own self.old op.now) self.new result }
         ensures err { OnErr result (self.new ≡ self.old) }

@@ -11,9 +11,9 @@ use amqp_deliveries::Telling;
 use amqp_frames::Role;
 use amqp_links::credit::same_role;
 use amqp_performatives::copying::copy_state;
+use amqp_rules::sliced::Sliced;
 use amqp_steps::done::{Done, quiet_done, quiet_reply};
 use amqp_types::Boxed;
-use bytes::Bytes;
 use std::alloc::AllocError;
 
 /// What is given of a thing that was told.
@@ -99,7 +99,7 @@ impl Endpoint {
     }
 
     /// The same, where what it tells is wanted once.
-    pub(crate) fn learn_once(&mut self, link: u32) -> Result<(Reply, Option<Bytes>), Refusal>
+    pub(crate) fn learn_once(&mut self, link: u32) -> Result<(Reply, Option<Sliced>), Refusal>
         requires { self.old.steps < 2 ^ 30 }
         ensures done { DoesOnce Refusal.NoMemory (learn_answer self.old link) (next_learn self.old link) self.new result }
         ensures err { OnErr result (self.new ≡ self.old) }

@@ -10,9 +10,9 @@ use crate::reply::{Given, Reply, Taken};
 use amqp_frames::Role;
 use amqp_links::arrival::Waiting;
 use amqp_links::credit::same_role;
+use amqp_rules::sliced::Sliced;
 use amqp_steps::done::{Done, quiet_done, quiet_reply};
 use amqp_types::Boxed;
-use bytes::Bytes;
 use std::alloc::AllocError;
 
 /// What is given of a delivery that waits on this link. Its payload is shared.
@@ -95,7 +95,7 @@ impl Endpoint {
     }
 
     /// The same, where what it tells is wanted once.
-    pub(crate) fn take_once(&mut self, link: u32) -> Result<(Reply, Option<Bytes>), Refusal>
+    pub(crate) fn take_once(&mut self, link: u32) -> Result<(Reply, Option<Sliced>), Refusal>
         requires { self.old.steps < 2 ^ 30 }
         ensures done { DoesOnce Refusal.NoMemory (take_answer self.old link) (next_take self.old link) self.new result }
         ensures err { OnErr result (self.new ≡ self.old) }

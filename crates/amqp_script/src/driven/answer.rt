@@ -1,6 +1,6 @@
 //! The text of an answer of the command `conn`.
 
-use crate::answer::{write_given, write_hex};
+use crate::answer::{write_given, write_sliced};
 use amqp_conn::{ConnFault, Phase};
 use amqp_endpoint::reply::Given;
 use amqp_endpoint::violation::ViolationKind;
@@ -85,7 +85,7 @@ fn write_state<W: Write>(phase: Phase, units: &[Unit], f: &mut Formatter<W>) -> 
         if place > 0 {
             f.write_str(",")?;
         }
-        write_hex(unit.bytes.as_slice(), f)?;
+        write_sliced(&unit.bytes, f)?;
     }
     Ok(())
 }

@@ -2,7 +2,7 @@
 
 use amqp_journal::entry::{Entry, Step};
 use amqp_rules::status::{LinkStatus, WindowView};
-use amqp_shared::{Closed, Conn, Given, Left, Name, Pass, Phase, Role, Shared, WriterEnd};
+use amqp_shared::{Closed, Conn, Given, Left, Name, Pass, Phase, Role, Shared, Unit, WriterEnd};
 use std::sync::Wait;
 
 /// What the readers of a connection show.
@@ -88,9 +88,12 @@ pub(crate) struct Units {
 impl Units {
     pub(crate) const NONE: Units = Units { count: 0, sum: 7 };
 
-    fn add(&mut self, octets: &[u8]) {
-        for octet in octets {
-            self.sum = self.sum.wrapping_mul(31).wrapping_add(u32::from(*octet));
+    fn add(&mut self, unit: &Unit) {
+        let (head, rest) = unit.bytes.slices();
+        for slice in [head, rest] {
+            for octet in slice {
+                self.sum = self.sum.wrapping_mul(31).wrapping_add(u32::from(*octet));
+            }
         }
         self.count = self.count.wrapping_add(1);
     }
@@ -101,7 +104,7 @@ impl Units {
             let Some(unit) = writer.take() else {
                 break;
             };
-            self.add(unit.bytes.as_slice());
+            self.add(&unit);
             drop(unit);
         }
     }
@@ -128,7 +131,7 @@ impl Course {
 pub(crate) fn course_of(closed: &Closed, taken: Units) -> Option<Course> {
     let mut units = taken;
     for unit in closed.left.as_slice() {
-        units.add(unit.bytes.as_slice());
+        units.add(unit);
     }
     if closed.taken == taken.count {
         Some(Course {

@@ -1,15 +1,11 @@
-use Rattle.std.proofs.Common.{ℕ, List, subst}
-use Rattle.std.specs.Io.KnownBytes.{Appends}
-use Rattle.amqp_conn.specs.Pumping.{AppendsFront}
 use Rattle.amqp_conn.proofs.Pumps.{carries-unit, breaks-unit, pops-less}
 use Rattle.amqp_conn.proofs.pumping.write_unit.Goals as goal
 
 pub returns-in-Ok-clause-writes : goal.returns-in-Ok-clause-writes
 returns-in-Ok-clause-writes g c =
     let old = g.K.Sink.written c.args.sink.now in
-    let new = g.K.Sink.written c.write_all.new.self in
-    let all = subst (λ (x : List ℕ). Appends old new x) c.as_slice.ensures c.in-Ok.ensures.octets in
-    λ source x. carries-unit source old new c.args.conn.now c.pop_unit.new.self x c.in-Some.unit.bytes c.recall.ensures.some c.in-Some.ensures.some.1 c.in-Some.ensures.some.2 all
+    let new = g.K.Sink.written c.write_slices.new.sink in
+    λ source x. carries-unit source old new c.args.conn.now c.pop_unit.new.self x c.in-Some.unit.bytes c.recall.ensures.some c.in-Some.ensures.some.1 c.in-Some.ensures.some.2 c.in-Ok.ensures.octets
 
 pub returns-in-Ok-clause-less : goal.returns-in-Ok-clause-less
 returns-in-Ok-clause-less g c = pops-less c.args.conn.now c.pop_unit.new.self c.in-Some.unit.bytes c.in-Some.ensures.some.1 c.in-Some.ensures.some.2
@@ -17,6 +13,5 @@ returns-in-Ok-clause-less g c = pops-less c.args.conn.now c.pop_unit.new.self c.
 pub returns-clause-fails : goal.returns-clause-fails
 returns-clause-fails g c =
     let old = g.K.Sink.written c.args.sink.now in
-    let new = g.K.Sink.written c.write_all.new.self in
-    let part = subst (λ (x : List ℕ). AppendsFront old new x) c.as_slice.ensures c.in-Err.ensures.front in
-    λ source x. breaks-unit source old new c.args.conn.now c.pop_unit.new.self x c.in-Some.unit.bytes c.recall.ensures.some c.in-Some.ensures.some.1 c.in-Some.ensures.some.2 part
+    let new = g.K.Sink.written c.write_slices.new.sink in
+    λ source x. breaks-unit source old new c.args.conn.now c.pop_unit.new.self x c.in-Some.unit.bytes c.recall.ensures.some c.in-Some.ensures.some.1 c.in-Some.ensures.some.2 c.in-Err.ensures.front

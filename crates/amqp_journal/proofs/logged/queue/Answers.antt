@@ -13,7 +13,7 @@ returns-in-Some-clause-counted c = λ h.
     c.in-Some.bytes
     h
     (search rules)
-    c.len.ensures.value
+    c.len.ensures
     c.len.type_inv
     c.saturating_add.ensures
     c.push_back_reserved.ensures.items

@@ -11,7 +11,7 @@ returns-in_default c =
 pub returns-in-Ok-keep_frame : goal.returns-in-Ok-keep_frame
 returns-in-Ok-keep_frame c =
     let h = sent-so c.args.max c.args.body c.args.payload c.append_frame.new.out.items (rw c.new-octets.ensures.items at c.in-Ok.ensures) in
-    (h.0, c.in-Ok-keep_frame.ensures ∙ ap (λ x. record { frame = frame_of c.args.body c.args.payload; bytes = x }) (c.in-Ok-from_vec.ensures.ok ∙ h.1))
+    (h.0, c.in-Ok-keep_frame.ensures ∙ ap (λ x. record { frame = frame_of c.args.body c.args.payload; bytes = x }) (c.one.ensures ∙ c.in-Ok-from_vec.ensures.ok ∙ h.1))
 
 pub returns-in-Err-keep_frame : goal.returns-in-Err-keep_frame
 returns-in-Err-keep_frame c =

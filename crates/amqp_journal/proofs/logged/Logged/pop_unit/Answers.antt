@@ -14,7 +14,7 @@ invariant_of-self-2 c =
     let left = c.pop_front.new.self.items in
     let first = c.in_ok-bytes.ensures.items in (
       kept-popped l s.endpoint s.waiting.items left bytes c.self.invariant.0 first,
-      counted-first s.octets c.len.result c.saturating_sub-self-inside.result s.waiting.items left bytes c.self.invariant.1 first c.len.ensures.value c.saturating_sub-self-inside.ensures,
+      counted-first s.octets c.len.result c.saturating_sub-self-inside.result s.waiting.items left bytes c.self.invariant.1 first c.len.ensures c.saturating_sub-self-inside.ensures,
     )
 
 pub returns-clause-some : goal.returns-clause-some
