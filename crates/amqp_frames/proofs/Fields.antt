@@ -1,8 +1,8 @@
 -- Fields one after the other: which are written, and how many octets they take.
-use Rattle.std.proofs.Common.{◌≡◌, ◌≢◌, ℕ, ◌+◌, ◌-◌, ◌^◌, ◌≤◌, append_assoc, Bool, true, false, leb, min, max, List, [], ◌++◌, length, drop, Option, Some, None, refl, sym, ap, ◌∙◌, arith}
-use Rattle.std.proofs.lemmas.Bool.{leb-true, leb-false, le-leb, lt-leb}
-use Rattle.std.proofs.lemmas.List.{length-append, append-nil}
-use Rattle.amqp_types.specs.Datum.{Datum, number, octets, list, map, array, described, Data, none, item, count_of, depth_of, greatest_depth_of}
+use Rattle.std.proofs.Common.{◌≡◌, ◌≢◌, ℕ, ◌+◌, ◌-◌, ◌^◌, ◌≤◌, append_assoc, true, leb, min, List, [], ◌++◌, length, drop, Option, Some, None, refl, sym, ap, ◌∙◌, arith}
+use Rattle.std.proofs.lemmas.Bool.{le-leb}
+use Rattle.std.proofs.lemmas.List.{append-nil}
+use Rattle.amqp_types.specs.Datum.{Datum, octets, Data, none, item, count_of, depth_of}
 use Rattle.amqp_types.specs.Reading.{◌>>=◌}
 use Rattle.amqp_types.specs.Canon.{part_form, parts_form, capped}
 use Rattle.amqp_performatives.specs.declared.field.Field.{Field}
@@ -13,54 +13,16 @@ use Rattle.amqp_performatives.specs.Listed.{part_at, shown_fields}
 
 -- ---- depth
 
-pub depth_some : (d : Datum) → 1 ≤ depth_of d
-depth_some (number k n) = omega arith
-depth_some (octets r os) = omega arith
-depth_some (list vs) = omega arith
-depth_some (map vs) = omega arith
-depth_some (array c vs) = omega arith
-depth_some (described d v) = omega arith
-
 pub leaf_within : (depth : ℕ) (d : Datum) → depth_of d ≡ 1 → depth ≢ 0 → form_within depth d ≡ part_form None d
 leaf_within depth d one ne = let e : leb (depth_of d) depth ≡ true = le-leb _ _ (omega (arith, one, ne)) in rw e refl
 
 -- ---- their spellings
-
-bind_none : {A B : Type 0} (o : Option A) → (o >>= (λ (a : A). let x : Option B = None in x)) ≡ None
-bind_none (Some a) = refl
-bind_none None = refl
-
-forms_by : (depth : ℕ) (v : Datum) (vs : Data) (b0 b1 : Bool) → leb (depth_of v) depth ≡ b0 → leb (greatest_depth_of vs) depth ≡ b1
-    → forms_within depth (item v vs) ≡ (form_within depth v >>= λ x. forms_within depth vs >>= λ y. Some (x ++ y))
-forms_by depth v vs true true e0 e1 =
-    let both : leb (max (depth_of v) (greatest_depth_of vs)) depth ≡ true = le-leb _ _ (omega (arith, leb-true _ _ e0, leb-true _ _ e1)) in
-    simp (e0, e1, both)
-forms_by depth v vs true false e0 e1 =
-    let both : leb (max (depth_of v) (greatest_depth_of vs)) depth ≡ false = lt-leb _ _ (omega (arith, leb-false _ _ e1)) in
-    simp (e0, e1, both) (sym (bind_none (part_form None v)))
-forms_by depth v vs false b1 e0 e1 =
-    let both : leb (max (depth_of v) (greatest_depth_of vs)) depth ≡ false = lt-leb _ _ (omega (arith, leb-false _ _ e0)) in
-    simp (e0, both)
-
-pub forms_item : (depth : ℕ) (v : Datum) (vs : Data) → forms_within depth (item v vs) ≡ (form_within depth v >>= λ x. forms_within depth vs >>= λ y. Some (x ++ y))
-forms_item depth v vs = forms_by depth v vs (leb (depth_of v) depth) (leb (greatest_depth_of vs) depth) refl refl
 
 -- ---- sizes, which are told up to 2 ^ 64 - 1
 
 -- so many octets, and what is behind them
 abbrev pub capped_behind : ℕ → Option (List ℕ) → Option ℕ
 capped_behind n form = form >>= λ x. Some (min (n + length x) (2 ^ 64 - 1))
-
-size_past : (size more next : ℕ) (a form : Option (List ℕ)) → Some more ≡ capped a → next ≡ min (size + more) (2 ^ 64 - 1) → capped_behind size (a >>= λ x. form >>= λ y. Some (x ++ y)) ≡ capped_behind next form
-size_past size more next (Some x) (Some y) e s =
-    let m : more ≡ min (length x) (2 ^ 64 - 1) = cc in
-    ap (λ (k : ℕ). let o : Option ℕ = Some k in o) (omega (arith, m, s, length-append x y))
-size_past size more next (Some x) None e s = refl
-size_past size more next None form e s = absurd cc
-
-none_capped : (a : Option (List ℕ)) → None ≡ capped a → a ≡ None
-none_capped (Some x) e = absurd cc
-none_capped None e = refl
 
 measured_as : (count size : ℕ) (form : Option (List ℕ)) → Some size ≡ capped form → Some (count, size) ≡ measured count form
 measured_as count size (Some x) e = let m : size ≡ min (length x) (2 ^ 64 - 1) = cc in rw m refl

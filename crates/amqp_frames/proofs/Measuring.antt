@@ -142,8 +142,3 @@ no_memory f max m w small = subst (λ (r : Result (List ℕ) FrameRefusal). Answ
 pub refusal_of : (r : Result Measured FrameRefusal) (f : Frame) (max : ℕ) → Measures r f max → result_err r ≡ result_err (write_answer f max)
 refusal_of (Ok m) f max h = sym (ap result_err (written_answer f max m h.0.octets h.0 h.1 h.0.written))
 refusal_of (Err e) f max h = sym (ap result_err h)
-
-same_refusal : (e : FrameRefusal) → Answers (Err e) (Err e)
-same_refusal refusal.NotWritable = refl
-same_refusal refusal.FrameTooBig = refl
-same_refusal refusal.NoMemory = refl

@@ -10,7 +10,7 @@ use Rattle.amqp_performatives.specs.Part.{Part, Fields, absent, value, composite
 use Rattle.amqp_frames.specs.declared.fault.FrameRefusal.{FrameRefusal}
 use Rattle.amqp_frames.specs.declared.fault.FrameRefusal.TheVariants as refusal
 use Rattle.amqp_frames.specs.Field.{composite_datum, list_octets, body_answer, header, size_answer}
-use Rattle.amqp_frames.specs.Plain.{full, before_others, trim, IsShown, AreShown, Appended, AppendedHead}
+use Rattle.amqp_frames.specs.Plain.{full, before_others, trim, IsShown, AreShown, Appended, AppendedHead, AppendedSo}
 use Rattle.amqp_frames.proofs.Composites.{composite_form, composite_octets}
 use Rattle.amqp_frames.proofs.Measuring.{is_there}
 use Rattle.amqp_types.specs.declared.class.Run.TheVariants as Run
@@ -190,3 +190,7 @@ plain_there code count end size channel max ds x head head' payload old out low 
 -- the payload behind what stands before it
 pub payload_behind : (u : Unit {0}) (answer : Result (List ℕ) FrameRefusal) (payload old out out' : List ℕ) → AppendedHead payload (Ok u) answer old out → out' ≡ out ++ payload → Appended (Ok u) answer old out'
 payload_behind u answer payload old out out' h e = (h.0, h.1, e ∙ h.2)
+
+pub refused_so : (apart : Bool) (payload : List ℕ) (e : FrameRefusal) (answer : Result (List ℕ) FrameRefusal) (old new : List ℕ) → Appended (Err e) answer old new → AppendedSo apart payload (Err e) answer old new
+refused_so true payload e answer old new h = h
+refused_so false payload e answer old new h = h

@@ -1,17 +1,10 @@
 -- Octets by their places.
-use Rattle.std.proofs.Common.{◌≡◌, ◌≤◌, ◌<◌, ℕ, zero, suc, List, [], ◌∷◌, ◌++◌, length, get_or, take, drop, refl, sym, ap, ◌∙◌, arith}
+use Rattle.std.proofs.Common.{◌≡◌, ◌≤◌, ◌<◌, ℕ, zero, suc, List, [], ◌∷◌, ◌++◌, length, get_or, drop, refl, sym, ap, ◌∙◌, arith}
 use Rattle.std.specs.Int.{w16, w32, to_be_bytes, from_be_bytes}
 use Rattle.std.proofs.lemmas.Nat.{be_bytes_2, be_bytes_4}
 
 abbrev pub first_four : List ℕ → List ℕ
 first_four x = get_or x 0 0 ∷ get_or x 1 0 ∷ get_or x 2 0 ∷ get_or x 3 0 ∷ []
-
-pub take_four : (x : List ℕ) → 4 ≤ length x → take 4 x ≡ first_four x
-take_four [] h = absurd (omega arith)
-take_four (a ∷ []) h = absurd (omega arith)
-take_four (a ∷ b ∷ []) h = absurd (omega arith)
-take_four (a ∷ b ∷ c ∷ []) h = absurd (omega arith)
-take_four (a ∷ b ∷ c ∷ d ∷ x) h = refl
 
 four_small : (x : List ℕ) → ((i : ℕ) → get_or x i 0 < 256) → (i : ℕ) → get_or (first_four x) i 0 < 256
 four_small x h zero = h 0

@@ -1,5 +1,5 @@
 -- Fields that are written one after the other into a small buffer: each is its octets, or none where it is absent.
-use Rattle.std.specs.Prelude.{ℕ, Bool, if◌then◌else◌, nat_eq, nat_lt, ◌≡◌, ◌≤◌, Option, Some, None, Result, Ok, Err, List, [], ◌∷◌, ◌++◌, length, take}
+use Rattle.std.specs.Prelude.{ℕ, Bool, true, false, if◌then◌else◌, nat_eq, nat_lt, ◌≡◌, ◌≤◌, Option, Some, None, Result, Ok, Err, List, [], ◌∷◌, ◌++◌, length, take}
 use Rattle.std.specs.Int.{to_be_bytes, w32}
 use Rattle.amqp_types.specs.Datum.{depth_of}
 use Rattle.amqp_types.specs.Canon.{part_form}
@@ -84,3 +84,8 @@ Appended (Err e) answer old new = (answer ≡ Err e) × (new ≡ old)
 abbrev pub AppendedHead : List ℕ → Result (Unit {0}) FrameRefusal → Result (List ℕ) FrameRefusal → List ℕ → List ℕ → Type 0
 AppendedHead payload (Ok u) answer old new = (x : List ℕ) × (answer ≡ Ok x) × (new ++ payload ≡ old ++ x)
 AppendedHead payload (Err e) answer old new = Appended (Err e) answer old new
+
+-- The one where the payload stays apart, and the other where it does not.
+abbrev pub AppendedSo : Bool → List ℕ → Result (Unit {0}) FrameRefusal → Result (List ℕ) FrameRefusal → List ℕ → List ℕ → Type 0
+AppendedSo true payload = AppendedHead payload
+AppendedSo false payload = Appended

@@ -1,7 +1,7 @@
 //! Frames written behind octets: transfers, flows and dispositions of plain fields by way of a small buffer, any other as `write_frame` does.
 ghost use Rattle.std.specs.Prelude.{◌≡◌, ◌≤◌, ◌<◌, ◌+◌, ◌-◌, ◌++◌, [], ◌∷◌, ℕ, List, Option, Some, None, IfSome, length, take, option_map, if◌then◌else◌, nat_lt, nat_eq, IfNone, OnOk, false, vec_len, vec_capacity};
 ghost use Rattle.std.specs.Int.{to_be_bytes, w32};
-ghost use Rattle.amqp_frames.specs.Plain.{Holds, full, trim, uint_octets, boolean_octets, ubyte_octets, binary_octets, bare_octets, state_of, IsShown, AreShown, Appended, AppendedHead};
+ghost use Rattle.amqp_frames.specs.Plain.{Holds, full, trim, uint_octets, boolean_octets, ubyte_octets, binary_octets, bare_octets, state_of, IsShown, AreShown, Appended, AppendedHead, AppendedSo};
 ghost use Rattle.amqp_types.specs.Datum.{Data, count_of, greatest_depth_of};
 ghost use Rattle.amqp_types.specs.Canon.{canon, parts_form};
 ghost use Rattle.amqp_performatives.specs.Composite.{type_of};
@@ -360,9 +360,10 @@ fn room_of(apart: bool, end: usize, size: usize) -> usize
     if apart { end } else { size }
 }
 
-/// Appends what stands before the payload of the frame whose fields stand in the buffer from its fifteenth place on, so many as are shown.
+/// Appends the frame whose fields stand in the buffer from its fifteenth place on, so many as are shown: all of it, or what stands before a payload that stays
+/// apart.
 #[inline(always)]
-fn append_plain_head(
+fn append_plain(
     envelope: &Envelope<'_>,
     composite: Composite,
     shown: (usize, usize),
@@ -372,8 +373,7 @@ fn append_plain_head(
 ) -> Result<(), FrameRefusal>
     requires some { (0 < shown.1) × (shown.1 < 256) }
     requires bound { (14 ≤ shown.0) × (shown.0 ≤ 96) }
-    ensures head { (ds : Data) (x : List ℕ) → parts_form ds None ≡ Some x → count_of ds ≡ shown.1 → greatest_depth_of ds ≤ 3 → take shown.0 head.old ≡ take 14 head.old ++ x → AppendedHead envelope.now.payload.now result (body_answer envelope.now.channel envelope.now.max (canon (composite_datum (type_of composite).0 ds)) envelope.now.payload.now) out.old.items out.new.items }
-    ensures room { false ≡ apart → OnOk result (vec_len out.new + length envelope.now.payload.now ≤ vec_capacity out.new) }
+    ensures { (ds : Data) (x : List ℕ) → parts_form ds None ≡ Some x → count_of ds ≡ shown.1 → greatest_depth_of ds ≤ 3 → take shown.0 head.old ≡ take 14 head.old ++ x → AppendedSo apart envelope.now.payload.now result (body_answer envelope.now.channel envelope.now.max (canon (composite_datum (type_of composite).0 ds)) envelope.now.payload.now) out.old.items out.new.items }
 {
     let (end, count) = shown;
     let code = composite.number();
@@ -386,61 +386,28 @@ fn append_plain_head(
         return Err(FrameRefusal::NoMemory);
     };
     out.extend_from_slice(&head[..end]).unwrap();
+    if apart {
+        return Ok(());
+    }
+    out.extend_from_slice(envelope.payload).unwrap();
     Ok(())
 }
 
-/// Appends the frame whose fields stand in the buffer from its fifteenth place on, so many as are shown.
-#[inline(always)]
-fn append_plain(
-    envelope: &Envelope<'_>,
-    composite: Composite,
-    shown: (usize, usize),
-    head: &mut [u8; ROOM],
-    out: &mut Vec<u8>,
-) -> Result<(), FrameRefusal>
-    requires some { (0 < shown.1) × (shown.1 < 256) }
-    requires bound { (14 ≤ shown.0) × (shown.0 ≤ 96) }
-    ensures { (ds : Data) (x : List ℕ) → parts_form ds None ≡ Some x → count_of ds ≡ shown.1 → greatest_depth_of ds ≤ 3 → take shown.0 head.old ≡ take 14 head.old ++ x → Appended result (body_answer envelope.now.channel envelope.now.max (canon (composite_datum (type_of composite).0 ds)) envelope.now.payload.now) out.old.items out.new.items }
-{
-    match append_plain_head(envelope, composite, shown, false, head, out) {
-        Ok(()) => {
-            out.extend_from_slice(envelope.payload).unwrap();
-            Ok(())
-        }
-        Err(refusal) => Err(refusal),
-    }
-}
-
-/// Appends the frame with the transfer but its payload.
-#[inline(always)]
-fn append_transfer_head(
-    envelope: &Envelope<'_>,
-    body: &TransferBody,
-    reached: PlainState,
-    out: &mut Vec<u8>,
-) -> Result<(), FrameRefusal>
-    requires { body.now.state ≡ state_of reached }
-    ensures { AppendedHead envelope.now.payload.now result (body_answer envelope.now.channel envelope.now.max (canon (composite_datum (type_of Composite.Transfer).0 (canonical_fields (transfer_fields body.now)))) envelope.now.payload.now) out.old.items out.new.items }
-{
-    let mut head = [0; ROOM];
-    let shown = put_transfer(body, reached, &mut head);
-    append_plain_head(envelope, Composite::Transfer, shown, true, &mut head, out)
-}
-
-/// Appends the frame with the transfer and the payload.
+/// Appends the frame with the transfer, with its payload or but that.
 #[inline(always)]
 fn append_transfer(
     envelope: &Envelope<'_>,
     body: &TransferBody,
     reached: PlainState,
+    apart: bool,
     out: &mut Vec<u8>,
 ) -> Result<(), FrameRefusal>
     requires { body.now.state ≡ state_of reached }
-    ensures { Appended result (body_answer envelope.now.channel envelope.now.max (canon (composite_datum (type_of Composite.Transfer).0 (canonical_fields (transfer_fields body.now)))) envelope.now.payload.now) out.old.items out.new.items }
+    ensures { AppendedSo apart envelope.now.payload.now result (body_answer envelope.now.channel envelope.now.max (canon (composite_datum (type_of Composite.Transfer).0 (canonical_fields (transfer_fields body.now)))) envelope.now.payload.now) out.old.items out.new.items }
 {
     let mut head = [0; ROOM];
     let shown = put_transfer(body, reached, &mut head);
-    append_plain(envelope, Composite::Transfer, shown, &mut head, out)
+    append_plain(envelope, Composite::Transfer, shown, apart, &mut head, out)
 }
 
 #[inline(always)]
@@ -454,7 +421,7 @@ fn append_flow(
 {
     let mut head = [0; ROOM];
     let shown = put_flow(body, &mut head);
-    append_plain(envelope, Composite::Flow, shown, &mut head, out)
+    append_plain(envelope, Composite::Flow, shown, false, &mut head, out)
 }
 
 #[inline(always)]
@@ -469,7 +436,14 @@ fn append_disposition(
 {
     let mut head = [0; ROOM];
     let shown = put_disposition(body, reached, &mut head);
-    append_plain(envelope, Composite::Disposition, shown, &mut head, out)
+    append_plain(
+        envelope,
+        Composite::Disposition,
+        shown,
+        false,
+        &mut head,
+        out,
+    )
 }
 
 /// Appends the frame's octets as `write_frame` writes them.
@@ -508,7 +482,7 @@ pub fn append_frame(frame: &Frame, max: u32, out: &mut Vec<u8>) -> Result<(), Fr
     match performative {
         Performative::Transfer(body) => {
             if let Some(reached) = bare_state(&body.state) {
-                return append_transfer(&envelope, body, reached, out);
+                return append_transfer(&envelope, body, reached, false, out);
             }
         }
         Performative::Flow(body) => {
@@ -553,5 +527,5 @@ pub fn append_head(frame: &Frame, max: u32, out: &mut Vec<u8>) -> Option<Result<
         payload: frame.payload.as_slice(),
         max,
     };
-    Some(append_transfer_head(&envelope, body, reached, out))
+    Some(append_transfer(&envelope, body, reached, true, out))
 }

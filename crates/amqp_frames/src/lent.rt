@@ -11,12 +11,11 @@ use crate::fair::{
     is_sender_mode, is_tag,
 };
 use crate::fault::FrameRefusal;
-use crate::kinds::measure_open_body;
 use crate::measured::{Measured, measure_list};
 use amqp_performatives::field::{
     Field, any, boolean, failure, mapping, role, state, ubyte, uint, ulong,
 };
-use amqp_performatives::listed::begin_fields;
+use amqp_performatives::listed::{begin_fields, open_fields};
 use amqp_performatives::{AmqpError, BeginBody, DeliveryState, OpenBody, Performative, Role};
 use amqp_types::{Boxed, Items, Tag, Value};
 
@@ -62,7 +61,7 @@ pub fn measure_open(body: &OpenBody, max: u32) -> Result<Measured, FrameRefusal>
     if !is_fair_open(body) {
         return Err(FrameRefusal::NotWritable);
     }
-    measure_open_body(body, 0, max)
+    measure_list(&open_fields(body), 0, max)
 }
 
 /// What a transfer says that resumes a delivery, as `TransferBody`, with its tag and its state lent. It has no payload, and its other fields are absent

@@ -4,7 +4,7 @@
 //! |---|---|
 //! | `frame`, `fault` | a frame; what is wrong with octets, and why a frame is not written |
 //! | `octets`, `framer`, `stream`, `header`, `contents`, `filled` | frames out of pieces: what came, kept octets, a whole piece, the header, what follows it, a slot for the frame |
-//! | `written`, `append`, `kinds`, `writing`, `leaf` | frames written: alone, behind others, by kind of performative, by field, by run of octets |
+//! | `written`, `append`, `writing`, `leaf` | frames written: alone, behind others, by field, by run of octets |
 //! | `measured`, `measure`, `lent`, `fair` | how long a frame will be, without memory, also from lent parts; whether it can be written |
 //! | `laws` | what octets in a frame's place are, and that cutting makes no difference |
 //!
@@ -25,7 +25,6 @@ mod filled;
 mod frame;
 mod framer;
 mod header;
-mod kinds;
 mod laws;
 mod leaf;
 mod lent;

@@ -1,16 +1,17 @@
 //! How many octets fields take, without memory. A size of `u64::MAX` stands for all from there on.
-ghost use Rattle.std.specs.Prelude.{◌≡◌, ◌≤◌, ◌<◌, ℕ, None, length, option_map};
+ghost use Rattle.std.specs.Prelude.{◌≡◌, ◌≤◌, ℕ, None, length, option_map};
 ghost use Rattle.amqp_types.specs.Canon.{capped, part_form};
 ghost use Rattle.amqp_types.specs.Datum.{count_of};
+ghost use Rattle.amqp_performatives.specs.Composite.{type_of};
 ghost use Rattle.amqp_performatives.specs.Part.{canonical};
 ghost use Rattle.amqp_performatives.specs.Bodies.{symbol, mapping, any, error, state};
 ghost use Rattle.amqp_frames.specs.Field.{form_within, forms_within, measured, composite_datum};
 ghost use Rattle.amqp_performatives.specs.Listed.{part_at, is_absent, shown_fields};
 
 use crate::leaf::{list_len, run_len, ubyte_size, ushort_size};
-use amqp_performatives::field::{Field, any, boolean, failure};
+use amqp_performatives::field::Field;
 use amqp_performatives::listed::{error_fields, shown_count};
-use amqp_performatives::{AmqpError, DeliveryState};
+use amqp_performatives::{AmqpError, Composite, DeliveryState};
 use amqp_types::{
     MAX_DEPTH, Value, is_symbol, map_size_within, size_within, uint_size, ulong_size,
 };
@@ -81,7 +82,7 @@ fn any_len(value: &Value, depth: u8) -> Option<u64>
 fn error_len(failed: &AmqpError, depth: u8) -> Option<u64>
     ensures { result ≡ capped (form_within depth (canonical (error failed.now))) }
 {
-    composite_len(&error_fields(failed), depth)
+    composite_len(Composite::Error, &error_fields(failed), depth)
 }
 
 #[inline(never)]
@@ -89,45 +90,22 @@ fn error_len(failed: &AmqpError, depth: u8) -> Option<u64>
 fn state_len(reached: &DeliveryState, depth: u8) -> Option<u64>
     ensures { result ≡ capped (form_within depth (canonical (state reached.now))) }
 {
-    match reached {
-        DeliveryState::Received {
-            section_number,
-            section_offset,
-        } => {
-            composite_len(
-                &[Field::Uint(*section_number), Field::Ulong(*section_offset)],
-                depth,
-            )
-        }
-        DeliveryState::Accepted => composite_len(&[], depth),
-        DeliveryState::Rejected(failed) => composite_len(&[failure(failed)], depth),
-        DeliveryState::Released => composite_len(&[], depth),
-        DeliveryState::Modified {
-            delivery_failed,
-            undeliverable_here,
-            message_annotations,
-        } => {
-            composite_len(
-                &[
-                    boolean(*delivery_failed),
-                    boolean(*undeliverable_here),
-                    any(message_annotations),
-                ],
-                depth,
-            )
-        }
-        DeliveryState::Other(value) => size_within(depth, value.get()),
+    match reached.listed() {
+        Ok(listed) => composite_len(listed.composite(), listed.fields(), depth),
+        Err(value) => size_within(depth, value),
     }
 }
 
-/// How many octets a described list of the fields takes, where its descriptor's number is below 256.
+/// How many octets a described list of the fields takes.
 #[cycle(measuring)]
-fn composite_len(fields: &[Field<'_>], depth: u8) -> Option<u64>
-    ensures { (code : ℕ) → 0 < code → code < 256 → result ≡ capped (form_within depth (composite_datum code (shown_fields fields.now))) }
+fn composite_len(composite: Composite, fields: &[Field<'_>], depth: u8) -> Option<u64>
+    ensures { result ≡ capped (form_within depth (composite_datum (type_of composite).0 (shown_fields fields.now))) }
 {
     if depth < 2 {
         return None;
     }
+    // For the proof: the descriptor's number is below 256.
+    let _code = composite.number();
     let measure = fields_len(fields, depth - 2)?;
     let size = list_len(measure.count, measure.size)?;
     Some(size + 3)

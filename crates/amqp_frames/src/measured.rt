@@ -10,11 +10,6 @@ ghost use Rattle.amqp_frames.specs.Measuring.{Measures, MeasuresList};
 
 use crate::fair::is_fair;
 use crate::fault::FrameRefusal;
-use crate::kinds::{
-    measure_attach_body, measure_begin_body, measure_close_body, measure_detach_body,
-    measure_disposition_body, measure_end_body, measure_flow_body, measure_open_body,
-    measure_transfer_body,
-};
 use crate::leaf::list_len;
 use crate::measure::{FIELD_DEPTH, Measure, fields_len};
 use amqp_performatives::Performative;
@@ -81,17 +76,10 @@ fn measure_performative(
 ) -> Result<Measured, FrameRefusal>
     ensures { (channel : ℕ) (payload : List ℕ) → length payload ≡ payload_len → MeasuresList result channel max (descriptor_of performative.now).0 (canonical_fields (fields_of performative.now)) payload }
 {
-    match performative {
-        Performative::Open(body) => measure_open_body(body.get(), payload_len, max),
-        Performative::Begin(body) => measure_begin_body(body.get(), payload_len, max),
-        Performative::Attach(body) => measure_attach_body(body.get(), payload_len, max),
-        Performative::Flow(body) => measure_flow_body(body, payload_len, max),
-        Performative::Transfer(body) => measure_transfer_body(body, payload_len, max),
-        Performative::Disposition(body) => measure_disposition_body(body, payload_len, max),
-        Performative::Detach(body) => measure_detach_body(body, payload_len, max),
-        Performative::End(body) => measure_end_body(body, payload_len, max),
-        Performative::Close(body) => measure_close_body(body, payload_len, max),
-    }
+    let listed = performative.listed();
+    // For the proof: the descriptor's number is below 256.
+    let _code = listed.composite().number();
+    measure_list(listed.fields(), payload_len, max)
 }
 
 /// Whether so many octets of payload may follow: some follow a transfer alone.

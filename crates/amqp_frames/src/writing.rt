@@ -11,7 +11,7 @@ ghost use Rattle.amqp_performatives.specs.Listed.{part_at, shown_fields};
 
 use crate::leaf::{put_list_head, put_run};
 use crate::measure::{FIELD_DEPTH, Measure, fields_len};
-use amqp_performatives::field::{Field, any, boolean, failure};
+use amqp_performatives::field::Field;
 use amqp_performatives::listed::error_fields;
 use amqp_performatives::{AmqpError, Composite, DeliveryState};
 use amqp_types::{
@@ -80,39 +80,9 @@ fn put_error(failed: &AmqpError, depth: u8, out: &mut Vec<u8>) -> Result<(), Wri
 fn put_state(reached: &DeliveryState, depth: u8, out: &mut Vec<u8>) -> Result<(), WriteFault>
     ensures { OnOk result (added out.old.items (part_form None (canonical (state reached.now))) ≡ Some out.new.items) }
 {
-    match reached {
-        DeliveryState::Received {
-            section_number,
-            section_offset,
-        } => {
-            put_composite(
-                Composite::Received,
-                &[Field::Uint(*section_number), Field::Ulong(*section_offset)],
-                depth,
-                out,
-            )
-        }
-        DeliveryState::Accepted => put_composite(Composite::Accepted, &[], depth, out),
-        DeliveryState::Rejected(failed) => put_composite(
-            Composite::Rejected,
-            &[failure(failed)],
-            depth,
-            out,
-        ),
-        DeliveryState::Released => put_composite(Composite::Released, &[], depth, out),
-        DeliveryState::Modified {
-            delivery_failed,
-            undeliverable_here,
-            message_annotations,
-        } => {
-            let fields = [
-                boolean(*delivery_failed),
-                boolean(*undeliverable_here),
-                any(message_annotations),
-            ];
-            put_composite(Composite::Modified, &fields, depth, out)
-        }
-        DeliveryState::Other(value) => append_value(value.get(), out),
+    match reached.listed() {
+        Ok(listed) => put_composite(listed.composite(), listed.fields(), depth, out),
+        Err(value) => append_value(value, out),
     }
 }
 

@@ -9,12 +9,9 @@ ghost use Rattle.amqp_frames.specs.Measuring.{IsListMeasure, IsMeasureOf, listed
 
 use crate::fault::FrameRefusal;
 use crate::frame::Frame;
-use crate::kinds::{
-    put_attach, put_begin, put_close, put_detach, put_disposition, put_end, put_flow, put_open,
-    put_transfer,
-};
 use crate::measure::Measure;
 use crate::measured::{Measured, measure_frame};
+use crate::writing::put_list;
 use amqp_performatives::Performative;
 use amqp_types::WriteFault;
 use bytes::Bytes;
@@ -99,30 +96,10 @@ fn put_contents(
     requires { IsListMeasure 30 list (listed (Some performative.now)) }
     ensures { OnOk result (added out.old.items (with_payload (canon (canonical (part_of performative.now))) payload.now) ≡ Some out.new.items) }
 {
-    put_performative(performative, list, out)?;
+    let listed = performative.listed();
+    put_list(listed.composite(), listed.fields(), list, out)?;
     out.extend_from_slice(payload)?;
     Ok(())
-}
-
-fn put_performative(
-    performative: &Performative,
-    list: Measure,
-    out: &mut Vec<u8>,
-) -> Result<(), WriteFault>
-    requires { IsListMeasure 30 list (listed (Some performative.now)) }
-    ensures { OnOk result (added out.old.items (canon (canonical (part_of performative.now))) ≡ Some out.new.items) }
-{
-    match performative {
-        Performative::Open(body) => put_open(body.get(), list, out),
-        Performative::Begin(body) => put_begin(body.get(), list, out),
-        Performative::Attach(body) => put_attach(body.get(), list, out),
-        Performative::Flow(body) => put_flow(body, list, out),
-        Performative::Transfer(body) => put_transfer(body, list, out),
-        Performative::Disposition(body) => put_disposition(body, list, out),
-        Performative::Detach(body) => put_detach(body, list, out),
-        Performative::End(body) => put_end(body, list, out),
-        Performative::Close(body) => put_close(body, list, out),
-    }
 }
 
 /// The octets, without a copy.

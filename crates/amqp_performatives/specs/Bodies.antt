@@ -21,7 +21,7 @@ use Rattle.amqp_performatives.specs.declared.state.DeliveryState.{DeliveryState}
 use Rattle.amqp_performatives.specs.declared.state.DeliveryState.TheVariants.{Received, Accepted, Rejected, Released, Modified, Other}
 use Rattle.amqp_performatives.specs.declared.performative.Performative.{Performative}
 use Rattle.amqp_performatives.specs.declared.performative.Performative.TheVariants.{Open, Begin, Attach, Flow, Transfer, Disposition, Detach, End, Close}
-use Rattle.amqp_performatives.specs.declared.composite.Composite.TheVariants as Composite
+use Rattle.amqp_performatives.specs.declared.composite.Composite.{Composite}
 use Rattle.amqp_performatives.specs.Composite.{type_of}
 use Rattle.amqp_performatives.specs.Part.{Part, Fields, absent, value, composite, no_field, field}
 
@@ -206,17 +206,21 @@ fields_of (Detach b) = detach_fields b
 fields_of (End b) = end_fields b
 fields_of (Close b) = close_fields b
 
+-- its composite type
+abbrev pub composite_of : Performative → Composite
+composite_of (Open b) = Composite.Open
+composite_of (Begin b) = Composite.Begin
+composite_of (Attach b) = Composite.Attach
+composite_of (Flow b) = Composite.Flow
+composite_of (Transfer b) = Composite.Transfer
+composite_of (Disposition b) = Composite.Disposition
+composite_of (Detach b) = Composite.Detach
+composite_of (End b) = Composite.End
+composite_of (Close b) = Composite.Close
+
 -- the number and the name of its descriptor
 abbrev pub descriptor_of : Performative → ℕ × List ℕ
-descriptor_of (Open b) = type_of Composite.Open
-descriptor_of (Begin b) = type_of Composite.Begin
-descriptor_of (Attach b) = type_of Composite.Attach
-descriptor_of (Flow b) = type_of Composite.Flow
-descriptor_of (Transfer b) = type_of Composite.Transfer
-descriptor_of (Disposition b) = type_of Composite.Disposition
-descriptor_of (Detach b) = type_of Composite.Detach
-descriptor_of (End b) = type_of Composite.End
-descriptor_of (Close b) = type_of Composite.Close
+descriptor_of p = type_of (composite_of p)
 
 abbrev pub part_of : Performative → Part
 part_of p = composite (descriptor_of p) (fields_of p)

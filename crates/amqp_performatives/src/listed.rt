@@ -1,18 +1,142 @@
 //! The fields of each composite type, in their order (part 2, 2.7 and 2.8.14; part 3, 3.4).
-ghost use Rattle.std.specs.Prelude.{◌≡◌, ◌≤◌, ◌∷◌, [], length};
+ghost use Rattle.std.specs.Prelude.{◌≡◌, ◌≤◌, ◌∷◌, [], length, MatchResult};
 ghost use Rattle.amqp_types.specs.Datum.{count_of};
-ghost use Rattle.amqp_performatives.specs.Part.{no_field};
-ghost use Rattle.amqp_performatives.specs.Bodies.{symbol, string, any, optional, error, ◌▸◌, open_fields, begin_fields, attach_fields, flow_fields, transfer_fields, disposition_fields, detach_fields, end_fields, close_fields};
+ghost use Rattle.amqp_performatives.specs.Composite.{type_of};
+ghost use Rattle.amqp_performatives.specs.Part.{no_field, composite};
+ghost use Rattle.amqp_performatives.specs.Bodies.{symbol, string, any, optional, error, ◌▸◌, open_fields, begin_fields, attach_fields, flow_fields, transfer_fields, disposition_fields, detach_fields, composite_of, fields_of, state};
 ghost use Rattle.amqp_performatives.specs.Listed.{part_at, fields_at, is_absent, shown_fields};
 
 use crate::bodies::{
-    AttachBody, BeginBody, CloseBody, DetachBody, DispositionBody, EndBody, FlowBody, OpenBody,
-    TransferBody,
+    AttachBody, BeginBody, DetachBody, DispositionBody, FlowBody, OpenBody, TransferBody,
 };
+use crate::composite::Composite;
 use crate::error::AmqpError;
 use crate::field::{
     Field, any, boolean, failure, mapping, role, state, string, tag, ubyte, uint, ulong, ushort,
 };
+use crate::performative::Performative;
+use crate::state::DeliveryState;
+use amqp_types::Value;
+use std::marker::Model;
+
+/// As many fields as an attach has, which has most.
+const MOST: usize = 14;
+
+/// A composite type with its fields in their order, borrowed from its body. Contracts see it as these two.
+#[derive(Drop)]
+pub struct Listed<'a> {
+    composite: Composite,
+    fields: [Field<'a>; MOST],
+    count: usize,
+}
+
+impl<'a> Model for Listed<'a> {
+    ghost use Rattle.std.specs.Prelude.{List, ◌≤◌, take};
+    ghost use Rattle.amqp_performatives.specs.declared.composite.Composite.{Composite};
+    ghost use Rattle.amqp_performatives.specs.declared.field.Field.{Field};
+    ghost use Rattle.std.specs.Coded.{codes};
+    ghost use Rattle.amqp_types.specs.contracts.value.Value as value;
+
+    ghost Value = { Composite × List Field };
+
+    ghost coded = { Prim.hlevel (codes, value.the_row.coded) };
+
+    ghost view = { λ l. (l.composite, take l.count l.fields) };
+
+    ghost invariant = { λ l. l.count ≤ 14 };
+}
+
+impl<'a> Listed<'a> {
+    fn new(composite: Composite, fields: &[Field<'a>]) -> Listed<'a>
+        requires { length fields.now ≤ 14 }
+        ensures composite { result.0 ≡ composite }
+        ensures fields { result.1 ≡ fields.now }
+    {
+        let count = fields.len();
+        let mut all = [Field::Absent; MOST];
+        all[..count].copy_from_slice(fields);
+        Listed {
+            composite,
+            fields: all,
+            count,
+        }
+    }
+
+    /// The type.
+    pub fn composite(&self) -> Composite
+        ensures { result ≡ self.now.0 }
+    {
+        self.composite
+    }
+
+    /// The fields, absent ones at the end too.
+    pub fn fields(&self) -> &[Field<'a>]
+        ensures { result.now ≡ self.now.1 }
+    {
+        &self.fields[..self.count]
+    }
+}
+
+impl Performative {
+    /// Its type with its fields.
+    pub fn listed(&self) -> Listed<'_>
+        ensures composite { result.0 ≡ composite_of self.now }
+        ensures fields { fields_at result.1 ≡ fields_of self.now }
+    {
+        match self {
+            Performative::Open(body) => Listed::new(Composite::Open, &open_fields(body.get())),
+            Performative::Begin(body) => Listed::new(Composite::Begin, &begin_fields(body.get())),
+            Performative::Attach(body) => {
+                Listed::new(Composite::Attach, &attach_fields(body.get()))
+            }
+            Performative::Flow(body) => Listed::new(Composite::Flow, &flow_fields(body)),
+            Performative::Transfer(body) => {
+                Listed::new(Composite::Transfer, &transfer_fields(body))
+            }
+            Performative::Disposition(body) => {
+                Listed::new(Composite::Disposition, &disposition_fields(body))
+            }
+            Performative::Detach(body) => Listed::new(Composite::Detach, &detach_fields(body)),
+            Performative::End(body) => Listed::new(Composite::End, &[failure(&body.error)]),
+            Performative::Close(body) => Listed::new(Composite::Close, &[failure(&body.error)]),
+        }
+    }
+}
+
+impl DeliveryState {
+    /// Its type with its fields (part 3, 3.4), or the value that a state of another type is.
+    pub fn listed(&self) -> Result<Listed<'_>, &Value>
+        ensures { MatchResult result (λ l. state self.now ≡ composite (type_of l.0) (fields_at l.1)) (λ v. state self.now ≡ any v.now) }
+    {
+        match self {
+            DeliveryState::Received {
+                section_number,
+                section_offset,
+            } => {
+                let fields = [Field::Uint(*section_number), Field::Ulong(*section_offset)];
+                Ok(Listed::new(Composite::Received, &fields))
+            }
+            DeliveryState::Accepted => Ok(Listed::new(Composite::Accepted, &[])),
+            DeliveryState::Rejected(failed) => {
+                Ok(Listed::new(Composite::Rejected, &[failure(failed)]))
+            }
+            DeliveryState::Released => Ok(Listed::new(Composite::Released, &[])),
+            DeliveryState::Modified {
+                delivery_failed,
+                undeliverable_here,
+                message_annotations,
+            } => {
+                let fields = [
+                    boolean(*delivery_failed),
+                    boolean(*undeliverable_here),
+                    any(message_annotations),
+                ];
+                Ok(Listed::new(Composite::Modified, &fields))
+            }
+            DeliveryState::Other(value) => Err(value.get()),
+        }
+    }
+}
 
 /// Those of an open (part 2, 2.7.1).
 pub fn open_fields(body: &OpenBody) -> [Field<'_>; 10]
@@ -131,20 +255,6 @@ pub fn detach_fields(body: &DetachBody) -> [Field<'_>; 3]
         boolean(body.closed),
         failure(&body.error),
     ]
-}
-
-/// That of an end (part 2, 2.7.8).
-pub fn end_fields(body: &EndBody) -> [Field<'_>; 1]
-    ensures { fields_at result ≡ end_fields body.now }
-{
-    [failure(&body.error)]
-}
-
-/// That of a close (part 2, 2.7.9).
-pub fn close_fields(body: &CloseBody) -> [Field<'_>; 1]
-    ensures { fields_at result ≡ close_fields body.now }
-{
-    [failure(&body.error)]
 }
 
 /// Those of an error (part 2, 2.8.14).

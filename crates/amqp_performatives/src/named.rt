@@ -2,10 +2,7 @@
 ghost use Rattle.std.specs.Prelude.{◌≡◌};
 ghost use Rattle.amqp_performatives.specs.Named.{name_of, field_count};
 
-use crate::listed::{
-    attach_fields, begin_fields, close_fields, detach_fields, disposition_fields, end_fields,
-    flow_fields, open_fields, shown_count, transfer_fields,
-};
+use crate::listed::shown_count;
 use crate::performative::Performative;
 
 impl Performative {
@@ -30,17 +27,6 @@ impl Performative {
     pub fn fields(&self) -> u32
         ensures { result ≡ field_count self.now }
     {
-        let count = match self {
-            Performative::Open(body) => shown_count(&open_fields(body.get())),
-            Performative::Begin(body) => shown_count(&begin_fields(body.get())),
-            Performative::Attach(body) => shown_count(&attach_fields(body.get())),
-            Performative::Flow(body) => shown_count(&flow_fields(body)),
-            Performative::Transfer(body) => shown_count(&transfer_fields(body)),
-            Performative::Disposition(body) => shown_count(&disposition_fields(body)),
-            Performative::Detach(body) => shown_count(&detach_fields(body)),
-            Performative::End(body) => shown_count(&end_fields(body)),
-            Performative::Close(body) => shown_count(&close_fields(body)),
-        };
-        count as u32
+        shown_count(self.listed().fields()) as u32
     }
 }

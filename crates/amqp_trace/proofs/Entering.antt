@@ -20,9 +20,6 @@ from words fields place = present (texts (drop place words)) (fields_at (drop pl
 pub record SoFar (words : List (Bor (List ℕ))) (fields : List Field) (place : ℕ) (is_first : Bool) (old now : List ℕ) : Type 0 where
   pub then_all : (new : List ℕ) → Entries is_first (from words fields place) now new → Entries true (present (texts words) (fields_at fields)) old new
 
-pub none_yet : (words : List (Bor (List ℕ))) (fields : List Field) (old : List ℕ) → SoFar words fields 0 true old old
-none_yet words fields old = record { then_all = λ new e. e }
-
 present_absent : (name : List ℕ) (names : List (List ℕ)) (p : Part) (fs : Fields) → is_absent p ≡ true → present (name ∷ names) (field p fs) ≡ present names fs
 unfolding present
 present_absent name names p fs e = rw e

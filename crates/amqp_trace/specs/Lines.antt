@@ -1,12 +1,10 @@
 -- The line of a frame.
 use Rattle.std.specs.Prelude.{ℕ, ◌≡◌, suc, Bool, true, false, nat_lt, if◌then◌else◌, Option, Some, None, List, [], ◌∷◌, ◌++◌, length, take, codes, decimal}
 use Rattle.amqp_performatives.specs.declared.composite.Composite.{Composite}
-use Rattle.amqp_performatives.specs.declared.composite.Composite.TheVariants as composite
 use Rattle.amqp_performatives.specs.declared.performative.Performative.{Performative}
-use Rattle.amqp_performatives.specs.declared.performative.Performative.TheVariants.{Open, Begin, Attach, Flow, Transfer, Disposition, Detach, End, Close}
 use Rattle.amqp_performatives.specs.Composite.{type_of}
 use Rattle.amqp_performatives.specs.Part.{Fields, no_field, field}
-use Rattle.amqp_performatives.specs.Bodies.{fields_of}
+use Rattle.amqp_performatives.specs.Bodies.{composite_of, fields_of}
 use Rattle.amqp_performatives.specs.Listed.{is_absent}
 use Rattle.amqp_frames.specs.declared.frame.Frame.{Frame}
 use Rattle.amqp_trace.specs.declared.frame.Direction.{Direction}
@@ -30,17 +28,6 @@ Entries is_first (name ∷ names) old new = (next : List ℕ) × Continues (old 
 abbrev pub IsListed : Composite → List (List ℕ) → List ℕ → List ℕ → Type 0
 IsListed type names old new =
     (inside : List ℕ) × Entries true names (old ++ type_text (type_name type) (type_of type).0 ++ codes "[") inside × (new ≡ inside ++ codes "]")
-
-abbrev pub composite_of : Performative → Composite
-composite_of (Open b) = composite.Open
-composite_of (Begin b) = composite.Begin
-composite_of (Attach b) = composite.Attach
-composite_of (Flow b) = composite.Flow
-composite_of (Transfer b) = composite.Transfer
-composite_of (Disposition b) = composite.Disposition
-composite_of (Detach b) = composite.Detach
-composite_of (End b) = composite.End
-composite_of (Close b) = composite.Close
 
 -- the fields that are there stand by the standard's names
 abbrev pub IsPerformative : Performative → List ℕ → List ℕ → Type 0

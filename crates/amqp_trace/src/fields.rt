@@ -11,11 +11,8 @@ use crate::text::Line;
 use crate::values::{
     put_binary, put_boolean, put_comma, put_pairs, put_string, put_symbol, put_type, put_value,
 };
-use amqp_performatives::field::{Field, any, boolean, failure};
-use amqp_performatives::listed::{
-    attach_fields, begin_fields, close_fields, detach_fields, disposition_fields, end_fields,
-    error_fields, flow_fields, open_fields, transfer_fields,
-};
+use amqp_performatives::field::Field;
+use amqp_performatives::listed::error_fields;
 use amqp_performatives::{AmqpError, Composite, DeliveryState, Performative};
 use amqp_types::MAX_DEPTH;
 use std::alloc::AllocError;
@@ -24,48 +21,8 @@ use std::alloc::AllocError;
 pub(crate) fn put_performative(line: &mut Line, body: &Performative) -> Result<(), AllocError>
     ensures { OnOk result (IsPerformative body.now line.old line.new) }
 {
-    match body {
-        Performative::Open(body) => {
-            put_composite(line, Composite::Open, &open_fields(body.get()), MAX_DEPTH)
-        }
-        Performative::Begin(body) => {
-            put_composite(line, Composite::Begin, &begin_fields(body.get()), MAX_DEPTH)
-        }
-        Performative::Attach(body) => {
-            put_composite(
-                line,
-                Composite::Attach,
-                &attach_fields(body.get()),
-                MAX_DEPTH,
-            )
-        }
-        Performative::Flow(body) => {
-            put_composite(line, Composite::Flow, &flow_fields(body), MAX_DEPTH)
-        }
-        Performative::Transfer(body) => {
-            put_composite(line, Composite::Transfer, &transfer_fields(body), MAX_DEPTH)
-        }
-        Performative::Disposition(body) => {
-            put_composite(
-                line,
-                Composite::Disposition,
-                &disposition_fields(body),
-                MAX_DEPTH,
-            )
-        }
-        Performative::Detach(body) => {
-            put_composite(line, Composite::Detach, &detach_fields(body), MAX_DEPTH)
-        }
-        Performative::End(body) => put_composite(
-            line,
-            Composite::End,
-            &end_fields(body),
-            MAX_DEPTH,
-        ),
-        Performative::Close(body) => {
-            put_composite(line, Composite::Close, &close_fields(body), MAX_DEPTH)
-        }
-    }
+    let listed = body.listed();
+    put_composite(line, listed.composite(), listed.fields(), MAX_DEPTH)
 }
 
 /// A composite, with the fields that are present.
@@ -179,31 +136,8 @@ fn put_state(line: &mut Line, reached: &DeliveryState, depth: u8) -> Result<(), 
     if depth == 0 {
         return line.put("..");
     }
-    match reached {
-        DeliveryState::Received {
-            section_number,
-            section_offset,
-        } => {
-            let fields = [Field::Uint(*section_number), Field::Ulong(*section_offset)];
-            put_composite(line, Composite::Received, &fields, depth - 1)
-        }
-        DeliveryState::Accepted => put_composite(line, Composite::Accepted, &[], depth - 1),
-        DeliveryState::Rejected(failed) => {
-            put_composite(line, Composite::Rejected, &[failure(failed)], depth - 1)
-        }
-        DeliveryState::Released => put_composite(line, Composite::Released, &[], depth - 1),
-        DeliveryState::Modified {
-            delivery_failed,
-            undeliverable_here,
-            message_annotations,
-        } => {
-            let fields = [
-                boolean(*delivery_failed),
-                boolean(*undeliverable_here),
-                any(message_annotations),
-            ];
-            put_composite(line, Composite::Modified, &fields, depth - 1)
-        }
-        DeliveryState::Other(value) => put_value(line, value.get(), depth),
+    match reached.listed() {
+        Ok(listed) => put_composite(line, listed.composite(), listed.fields(), depth - 1),
+        Err(value) => put_value(line, value, depth),
     }
 }

@@ -1,9 +1,9 @@
 //! A frame as a line (part 2, 2.3).
 ghost use Rattle.std.specs.Prelude.{◌≡◌, ◌++◌, ℕ, length, take, IfOk, OnOk};
 ghost use Rattle.amqp_performatives.specs.declared.performative.Performative.{Performative};
-ghost use Rattle.amqp_performatives.specs.Bodies.{fields_of};
+ghost use Rattle.amqp_performatives.specs.Bodies.{composite_of, fields_of};
 ghost use Rattle.amqp_trace.specs.Names.{field_names};
-ghost use Rattle.amqp_trace.specs.Lines.{IsBody, IsLine, arrow, head, dots, length_text, payload_text, header_text, version_text, composite_of, how_many};
+ghost use Rattle.amqp_trace.specs.Lines.{IsBody, IsLine, arrow, head, dots, length_text, payload_text, header_text, version_text, how_many};
 
 use crate::fields::put_performative;
 use crate::text::Line;

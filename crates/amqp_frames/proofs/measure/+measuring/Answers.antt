@@ -6,6 +6,7 @@ use Rattle.amqp_types.specs.Datum.{number, octets}
 use Rattle.amqp_types.specs.Reading.{◌>>=◌}
 use Rattle.amqp_types.specs.Canon.{part_form}
 use Rattle.amqp_frames.specs.Field.{run_octets}
+use Rattle.amqp_performatives.specs.Composite.{type_of}
 use Rattle.amqp_performatives.specs.Listed.{shown_fields}
 use Rattle.amqp_frames.proofs.Leaves.{null_form, binary_form, str_form}
 use Rattle.amqp_frames.proofs.Sizes.{form_size, boolean_size, number_size}
@@ -15,13 +16,15 @@ use Rattle.amqp_frames.proofs.measure.+measuring.Goals as goal
 
 pub composite_len-returns-in_err-size : goal.composite_len-returns-in_err-size
 composite_len-returns-in_err-size t c =
-    λ code some small.
-    c.from_residual-in_err-size.ensures ∙ ap (λ (o : Option ℕ). o >>= λ n. Some (n + 3)) c.in_err-size.ensures ∙ ap size_from c.in_ok-measure.ensures ∙ sym (composite_within code c.args.depth (shown_fields c.args.fields.now) some small (omega arith))
+    let code = (type_of c.args.composite).0 in
+    let n = c.number-code.ensures in
+    c.from_residual-in_err-size.ensures ∙ ap (λ (o : Option ℕ). o >>= λ n. Some (n + 3)) c.in_err-size.ensures ∙ ap size_from c.in_ok-measure.ensures ∙ sym (composite_within code c.args.depth (shown_fields c.args.fields.now) (omega (arith, n.value, n.some)) (omega (arith, n.value)) (omega arith))
 
 pub composite_len-returns : goal.composite_len-returns
 composite_len-returns t c =
-    λ code some small.
-    ap (λ (o : Option ℕ). o >>= λ n. Some (n + 3)) c.in_ok-size.ensures ∙ ap size_from c.in_ok-measure.ensures ∙ sym (composite_within code c.args.depth (shown_fields c.args.fields.now) some small (omega arith))
+    let code = (type_of c.args.composite).0 in
+    let n = c.number-code.ensures in
+    ap (λ (o : Option ℕ). o >>= λ n. Some (n + 3)) c.in_ok-size.ensures ∙ ap size_from c.in_ok-measure.ensures ∙ sym (composite_within code c.args.depth (shown_fields c.args.fields.now) (omega (arith, n.value, n.some)) (omega (arith, n.value)) (omega arith))
 
 pub field_len-returns-in-Absent : goal.field_len-returns-in-Absent
 field_len-returns-in-Absent t c = rw c.in-Absent.is (form_size c.args.depth (number Kind.Null 0) (Some (0x40 ∷ [])) refl c.if-depth-eq0.false null_form)
