@@ -227,6 +227,35 @@ fn ends_half(held: &mut Held) -> bool {
     is_settled(held, 4294960000, 4294967295) && held.len() == 250 && id_at(held, 1) == Some(2)
 }
 
+/// Whether the tag of these octets is in use on the link.
+fn has(held: &Held, link: u32, octets: &[u8]) -> bool {
+    match Tag::new(octets) {
+        Some(tag) => held.holds_tag(link, &tag),
+        None => false,
+    }
+}
+
+/// Tags of seven, eight and nine octets with one front, and one of eight on a second link.
+fn four_begin(held: &mut Held) -> bool {
+    begins(held, 4, 0, b"1234567", false)
+        && begins(held, 5, 0, b"12345678", false)
+        && begins(held, 6, 0, b"123456789", false)
+        && begins(held, 7, 1, b"12345678", false)
+}
+
+/// Each is in use on its link alone, and the one that ends is not any more.
+fn are_lengths_apart(held: &mut Held) -> bool {
+    if has(held, 1, b"1234567") || has(held, 0, b"12345679") || has(held, 1, b"123456789") {
+        return false;
+    }
+    held.go_on(5, None, true);
+    if has(held, 0, b"12345678") || !has(held, 1, b"12345678") || !has(held, 0, b"1234567") {
+        return false;
+    }
+    held.end_link(1);
+    !has(held, 1, b"12345678") && has(held, 0, b"123456789")
+}
+
 /// What is asked of a table, with three deliveries but where it is said.
 #[derive(Clone, Copy)]
 enum Asked {
@@ -240,9 +269,11 @@ enum Asked {
     SetTwo,
     /// Of five hundred deliveries half end.
     EndHalf,
+    /// Of tags of several lengths.
+    Lengths,
 }
 
-const ASKED: [Asked; 9] = [
+const ASKED: [Asked; 10] = [
     Asked::EndOnce,
     Asked::ToldOnce,
     Asked::TagInUse,
@@ -252,6 +283,7 @@ const ASKED: [Asked; 9] = [
     Asked::EndAll,
     Asked::SetTwo,
     Asked::EndHalf,
+    Asked::Lengths,
 ];
 
 fn answers(held: &mut Held, asked: Asked) -> bool {
@@ -265,6 +297,7 @@ fn answers(held: &mut Held, asked: Asked) -> bool {
         Asked::EndAll => three_begin(held) && all_end(held),
         Asked::SetTwo => three_begin(held) && sets_two(held),
         Asked::EndHalf => five_hundred_begin(held) && ends_half(held),
+        Asked::Lengths => four_begin(held) && are_lengths_apart(held),
     }
 }
 

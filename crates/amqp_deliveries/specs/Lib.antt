@@ -5,3 +5,5 @@ pub mod Dispose
 pub mod Edits
 pub mod Change
 pub mod Parts
+pub mod Chain
+pub mod Brief

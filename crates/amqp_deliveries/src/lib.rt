@@ -9,6 +9,7 @@
 //! | `tags` | which tags are in use on which link |
 //! | `change` | what a step makes of unsettled deliveries, as data |
 //! | `tables` | the unsettled deliveries of both roles |
+//! | `chain` | octets in several slices, compared however they are cut |
 //! | `partial` | the payloads of a delivery whose transfers go on, as slices that are shared |
 //!
 //! With n deliveries held, a look-up by id takes O(log n) and one by tag a step on average, and what a disposition does as many steps more as it
@@ -16,6 +17,7 @@
 //! A call that is refused memory changes nothing.
 #![tactic(auto)]
 
+mod chain;
 mod change;
 mod disposition;
 mod held;
@@ -25,6 +27,7 @@ mod span;
 mod tables;
 mod tags;
 
+pub use chain::{Chain, are_same};
 pub use change::Change;
 pub use disposition::{Disposition, Telling};
 pub use held::Held;

@@ -1,7 +1,8 @@
 //! Which tags are in use on which link.
-ghost use Rattle.std.specs.Prelude.{◌≡◌, ◌++◌, ◌∷◌, [], List, OnOk, OnErr};
+ghost use Rattle.std.specs.Prelude.{◌≡◌, ◌++◌, ◌∷◌, ◌≤◌, [], List, length, true, false, MatchOption, OnOk, OnErr};
 ghost use Rattle.amqp_events.specs.Told.{SentItem};
 ghost use Rattle.amqp_deliveries.specs.Held.{unlinked, HasItsTag};
+ghost use Rattle.amqp_deliveries.specs.Brief.{padded, is_brief};
 ghost use Rattle.amqp_deliveries.specs.Tags.{has_key, IsIndex};
 
 use crate::item::Entry;
@@ -59,10 +60,76 @@ impl Hash for Key {
     }
 }
 
-/// The tags in use.
+/// A tag of at most eight octets on its link: shorter to keep, and hashed as one number.
+#[derive(Clone, Copy, PartialEq, Eq)]
+struct Brief {
+    link: u32,
+    used: u8,
+    /// With zeros behind.
+    octets: [u8; 8],
+}
+
+impl Hash for Brief {
+    ghost use Rattle.std.specs.Prelude.{◌++◌};
+    ghost use Rattle.std.specs.Int.{from_le_bytes, w64};
+    ghost use Rattle.std.specs.Hash as fed;
+    ghost use Rattle.amqp_deliveries.specs.Brief.{fed_alike};
+
+    ghost hash_input = { λ k. fed.u32 k.link ++ fed.u64 (from_le_bytes w64 k.octets) };
+
+    ghost respects_eq = { λ x y same. fed_alike x.link y.link x.used y.used x.octets y.octets same };
+
+    fn hash<H: Hasher>(&self, state: &mut H) {
+        state.write_u32(self.link);
+        state.write_u64(u64::from_le_bytes(self.octets));
+    }
+}
+
+/// The tags in use: those of at most eight octets, as a delivery's number has, and all others.
 #[derive(Drop)]
 pub(crate) struct TagIndex {
+    brief: HashSet<Brief>,
     keys: HashSet<Key>,
+}
+
+/// At most eight octets, with zeros behind them. Four, as a number of 32 bits has, move at once.
+#[inline(always)]
+fn padded(octets: &[u8]) -> [u8; 8]
+    requires { length octets.now ≤ 8 }
+    ensures { result ≡ padded octets.now }
+{
+    if octets.len() != 4 {
+        return padded_any(octets);
+    }
+    let mut all = [0; 8];
+    all[..4].copy_from_slice(&octets[..4]);
+    all
+}
+
+#[inline(never)]
+fn padded_any(octets: &[u8]) -> [u8; 8]
+    requires { length octets.now ≤ 8 }
+    ensures { result ≡ padded octets.now }
+{
+    let mut all = [0; 8];
+    all[..octets.len()].copy_from_slice(octets);
+    all
+}
+
+/// The tag on its link, where it is that short.
+#[inline(always)]
+fn brief_of(link: u32, tag: &Tag) -> Option<Brief>
+    ensures { MatchOption result (is_brief tag.now ≡ false) (λ k. (k.link ≡ link) × (k.used ≡ length tag.now) × (k.octets ≡ padded tag.now) × (is_brief tag.now ≡ true)) }
+{
+    let octets = tag.octets();
+    if octets.len() > 8 {
+        return None;
+    }
+    Some(Brief {
+        link,
+        used: octets.len() as u8,
+        octets: padded(octets),
+    })
 }
 
 fn key_of(entry: &Entry) -> Key
@@ -80,6 +147,7 @@ impl TagIndex {
         ensures { IsIndex result [] }
     {
         TagIndex {
+            brief: HashSet::new(alloc),
             keys: HashSet::new(alloc),
         }
     }
@@ -88,7 +156,10 @@ impl TagIndex {
     pub(crate) fn has(&self, link: u32, tag: &Tag) -> bool
         ensures { result ≡ has_key self.now link tag.now }
     {
-        self.keys.contains(&Key { link, tag: *tag })
+        match brief_of(link, tag) {
+            Some(key) => self.brief.contains(&key),
+            None => self.keys.contains(&Key { link, tag: *tag }),
+        }
     }
 
     /// One more delivery is held.
@@ -96,7 +167,10 @@ impl TagIndex {
         ensures ok { (items : List SentItem) → IsIndex self.old items → OnOk result (IsIndex self.new (items ++ entry.now ∷ [])) }
         ensures err { (items : List SentItem) → IsIndex self.old items → OnErr result (IsIndex self.new items) }
     {
-        self.keys.insert(key_of(entry))?;
+        match brief_of(entry.link(), &entry.tag()) {
+            Some(key) => self.brief.insert(key)?,
+            None => self.keys.insert(key_of(entry))?,
+        };
         Ok(())
     }
 
@@ -104,13 +178,17 @@ impl TagIndex {
     pub(crate) fn remove(&mut self, entry: &Entry)
         ensures { (before after : List SentItem) → HasItsTag before entry.now.item after → IsIndex self.old (before ++ entry.now ∷ after) → IsIndex self.new (before ++ after) }
     {
-        self.keys.remove(&key_of(entry));
+        match brief_of(entry.link(), &entry.tag()) {
+            Some(key) => self.brief.remove(&key),
+            None => self.keys.remove(&key_of(entry)),
+        };
     }
 
     /// No delivery of the link is held any more.
     pub(crate) fn remove_link(&mut self, link: u32)
         ensures { (items : List SentItem) → IsIndex self.old items → IsIndex self.new (unlinked link items) }
     {
+        self.brief.retain(|key| key.link != link);
         self.keys.retain(|key| key.link != link);
     }
 
@@ -118,6 +196,7 @@ impl TagIndex {
     pub(crate) fn clear(&mut self)
         ensures { IsIndex self.new [] }
     {
+        self.brief.clear();
         self.keys.clear();
     }
 }

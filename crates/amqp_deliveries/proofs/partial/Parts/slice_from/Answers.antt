@@ -1,5 +1,5 @@
 use Rattle.std.proofs.Common.{length, ap, arith, length-drop}
-use Rattle.amqp_deliveries.specs.Parts.{chain_of}
+use Rattle.amqp_deliveries.specs.Chain.{chain_of}
 use Rattle.amqp_deliveries.proofs.partial.Parts.slice_from.Goals as goal
 
 pub returns-in-None-clause-some : goal.returns-in-None-clause-some

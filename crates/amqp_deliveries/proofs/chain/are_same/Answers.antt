@@ -2,7 +2,7 @@ use Rattle.std.proofs.Common.{◌∙◌, sym, nat_eq, arith}
 use Rattle.std.specs.Cmp.Lexicographic.{pointwise}
 use Rattle.std.specs.List.{concat}
 use Rattle.amqp_deliveries.proofs.SameOctets.{same_front, other_front, is_other, is_same}
-use Rattle.amqp_deliveries.proofs.partial.are_same.Goals as goal
+use Rattle.amqp_deliveries.proofs.chain.are_same.Goals as goal
 
 pub returns-then-ne : goal.returns-then-ne
 returns-then-ne c =
