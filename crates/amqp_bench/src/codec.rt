@@ -25,66 +25,25 @@ where
     W: Write,
 {
     let wanted = |number: u32| part.is_none() || part == Some(number);
-    measure_transfer(rt, rounds, wanted(1), wanted(2), writer)?;
-    measure_flow(rt, rounds, wanted(3), wanted(4), writer)?;
-    measure_disposition(rt, rounds, wanted(5), wanted(6), writer)
-}
-
-fn measure_transfer<R, W>(
-    rt: &R,
-    rounds: u32,
-    writes: bool,
-    reads: bool,
-    writer: &mut W,
-) -> anyhow::Result<()>
-where
-    R: AllocGlobal + Eprint + Clock,
-    W: Write,
-{
     let frame = transfer(rt.alloc())?;
-    let measured = measure(rt, "transfer", &frame, rounds, writes, reads, writer);
-    drop(frame);
-    measured
-}
-
-fn measure_flow<R, W>(
-    rt: &R,
-    rounds: u32,
-    writes: bool,
-    reads: bool,
-    writer: &mut W,
-) -> anyhow::Result<()>
-where
-    R: AllocGlobal + Eprint + Clock,
-    W: Write,
-{
-    let frame = flow();
-    let measured = measure(rt, "flow", &frame, rounds, writes, reads, writer);
-    drop(frame);
-    measured
-}
-
-fn measure_disposition<R, W>(
-    rt: &R,
-    rounds: u32,
-    writes: bool,
-    reads: bool,
-    writer: &mut W,
-) -> anyhow::Result<()>
-where
-    R: AllocGlobal + Eprint + Clock,
-    W: Write,
-{
+    measure(rt, "transfer", frame, rounds, wanted(1), wanted(2), writer)?;
+    measure(rt, "flow", flow(), rounds, wanted(3), wanted(4), writer)?;
     let frame = disposition();
-    let measured = measure(rt, "disposition", &frame, rounds, writes, reads, writer);
-    drop(frame);
-    measured
+    measure(
+        rt,
+        "disposition",
+        frame,
+        rounds,
+        wanted(5),
+        wanted(6),
+        writer,
+    )
 }
 
 fn measure<R, W>(
     rt: &R,
     name: &str,
-    frame: &Frame,
+    frame: Frame,
     rounds: u32,
     writes: bool,
     reads: bool,
@@ -94,13 +53,15 @@ where
     R: AllocGlobal + Eprint + Clock,
     W: Write,
 {
+    let mut measured = Ok(());
     if writes {
-        measure_writing(rt, name, frame, rounds, writer)?;
+        measured = measure_writing(rt, name, &frame, rounds, writer);
     }
-    if reads {
-        measure_reading(rt, name, frame, rounds, writer)?;
+    if reads && measured.is_ok() {
+        measured = measure_reading(rt, name, &frame, rounds, writer);
     }
-    Ok(())
+    drop(frame);
+    measured
 }
 
 fn measure_writing<R, W>(

@@ -62,44 +62,19 @@ where
     R: AllocGlobal + Clock + Net + Threads + Wait + Sync,
 {
     let poll = Poll::new(rt)?;
-    let (received, sent) = beside(
-        rt,
-        move || receive(rt, poll, listener, sockets),
-        || drive_one(rt, driver, sockets, Ends::Sender),
-    );
-    match received {
-        Some(received) => Ok(sent?.with(received?)),
-        None => bail!("there is no thread for the end that receives"),
-    }
-}
-
-/// Calls `f` in a thread of its own, and `g` in this one. Where the system makes none, `f` is dropped with all that it owns before `g` is called.
-fn beside<R, F, G, A, B>(rt: &R, f: F, g: G) -> (Option<A>, B)
-where
-    R: Threads + Wait + Sync,
-    F: FnOnce() -> A + Send + Drop,
-    G: FnOnce() -> B,
-    A: Send + Drop,
-    requires { F.pre f × G.pre g }
-{
-    thread::scope(
-        thread::scope_env(),
-        rt,
-        |scope| -> (Option<A>, B)
-            requires { F.pre f × G.pre g }
-        {
-            match scope.spawn(f) {
-                Ok(handle) => {
-                    let here = g();
-                    (Some(handle.join(rt)), here)
-                }
-                Err(unmade) => {
-                    drop(unmade);
-                    (None, g())
-                }
+    thread::scope(thread::scope_env(), rt, |scope| -> anyhow::Result<Totals> {
+        match scope.spawn(move || receive(rt, poll, listener, sockets)) {
+            Ok(receiving) => {
+                let sent = drive_one(rt, driver, sockets, Ends::Sender);
+                let received = receiving.join(rt);
+                Ok(sent?.with(received?))
             }
-        },
-    )
+            Err(unmade) => {
+                drop(unmade);
+                bail!("there is no thread for the end that receives")
+            }
+        }
+    })
 }
 
 /// Listens, and receives.

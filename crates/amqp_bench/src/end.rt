@@ -73,23 +73,15 @@ impl End {
         Ok(())
     }
 
-    /// Takes a unit of the peer's.
-    fn hear_all(&mut self, unit: Sliced) -> Result<(), EndFault> {
-        let (head, rest) = unit.into_slices();
-        if let Err(fault) = self.hear(&head) {
-            drop(rest);
-            return Err(fault);
+    /// Takes a unit of the peer's, slice by slice.
+    fn hear_all(&mut self, unit: &Sliced) -> Result<(), EndFault> {
+        let (head, rest) = unit.handles();
+        for slice in [Some(head), rest] {
+            if let Some(octets) = slice {
+                self.hear(octets)?;
+            }
         }
-        match rest {
-            Some(rest) => self.hear_rest(&rest),
-            None => Ok(()),
-        }
-    }
-
-    /// As `hear`, out of line, since few units have a second slice.
-    #[inline(never)]
-    fn hear_rest(&mut self, octets: &Bytes) -> Result<(), EndFault> {
-        self.hear(octets)
+        Ok(())
     }
 
     /// Takes octets of the peer's.
@@ -102,25 +94,16 @@ impl End {
             }
             let fed = self.conn.feed(&Octets::shared(octets, from))?;
             from = from.saturating_add(fed.used);
-            self.take(fed)?;
-        }
-        Ok(())
-    }
-
-    #[inline(always)]
-    fn take(&mut self, fed: Fed) -> Result<(), EndFault> {
-        let Fed { stepped, given, .. } = fed;
-        if stepped {
-            let _: bool = self.hand.receive(&mut self.conn, given)?;
+            let Fed { stepped, given, .. } = fed;
+            if stepped {
+                let _: bool = self.hand.receive(&mut self.conn, given)?;
+            }
         }
         Ok(())
     }
 
     fn pop(&mut self) -> Option<Sliced> {
-        match self.conn.pop_unit() {
-            Some(unit) => Some(unit.bytes),
-            None => None,
-        }
+        self.conn.pop_unit().map(|unit| unit.bytes)
     }
 }
 
@@ -131,7 +114,9 @@ pub fn exchange(from: &mut End, to: &mut End) -> Result<bool, EndFault> {
         match from.pop() {
             Some(octets) => {
                 is_any = true;
-                to.hear_all(octets)?;
+                let heard = to.hear_all(&octets);
+                drop(octets);
+                heard?;
             }
             None => break,
         }

@@ -1,9 +1,8 @@
 -- The tags that wait on a link are not those of unsettled deliveries, at all times.
-use Rattle.std.proofs.Common.{◌≡◌, ◌<◌, ◌≤◌, ℕ, ◌+◌, ◌&&◌, ◌||◌, Bool, true, false, not, cond, Option, Some, None, Result, Ok, List, [], ◌∷◌, ◌++◌, map, filter, filter_map, refl, sym, ap, ◌∙◌, find, is_some, is_none, subst, eqb, nat_eq, arith, unwrap_or, length}
+use Rattle.std.proofs.Common.{◌≡◌, ◌<◌, ◌≤◌, ℕ, ◌+◌, ◌&&◌, ◌||◌, Bool, true, false, not, cond, Option, Some, None, Result, Ok, List, [], ◌∷◌, ◌++◌, map, filter, refl, sym, ap, ◌∙◌, find, is_some, is_none, subst, eqb, nat_eq, arith, unwrap_or, length}
 use Rattle.std.specs.List.{list_any}
 use Rattle.std.specs.Cmp.Lexicographic.{pointwise, bytes_decides}
 use Rattle.std.proofs.lemmas.Bool.{eqb-true, or_parts}
-use Rattle.amqp_performatives.specs.declared.state.DeliveryState.{DeliveryState}
 use Rattle.amqp_performatives.specs.declared.bodies.AttachBody.{AttachBody}
 use Rattle.amqp_performatives.specs.declared.bodies.DispositionBody.{DispositionBody}
 use Rattle.amqp_performatives.specs.declared.bodies.FlowBody.{FlowBody}
@@ -21,7 +20,7 @@ use Rattle.amqp_events.specs.Told.{SentItem, next_sent_held}
 use Rattle.amqp_events.proofs.Gone.{items-next}
 use Rattle.amqp_waiting.specs.declared.item.SuspendedItem.{SuspendedItem}
 use Rattle.amqp_waiting.specs.declared.peer.Unsettled.{Unsettled}
-use Rattle.amqp_waiting.specs.Waiting.{WaitingItem, met, met_item, told_of, unclear, waits, waits_as, without}
+use Rattle.amqp_waiting.specs.Waiting.{WaitingItem, met, told_of, unclear, waits, waits_as, without}
 use Rattle.amqp_waiting.specs.PeerUnsettled.{unsettled_of}
 use Rattle.amqp_rules.specs.declared.config.Config.{Config}
 use Rattle.amqp_rules.specs.declared.op.Op.{Op}
@@ -32,10 +31,9 @@ use Rattle.amqp_rules.specs.declared.reply.Reply.{Reply}
 use Rattle.amqp_rules.specs.declared.reply.Given.TheVariants as given
 use Rattle.amqp_rules.specs.declared.violation.Violation.{Violation}
 use Rattle.amqp_rules.specs.declared.violation.ViolationKind.TheVariants.{OutOfSession, BadHandle}
-use Rattle.amqp_rules.specs.View.{EndView, LinkView, SendingView, View, change_first, handle_of, has_name, has_number, has_peer_handle, holds, initial, is_asked_as, is_attached, is_offered_as, is_sender, new_link, next_delivery, opposite, rcv_mode, remove_first, takes_frames}
+use Rattle.amqp_rules.specs.View.{EndView, LinkView, SendingView, View, change_first, handle_of, has_name, has_number, has_peer_handle, initial, is_asked_as, is_attached, is_offered_as, is_sender, new_link, next_delivery, opposite, rcv_mode, remove_first, takes_frames}
 use Rattle.amqp_rules.specs.Refusing.{answered, first_refusal, if_there, unlinked}
 use Rattle.amqp_rules.specs.Sending.{sends}
-use Rattle.amqp_rules.specs.OnLink.{on_link}
 use Rattle.amqp_rules.specs.Opened.{next_opened}
 use Rattle.amqp_rules.specs.Answer.{body_answer, heard_answer, is_dropped, next_body, next_heard, next_own, own_answer}
 use Rattle.amqp_rules.specs.Attach.{Wanted, attach_sent, attached_by_peer, attached_by_us, join_link, met_where, next_attach}
@@ -53,10 +51,10 @@ use Rattle.amqp_rules.specs.Resume.{begin_resumed, early_refusals, resume_begins
 use Rattle.amqp_rules.specs.Flow.{flow_link, flow_links, flowed}
 use Rattle.amqp_rules.specs.PeerTransfer.{delivery_violations, heard_on, received_on, receives, transfer_reply, transfer_violations, waiting_after}
 use Rattle.amqp_rules.specs.PeerDisposition.{told_more}
-use Rattle.amqp_rules.specs.Deliveries.{begins_unsettled, begun_on, belongs_to, brought_by, continued_on, heard_of, is_partial, is_sent_anew, item_of, left_by_peer, received_by_body, received_by_own, resumed_as, resumed_on, said_of, sending_on, sent_by_body, sent_by_own, state_brought, transfer_on, transferred}
+use Rattle.amqp_rules.specs.Deliveries.{begins_unsettled, begun_on, belongs_to, brought_by, continued_on, heard_of, is_partial, is_sent_anew, item_of, left_by_peer, resumed_as, resumed_on, said_of, sending_on, sent_by_body, sent_by_own, state_brought, transfer_on, transferred}
 use Rattle.amqp_rules.specs.Sound.{AllWaitApart, Ascends, Every, IsWaitingApart, WaitsApart, keys}
 use Rattle.amqp_rules.proofs.Accepted.{NoneHolds, answered_Ok, no_refusal, not-false, on-link-ok, sends-ok, there_Ok, unless_Ok, unless_refused_Ok}
-use Rattle.amqp_rules.proofs.Listed.{by-bool, every-both, every-changed, every-more, every-removed}
+use Rattle.amqp_rules.proofs.Listed.{by-bool, every-both, every-more, every-removed}
 
 -- the links stand in the order in which they were made
 abbrev pub AreInOrder : View → Type 0
@@ -92,10 +90,6 @@ every-passes test (x ∷ xs) =
 none-of : {A : Type 0} (test : A → Bool) (xs : List A) → list_any test xs ≡ false → Every (λ x. test x ≡ false) xs
 none-of test [] h = tt
 none-of test (x ∷ xs) h = let p = or_parts (test x) (list_any test xs) h in (p.0, none-of test xs p.1)
-
-any-none : {A : Type 0} (test : A → Bool) (xs : List A) → Every (λ x. test x ≡ false) xs → list_any test xs ≡ false
-any-none test [] all = refl
-any-none test (x ∷ xs) all = rw all.0 (any-none test xs all.1)
 
 -- what is found passes
 passes-found : {A : Type 0} (test : A → Bool) (xs : List A) (on : A) → find test xs ≡ Some on → test on ≡ true

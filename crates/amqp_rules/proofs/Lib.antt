@@ -9,4 +9,3 @@ pub mod Counts
 pub mod InRange
 pub mod Writing
 pub mod Same
-pub mod Slices

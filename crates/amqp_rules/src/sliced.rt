@@ -1,13 +1,14 @@
 //! Octets that are sent, in one slice or in two.
-ghost use Rattle.std.specs.Prelude.{◌≡◌, ◌≤◌, ◌++◌, ◌↔◌, length, nat_eq, IfOk, IsTrue};
-ghost use Rattle.std.specs.Cmp.Lexicographic.{pointwise};
+ghost use Rattle.std.specs.Prelude.{◌≡◌, ◌++◌, ◌↔◌, length, option_map, IfOk, IsTrue};
+ghost use Rattle.amqp_deliveries.specs.Chain.{chain_of};
 ghost use Rattle.amqp_rules.specs.Sliced.{behind};
 
+use amqp_deliveries::{Chain, are_same};
 use amqp_types::Boxed;
 use bytes::Bytes;
 use std::alloc::{AllocError, Global};
-use std::fmt;
 use std::marker::Model;
+use std::{fmt, slice};
 
 /// Octets that are sent: in one slice, or those before a long payload in one and the payload in another, where it is shared and not copied. Contracts see them as
 /// the octets, however they are cut. The second slice stands behind a pointer, since few have one.
@@ -28,7 +29,7 @@ impl Model for Sliced {
 
 impl Sliced {
     /// Octets in one slice. It takes no memory.
-    #[inline]
+    #[inline(always)]
     pub fn one(octets: Bytes) -> Sliced
         ensures { result ≡ octets }
     {
@@ -74,6 +75,17 @@ impl Sliced {
         }
     }
 
+    /// The handles of the octets, slice by slice.
+    #[inline(always)]
+    pub fn handles(&self) -> (&Bytes, Option<&Bytes>)
+        ensures { result.0.now ++ behind (option_map (λ rest. rest.now) result.1) ≡ self.now }
+    {
+        match &self.rest {
+            None => (&self.head, None),
+            Some(rest) => (&self.head, Some(rest.get())),
+        }
+    }
+
     /// The octets, slice by slice.
     pub fn into_slices(self) -> (Bytes, Option<Bytes>)
         ensures { result.0 ++ behind result.1 ≡ self }
@@ -89,8 +101,19 @@ impl Sliced {
     pub fn is(&self, octets: &[u8]) -> bool
         ensures { IsTrue result ↔ self.now ≡ octets.now }
     {
-        let (head, rest) = self.slices();
-        is_split(octets, head, rest)
+        self.chain().is(octets)
+    }
+
+    fn chain(&self) -> Chain<'_>
+        ensures { chain_of result ≡ self.now }
+    {
+        Chain {
+            front: self.head.as_slice(),
+            rest: match &self.rest {
+                None => &[],
+                Some(rest) => slice::from_ref(rest.get()),
+            },
+        }
     }
 
     /// The octets in one piece. Where they are in one slice it is shared, else they are copied once.
@@ -149,13 +172,7 @@ impl PartialEq for Sliced {
     ghost laws = { partial_equiv_from_equiv nat_list_eq_equiv };
 
     fn eq(&self, other: &Sliced) -> bool {
-        let (ours, our_rest) = self.slices();
-        let (theirs, their_rest) = other.slices();
-        if ours.len() <= theirs.len() {
-            are_same(ours, our_rest, theirs, their_rest)
-        } else {
-            are_same(theirs, their_rest, ours, our_rest)
-        }
+        are_same(self.chain(), other.chain())
     }
 }
 
@@ -174,28 +191,4 @@ impl fmt::Debug for Sliced {
             Some(rest) => write!(f, " {:?}", rest.get()),
         }
     }
-}
-
-/// The octets of one head and its rest are those of another, which is no shorter, and its rest.
-fn are_same(head: &[u8], rest: &[u8], longer: &[u8], back: &[u8]) -> bool
-    requires { length head.now ≤ length longer.now }
-    ensures { result ≡ pointwise nat_eq (head.now ++ rest.now) (longer.now ++ back.now) }
-{
-    if &longer[..head.len()] != head {
-        return false;
-    }
-    is_split(rest, &longer[head.len()..], back)
-}
-
-/// The octets are those in front and then those behind.
-fn is_split(octets: &[u8], front: &[u8], back: &[u8]) -> bool
-    ensures { result ≡ pointwise nat_eq octets.now (front.now ++ back.now) }
-{
-    if octets.len() < front.len() {
-        return false;
-    }
-    if &octets[..front.len()] != front {
-        return false;
-    }
-    &octets[front.len()..] == back
 }

@@ -1,7 +1,5 @@
 -- A frame that is written, where it stays: alone in its list, with one handle more of its octets.
-use Rattle.std.specs.Prelude.{ℕ, Bool, true, false, ◌≡◌, ◌⊎◌, Option, Some, None, Result, Ok, Err, List, [], ◌∷◌, ◌++◌}
-use Rattle.amqp_frames.specs.declared.frame.Frame.{Frame}
-use Rattle.amqp_frames.specs.Written.{write_answer}
+use Rattle.std.specs.Prelude.{ℕ, ◌≡◌, ◌⊎◌, Option, Some, None, Result, Ok, Err, List, [], ◌∷◌}
 use Rattle.amqp_performatives.specs.declared.performative.Performative.{Performative}
 use Rattle.amqp_rules.specs.declared.refusal.Refusal.{Refusal}
 use Rattle.amqp_rules.specs.declared.refusal.Refusal.TheVariants.{NoMemory}
@@ -20,12 +18,3 @@ pub record IsAlone (list : List Sent) (octets : List ℕ) : Type 0 where
 abbrev pub Writes : {X : Type 0} → ℕ → Option Performative → List ℕ → X → Result X Refusal → Type 0
 Writes max body payload x (Ok y) = (frame_refused max body payload ≡ None) × (y ≡ x)
 Writes max body payload x (Err e) = (frame_refused max body payload ≡ Some e) ⊎ ((frame_refused max body payload ≡ None) × (e ≡ NoMemory))
-
--- what stays apart of a frame
-abbrev pub apart_of : Bool → List ℕ → List ℕ
-apart_of true payload = payload
-apart_of false payload = []
-
--- the frame's octets stand behind the old ones, but for what stays apart
-abbrev pub Drafted : Bool → Frame → ℕ → List ℕ → List ℕ → Type 0
-Drafted apart f max old new = (x : List ℕ) × (write_answer f max ≡ Ok x) × (new ++ apart_of apart f.payload ≡ old ++ x)

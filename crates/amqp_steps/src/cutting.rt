@@ -40,6 +40,7 @@ impl Cutter {
     }
 
     /// An empty block with room for the draft.
+    #[inline(always)]
     fn make_room(&mut self) -> Result<(), AllocError>
         ensures draft { self.new.draft ≡ self.old.draft }
         ensures block { OnOk result (self.new.block.items ≡ []) }

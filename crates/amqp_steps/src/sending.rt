@@ -1,9 +1,7 @@
 //! Frames as they are sent: all on channel 0, each with its octets.
-ghost use Rattle.std.specs.Prelude.{ℕ, Option, ◌≡◌, ◌<◌, vec_capacity, vec_len, ◌⊎◌, ◌∷◌, Some, None, ◌++◌, IfOk, IfSome, IfNone, MatchResult, [], option_map, option_to_list};
+ghost use Rattle.std.specs.Prelude.{ℕ, Option, ◌≡◌, ◌∷◌, ◌++◌, IfOk, MatchResult, [], option_map, option_to_list};
 ghost use Rattle.amqp_steps.specs.Plan.{octets_sent};
-ghost use Rattle.amqp_steps.specs.Written.{Writes, Drafted, apart_of};
-ghost use Rattle.amqp_frames.specs.Plain.{Appended};
-ghost use Rattle.amqp_frames.specs.Written.{write_answer};
+ghost use Rattle.amqp_steps.specs.Written.{Writes};
 ghost use Rattle.amqp_frames.specs.Measuring.{Measures};
 ghost use Rattle.amqp_rules.specs.Sending.{told, frame_of, frame_refused, sent_of};
 
@@ -41,33 +39,78 @@ impl Model for Written {
     ghost invariant = { λ w. IsAlone w.list w.octets };
 }
 
-/// A place for one frame, and one handle more of its octets.
+/// The frame with its octets moves to where it stays; `handle` is one more of these.
 #[inline(always)]
-fn make_place(alloc: Global, bytes: &Sliced) -> Result<(Vec<Sent>, Sliced), AllocError>
-    ensures empty { IfOk result (λ t. t.0.items ≡ []) }
-    ensures room { IfOk result (λ t. vec_len t.0 < vec_capacity t.0) }
-    ensures handle { IfOk result (λ t. t.1 ≡ bytes.now) }
+fn keep_frame(
+    alloc: Global,
+    frame: Frame,
+    bytes: Sliced,
+    handle: Sliced,
+) -> Result<Written, Refusal>
+    requires { handle ≡ bytes }
+    ensures { MatchResult result (λ w. w ≡ record { frame = frame; bytes = bytes }) (λ e. e ≡ Refusal.NoMemory) }
 {
-    let items = Vec::with_capacity(alloc, 1)?;
-    let handle = bytes.clone()?;
-    Ok((items, handle))
-}
-
-/// The frame with its octets moves to where it stays.
-#[inline(always)]
-fn keep_frame(alloc: Global, frame: Frame, bytes: Sliced) -> Result<Written, AllocError>
-    ensures { IfOk result (λ w. w ≡ record { frame = frame; bytes = bytes }) }
-{
-    match make_place(alloc, &bytes) {
-        Ok((mut items, octets)) => {
+    match Vec::with_capacity(alloc, 1) {
+        Ok(mut items) => {
             items.push_reserved(Sent { frame, bytes });
-            let list = Items { items };
-            Ok(Written { list, octets })
+            Ok(Written {
+                list: Items { items },
+                octets: handle,
+            })
         }
-        Err(e) => {
+        Err(_) => {
+            drop(handle);
             drop(bytes);
             drop(frame);
-            Err(e)
+            Err(Refusal::NoMemory)
+        }
+    }
+}
+
+/// The frame with all its octets in one slice.
+#[inline(always)]
+fn keep_short(alloc: Global, frame: Frame, octets: Bytes) -> Result<Written, Refusal>
+    ensures { MatchResult result (λ w. w ≡ record { frame = frame; bytes = octets }) (λ e. e ≡ Refusal.NoMemory) }
+{
+    match octets.clone() {
+        Ok(handle) => keep_frame(alloc, frame, Sliced::one(octets), Sliced::one(handle)),
+        Err(_) => {
+            drop(octets);
+            drop(frame);
+            Err(Refusal::NoMemory)
+        }
+    }
+}
+
+/// The frame with the octets in front of its payload, and behind them that, which is shared.
+fn keep_long(alloc: Global, frame: Frame, head: Bytes) -> Result<Written, Refusal>
+    ensures { MatchResult result (λ w. w ≡ record { frame = frame; bytes = head ++ frame.payload }) (λ e. e ≡ Refusal.NoMemory) }
+{
+    match beside(alloc, head, &frame.payload) {
+        Ok((bytes, handle)) => keep_frame(alloc, frame, bytes, handle),
+        Err(_) => {
+            drop(frame);
+            Err(Refusal::NoMemory)
+        }
+    }
+}
+
+/// The octets, and behind them the payload, which is shared; and one handle more of both.
+fn beside(alloc: Global, head: Bytes, payload: &Bytes) -> Result<(Sliced, Sliced), AllocError>
+    ensures { IfOk result (λ both. (both.0 ≡ head ++ payload.now) × (both.1 ≡ both.0)) }
+{
+    let bytes = match payload.clone() {
+        Ok(rest) => Sliced::two(alloc, head, rest)?,
+        Err(error) => {
+            drop(head);
+            return Err(error);
+        }
+    };
+    match bytes.clone() {
+        Ok(handle) => Ok((bytes, handle)),
+        Err(error) => {
+            drop(bytes);
+            Err(error)
         }
     }
 }
@@ -118,10 +161,7 @@ pub fn write(
                 drop(frame);
                 return Err(Refusal::NoMemory);
             };
-            match keep_frame(alloc, frame, Sliced::one(bytes)) {
-                Ok(written) => Ok(written),
-                Err(_) => Err(Refusal::NoMemory),
-            }
+            keep_short(alloc, frame, bytes)
         }
         Err(fault) => {
             drop(frame);
@@ -136,65 +176,7 @@ const SHORT: usize = 512;
 /// A payload of more octets than these is sent from where it stands.
 const LONG: usize = 4096;
 
-/// Writes the frame into the draft, one with a long payload as far as that: whether it did so.
-#[inline(always)]
-fn draft_frame(frame: &Frame, max: u32, draft: &mut Vec<u8>) -> Result<bool, FrameRefusal>
-    ensures { MatchResult result (λ apart. Drafted apart frame.now max draft.old.items draft.new.items) (λ e. Appended (Err e) (write_answer frame.now max) draft.old.items draft.new.items) }
-{
-    if LONG < frame.payload.len() {
-        if let Some(answer) = draft_head(frame, max, draft) {
-            return answer;
-        }
-    }
-    match append_frame(frame, max, draft) {
-        Ok(()) => Ok(false),
-        Err(fault) => Err(fault),
-    }
-}
-
-/// Writes the frame as far as its payload, where it has a plain transfer. Out of line, since few frames are long.
-#[inline(never)]
-fn draft_head(frame: &Frame, max: u32, draft: &mut Vec<u8>) -> Option<Result<bool, FrameRefusal>>
-    ensures some { IfSome result (λ r. MatchResult r (λ apart. Drafted apart frame.now max draft.old.items draft.new.items) (λ e. Appended (Err e) (write_answer frame.now max) draft.old.items draft.new.items)) }
-    ensures none { IfNone result (draft.new.items ≡ draft.old.items) }
-{
-    match append_head(frame, max, draft)? {
-        Ok(()) => Some(Ok(true)),
-        Err(fault) => Some(Err(fault)),
-    }
-}
-
-/// The octets, and behind them the payload, which is shared. Out of line, since few frames are long.
-#[inline(never)]
-fn beside(alloc: Global, octets: Bytes, payload: &Bytes) -> Result<Sliced, AllocError>
-    ensures { IfOk result (λ all. all ≡ octets ++ payload.now) }
-{
-    match payload.clone() {
-        Ok(rest) => Sliced::two(alloc, octets, rest),
-        Err(error) => {
-            drop(octets);
-            Err(error)
-        }
-    }
-}
-
-/// The octets, and behind them the payload, where it stays apart.
-#[inline(always)]
-fn with_payload(
-    alloc: Global,
-    octets: Bytes,
-    payload: &Bytes,
-    apart: bool,
-) -> Result<Sliced, AllocError>
-    ensures { IfOk result (λ all. all ≡ octets ++ apart_of apart payload.now) }
-{
-    if apart {
-        return beside(alloc, octets, payload);
-    }
-    Ok(Sliced::one(octets))
-}
-
-/// As `write`, with the octets of a short frame out of the cutter's block, and those before a long payload.
+/// As `write`, with the octets out of the cutter's block.
 fn write_cut(
     alloc: Global,
     cutter: &mut Cutter,
@@ -210,20 +192,49 @@ fn write_cut(
         payload,
     };
     cutter.draft.clear();
-    match draft_frame(&frame, max, &mut cutter.draft) {
-        Ok(apart) => {
+    match append_frame(&frame, max, &mut cutter.draft) {
+        Ok(()) => {
             let Ok(octets) = cutter.cut() else {
                 drop(frame);
                 return Err(Refusal::NoMemory);
             };
-            let Ok(bytes) = with_payload(alloc, octets, &frame.payload, apart) else {
+            keep_short(alloc, frame, octets)
+        }
+        Err(fault) => {
+            drop(frame);
+            Err(Refusal::from(fault))
+        }
+    }
+}
+
+/// As `write`, with the octets in front of a transfer's payload out of the cutter's block, and the payload where it stands.
+#[inline(never)]
+fn write_long(
+    alloc: Global,
+    cutter: &mut Cutter,
+    body: Option<Performative>,
+    payload: Bytes,
+    max: u32,
+) -> Result<Written, Refusal>
+    ensures { Writes max body payload (sent_of body payload) result }
+{
+    let frame = Frame {
+        channel: 0,
+        body,
+        payload,
+    };
+    cutter.draft.clear();
+    let Some(answer) = append_head(&frame, max, &mut cutter.draft) else {
+        let Frame { body, payload, .. } = frame;
+        return write(alloc, body, payload, max);
+    };
+    match answer {
+        Ok(()) => {
+            let Ok(head) = cutter.cut() else {
                 drop(frame);
                 return Err(Refusal::NoMemory);
             };
-            match keep_frame(alloc, frame, bytes) {
-                Ok(written) => Ok(written),
-                Err(_) => Err(Refusal::NoMemory),
-            }
+            keep_long(alloc, frame, head)
         }
         Err(fault) => {
             drop(frame);
@@ -242,13 +253,16 @@ pub fn cut_sharing(
 ) -> Result<Written, Refusal>
     ensures { Writes max body payload.now (sent_of body payload.now) result }
 {
-    if SHORT < payload.len() && payload.len() <= LONG {
-        return write_sharing(alloc, body, payload, max);
+    let Ok(handle) = payload.clone() else {
+        return Err(sending_refusal(body, payload, max).unwrap_or(Refusal::NoMemory));
+    };
+    if LONG < payload.len() {
+        return write_long(alloc, cutter, body, handle, max);
     }
-    if let Ok(handle) = payload.clone() {
-        return write_cut(alloc, cutter, body, handle, max);
+    if SHORT < payload.len() {
+        return write(alloc, body, handle, max);
     }
-    Err(sending_refusal(body, payload, max).unwrap_or(Refusal::NoMemory))
+    write_cut(alloc, cutter, body, handle, max)
 }
 
 /// As `write`, of a frame that carries this payload, of which it takes a handle. Where there is none, what the frame is refused for comes first.

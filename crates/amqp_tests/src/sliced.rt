@@ -32,12 +32,21 @@ fn is_same(alloc: Global, octets: &Sliced, other: &'static [u8], at: usize) -> O
     }
 }
 
+/// Whether their handles have these octets.
+fn are_handles(octets: &Sliced, front: &[u8], back: &[u8]) -> bool {
+    match octets.handles() {
+        (head, Some(rest)) => head.as_slice() == front && rest.as_slice() == back,
+        (_, None) => false,
+    }
+}
+
 /// Whether they are shown as they are.
 fn is_shown(octets: &Sliced, at: usize) -> bool {
     let (front, back) = OCTETS.split_at(at.min(OCTETS.len()));
     let (head, rest) = octets.slices();
     head == front
         && rest == back
+        && are_handles(octets, front, back)
         && octets.len() == OCTETS.len()
         && octets.is(OCTETS)
         && !octets.is(b"octetS")
