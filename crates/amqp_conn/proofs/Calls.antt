@@ -141,13 +141,3 @@ waits c x reads u =
       is = ap (connection c.core) (sym (open-kept c.core.phase (c.unread ++ x) reads));
       quiet = read-quiet c.core.phase c.core.config.max_frame (c.unread ++ x) reads u;
     }
-
-pub waits-header : (c : Connection) (x : List ℕ) → c.core.phase ≡ phase.AwaitHeader → length (c.unread ++ x) < 8 → IsFed c x (more x c)
-waits-header c x p n =
-    record {
-      times = 0;
-      last = more x c;
-      moved = refl;
-      is = ap (connection c.core) (sym (ap (λ q. kept_in q (c.unread ++ x)) p));
-      quiet = subst (λ (q : Phase). HasRead q c.core.config.max_frame (c.unread ++ x)) (sym p) n;
-    }

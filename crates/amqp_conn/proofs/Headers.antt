@@ -1,19 +1,19 @@
 -- The peer's header: eight octets, however they come.
 use Rattle.std.proofs.Common.{◌≡◌, ◌≢◌, ◌≤◌, ◌<◌, ◌-◌, ℕ, List, [], ◌++◌, length, take, drop, Bool, true, false, None, Result, Ok, Err, refl, sym, ap, ◌∙◌, subst, arith, append_assoc, length-append}
-use Rattle.std.proofs.lemmas.List.{take-append-drop, length-take-le, take_at, append-nil}
+use Rattle.std.proofs.lemmas.List.{take-append-drop, length-take-le, take_at}
 use Rattle.amqp_rules.specs.declared.reply.Given.TheVariants.{Nothing}
 use Rattle.amqp_conn.specs.declared.phase.Phase.{Phase}
 use Rattle.amqp_conn.specs.declared.phase.Phase.TheVariants as phase
 use Rattle.amqp_conn.specs.declared.fault.ConnFault.{ConnFault}
 use Rattle.amqp_conn.specs.declared.fault.ConnFault.TheVariants as fault
 use Rattle.amqp_conn.specs.declared.fed.Fed.{Fed}
-use Rattle.amqp_conn.specs.Connection.{Core, Connection, connection, more, HasRead, unread_in, in_phase}
+use Rattle.amqp_conn.specs.Connection.{Core, Connection, connection, HasRead, unread_in, in_phase}
 use Rattle.amqp_conn.specs.Octets.{header, last_words}
 use Rattle.amqp_conn.specs.Treating.{greeted, ending, sending_last}
-use Rattle.amqp_conn.specs.Feeding.{IsFed, IsPassed, Feeds, Takes, NeedsMemory}
+use Rattle.amqp_conn.specs.Feeding.{IsFed, Feeds, Takes, NeedsMemory}
 use Rattle.amqp_conn.specs.Treats.{ReadsHeader}
-use Rattle.amqp_conn.proofs.Calls.{takes-header, waits-header}
-use Rattle.amqp_conn.proofs.Passing.{passes-header, passes-few}
+use Rattle.amqp_conn.proofs.Calls.{takes-header}
+use Rattle.amqp_conn.proofs.Passing.{passes-header}
 use Rattle.amqp_conn.proofs.Whole.{left}
 
 -- while a header is awaited its octets are what is unread
@@ -63,20 +63,6 @@ good-header k l head head' kept piece n fed p w h is none greets gives =
     let journal : (left l head' kept).core.log.journal ≡ k.log.journal = ap (λ (x : Core). x.log.journal) greets in
     let P : Fed → Type 0 = λ x. Takes c piece x x.violation (left l head' kept) in
     subst P (sym gives) (w, made, (journal, refl), passes-header c (take n piece) p octets)
-
--- some octets of it
-pub part-header : (k : Core) (head head' kept piece : List ℕ) (fed : Fed) → k.phase ≡ phase.AwaitHeader → length (head ++ piece) < 8 → head' ≡ head ++ piece
-    → fed ≡ record { used = length piece; stepped = false; given = Nothing; violation = None } → Takes (left k head kept) piece fed fed.violation (left k head' kept)
-part-header k head head' kept piece fed p s h gives =
-    let c = left k head kept in
-    let unread = head-unread k head kept p in
-    let all : take (length piece) piece ≡ piece = ap (take (length piece)) (sym (append-nil piece)) ∙ take_at piece [] (length piece) refl in
-    let short : length (c.unread ++ piece) < 8 = subst (λ (x : List ℕ). length (x ++ piece) < 8) (sym unread) s in
-    let there : left k head' kept ≡ more piece c = ap (connection k) (head-unread k head' kept p ∙ h ∙ ap (λ x. x ++ piece) (sym unread)) in
-    let made : IsFed c piece (left k head' kept) = subst (λ (d : Connection). IsFed c piece d) (sym there) (waits-header c piece p short) in
-    let P : Fed → Type 0 = λ x. Takes c piece x x.violation (left k head' kept) in
-    let passes = subst (λ (x : List ℕ). IsPassed (more x c)) (sym all) (passes-few c piece p short) in
-    subst P (sym gives) (omega arith, subst (λ (x : List ℕ). IsFed c x (left k head' kept)) (sym all) made, (refl, refl), passes)
 
 -- memory was refused where the header is whole
 pub stood-header : (k l : Core) (head head' kept piece : List ℕ) (n : ℕ) → k.phase ≡ phase.AwaitHeader → length head < 8 → n ≡ 8 - length head → n ≤ length piece

@@ -186,14 +186,6 @@ used-on l m piece rest used n same u g =
     let w = g.within in
     omega (arith, k, d, w, u)
 
-pub less-on : (l m : Connection) (piece rest : List ℕ) (used n : ℕ) → rest ≡ drop used piece → GoesOn l rest n m → length (drop (used + n) piece) + room m < length (drop used piece) + room l
-less-on l m piece rest used n same g =
-    let further : drop n rest ≡ drop (used + n) piece = ap (drop n) same ∙ drop-drop n used piece in
-    let a : length (drop n rest) ≡ length (drop (used + n) piece) = ap length further in
-    let b : length rest ≡ length (drop used piece) = ap length same in
-    let w = g.less in
-    omega (arith, a, b, w)
-
 -- nothing is left but what is dropped
 pub took-all : (c l : Connection) (piece rest : List ℕ) (used : ℕ) → rest ≡ drop used piece → Took c piece l (drop used piece) → IsFed l rest l → Took c piece l []
 took-all c l piece rest used same p f =

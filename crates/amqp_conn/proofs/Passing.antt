@@ -1,5 +1,5 @@
 -- Octets that show no fault, and of which a feed takes one thing at most.
-use Rattle.std.proofs.Common.{◌≡◌, ◌≤◌, ◌<◌, ◌+◌, ℕ, List, [], ◌++◌, length, IsTrue, true, false, sym, ap, ◌∙◌, subst, arith, append-nil, length-append}
+use Rattle.std.proofs.Common.{◌≡◌, ◌≤◌, ◌<◌, ◌+◌, ℕ, List, [], ◌++◌, length, IsTrue, true, false, sym, ap, ◌∙◌, subst, append-nil}
 use Rattle.amqp_frames.specs.declared.frame.Frame.{Frame}
 use Rattle.amqp_frames.specs.Framing.{IsFrame, IsUnfinished, Shows}
 use Rattle.amqp_frames.proofs.OneFrame.{one_frame}
@@ -57,19 +57,6 @@ passes-header c x p e =
           λ front back q n s.
           let k = same-front front header back [] n (sym s ∙ e ∙ sym (append-nil header)) in
           (k.0, k.1);
-      faultless = λ f r shown. no-head c.core.phase p r;
-      whole = λ g front back h. absurd (no-head c.core.phase p h.reads);
-    }
-
--- octets of a header that is not whole
-pub passes-few : (c : Connection) (x : List ℕ) → c.core.phase ≡ phase.AwaitHeader → length (c.unread ++ x) < 8 → IsPassed (more x c)
-passes-few c x p few =
-    record {
-      goes_on = λ q. not-closed (sym p ∙ q);
-      begins =
-          λ front back q n s.
-          let all : length (c.unread ++ x) ≡ length front + length back = ap length s ∙ length-append front back in
-          absurd (omega (arith, few, n, all));
       faultless = λ f r shown. no-head c.core.phase p r;
       whole = λ g front back h. absurd (no-head c.core.phase p h.reads);
     }

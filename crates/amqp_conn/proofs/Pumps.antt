@@ -395,9 +395,6 @@ turning-on n p q r t (piece, carried, empty, well) =
       well = λ closed. inr (closes-then t.pieces (piece ∷ []) p q r.conn t.carried (well closed));
     }
 
-pub turning-over : (n : ℕ) (p q : Line) → Turning n p q → Runs n (Ok end.TurnsOver) p q
-turning-over n p q t = let c = t.count in (t.pieces, omega (arith, c), (t.carried, t.none, t.count))
-
 -- a last turn that reads nothing
 plain : (xs : List (List ℕ)) (p q : Line) → Carries (xs ++ []) p q → Carries xs p q
 plain xs p q c = subst (λ (ys : List (List ℕ)). Carries ys p q) (append-nil xs) c
@@ -422,9 +419,6 @@ turning-fails turns n why p q r few t (pieces, one, fails) =
     let k = length-append t.pieces pieces in
     let c = t.count in
     (t.pieces ++ pieces, omega (arith, k, c, one, few), fails-then why t.pieces pieces p q r t.carried fails)
-
-pub first-fails : (turns : ℕ) (why : PumpFault) (p q : Line) → Fails why [] p q → Runs turns (Err why) p q
-first-fails turns why p q fails = ([], omega arith, fails)
 
 -- fewer units wait
 pub pops-less : (c d : Connection) (x : List ℕ) → slice_get (units c.core.log) c.core.log.popped ≡ Some x → d ≡ popped c → length (waiting d.core.log) < length (waiting c.core.log)

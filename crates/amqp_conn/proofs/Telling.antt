@@ -43,13 +43,6 @@ tells-then x y z a b c p q =
       told = subst (λ (w : List Given). AddsAll a c w) (sym (given-append p.entries q.entries)) (adds-then a b c (given_by p.entries) (given_by q.entries) p.told q.told);
     }
 
--- units that go out, before and behind
-pub tells-before : (x y z : List Entry) (a b : Option (List Given)) → y ≡ x → Tells y z a b → Tells x z a b
-tells-before x y z a b e p = subst (λ (w : List Entry). Tells w z a b) e p
-
-pub tells-behind : (x y z : List Entry) (a b : Option (List Given)) → z ≡ y → Tells x y a b → Tells x z a b
-tells-behind x y z a b e p = subst (λ (w : List Entry). Tells x w a b) (sym e) p
-
 -- what one feed gave
 pub tells-fed : (c d : Connection) (piece : List ℕ) (fed : Fed) (h h' : Option (List Given)) → Feeds c piece (Ok fed) d → OnTrue fed.stepped (Adds h h' fed.given) → OnFalse fed.stepped (h' ≡ h)
     → Tells c.core.log.journal d.core.log.journal h h'

@@ -13,13 +13,13 @@ use std::io::Write;
 const MAX_FRAME: u32 = 65536;
 
 /// Writes two frames behind one another, and reads them in pieces of three sizes.
-pub fn run(alloc: Global, lines: &mut Vec<u8>) -> anyhow::Result<()> {
-    let stream = write(alloc)?;
-    let shown = show_stream(alloc, lines, stream.as_slice());
+pub fn run(lines: &mut Vec<u8>) -> anyhow::Result<()> {
+    let stream = write(*lines.allocator())?;
+    let shown = show_stream(lines, stream.as_slice());
     drop(stream);
     shown?;
-    show_refusal(alloc, lines)?;
-    show_fault(alloc, lines)
+    show_refusal(lines)?;
+    show_fault(lines)
 }
 
 /// Two frames.
@@ -38,24 +38,19 @@ fn append(stream: &mut Vec<u8>, frame: Frame) -> anyhow::Result<()> {
     Ok(())
 }
 
-fn show_stream(alloc: Global, lines: &mut Vec<u8>, stream: &[u8]) -> anyhow::Result<()> {
+fn show_stream(lines: &mut Vec<u8>, stream: &[u8]) -> anyhow::Result<()> {
     writeln!(lines, "written: {} octets", stream.len())?;
     for size in [1, 10, 1000] {
-        read_in_pieces(alloc, lines, stream, size)?;
+        read_in_pieces(lines, stream, size)?;
     }
     Ok(())
 }
 
 /// Feeds the stream in pieces of this size, and shows the frames that come out of it.
-fn read_in_pieces(
-    alloc: Global,
-    lines: &mut Vec<u8>,
-    stream: &[u8],
-    size: usize,
-) -> anyhow::Result<()>
+fn read_in_pieces(lines: &mut Vec<u8>, stream: &[u8], size: usize) -> anyhow::Result<()>
     requires { 0 < size }
 {
-    let frames = read(alloc, stream, size)?;
+    let frames = read(*lines.allocator(), stream, size)?;
     let shown = show_frames(lines, size, frames.as_slice());
     drop(frames);
     shown
@@ -100,9 +95,9 @@ fn show_transfer(lines: &mut Vec<u8>, body: &TransferBody, payload: &Bytes) -> a
 }
 
 /// A frame that cannot be written is refused before memory is asked for.
-fn show_refusal(alloc: Global, lines: &mut Vec<u8>) -> anyhow::Result<()> {
+fn show_refusal(lines: &mut Vec<u8>) -> anyhow::Result<()> {
     let frame = transfer();
-    let written = write_frame(alloc, &frame, 16);
+    let written = write_frame(*lines.allocator(), &frame, 16);
     drop(frame);
     let Err(refusal) = written else {
         bail!("the frame has more than 16 octets");
@@ -111,8 +106,8 @@ fn show_refusal(alloc: Global, lines: &mut Vec<u8>) -> anyhow::Result<()> {
 }
 
 /// Octets that are no frame show a fault as soon as can be: here a size of seven, which is less than a frame's header.
-fn show_fault(alloc: Global, lines: &mut Vec<u8>) -> anyhow::Result<()> {
-    let mut framer = Framer::new(alloc, MAX_FRAME);
+fn show_fault(lines: &mut Vec<u8>) -> anyhow::Result<()> {
+    let mut framer = Framer::new(*lines.allocator(), MAX_FRAME);
     let fed = framer.feed(&[0, 0, 0, 7]);
     drop(framer);
     let Err(fault) = fed else {

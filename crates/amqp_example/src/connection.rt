@@ -13,76 +13,69 @@ const TURNS: u32 = 8;
 const READS: u32 = 100;
 
 /// A message goes there and is accepted, one comes back, and the connection is closed.
-pub fn run(alloc: Global, lines: &mut Vec<u8>) -> anyhow::Result<()> {
-    let mut one = End::new(alloc, "one")?;
-    let talked = talk_with_other(alloc, lines, &mut one);
+pub fn run(lines: &mut Vec<u8>) -> anyhow::Result<()> {
+    let mut one = End::new(*lines.allocator(), "one")?;
+    let talked = talk_with_other(lines, &mut one);
     drop(one);
     talked
 }
 
-fn talk_with_other(alloc: Global, lines: &mut Vec<u8>, one: &mut End) -> anyhow::Result<()> {
-    let mut other = End::new(alloc, "other")?;
-    let talked = talk(alloc, lines, one, &mut other);
+fn talk_with_other(lines: &mut Vec<u8>, one: &mut End) -> anyhow::Result<()> {
+    let mut other = End::new(*lines.allocator(), "other")?;
+    let talked = talk(lines, one, &mut other);
     drop(other);
     talked
 }
 
-fn talk(alloc: Global, lines: &mut Vec<u8>, one: &mut End, other: &mut End) -> anyhow::Result<()> {
-    begin(alloc, lines, one, other)?;
-    send(alloc, lines, one, other, "there", 0)?;
-    send(alloc, lines, other, one, "back", 1)?;
+fn talk(lines: &mut Vec<u8>, one: &mut End, other: &mut End) -> anyhow::Result<()> {
+    begin(lines, one, other)?;
+    send(lines, one, other, "there", 0)?;
+    send(lines, other, one, "back", 1)?;
     one.conn.close(None)?;
-    exchange(alloc, lines, one, other)?;
+    exchange(lines, one, other)?;
     one.tell_end(lines)?;
     other.tell_end(lines)
 }
 
 /// Both open, and begin the session.
-fn begin(alloc: Global, lines: &mut Vec<u8>, one: &mut End, other: &mut End) -> anyhow::Result<()> {
-    exchange(alloc, lines, one, other)?;
-    act(alloc, lines, one, other, ops::begin())?;
-    act(alloc, lines, other, one, ops::begin())
+fn begin(lines: &mut Vec<u8>, one: &mut End, other: &mut End) -> anyhow::Result<()> {
+    exchange(lines, one, other)?;
+    act(lines, one, other, ops::begin())?;
+    act(lines, other, one, ops::begin())
 }
 
 /// A link of this name, the first or second of either end, and a message over it, which is accepted.
 fn send(
-    alloc: Global,
     lines: &mut Vec<u8>,
     from: &mut End,
     to: &mut End,
     name: &str,
     link: u32,
 ) -> anyhow::Result<()> {
-    attach_both(alloc, lines, from, to, name)?;
-    act(alloc, lines, to, from, ops::grant(link, 10))?;
-    act(alloc, lines, from, to, start(link, 1))?;
-    act(alloc, lines, to, from, ops::take(link))?;
-    act(alloc, lines, to, from, ops::accept(0))?;
-    act(alloc, lines, from, to, ops::learn(link))
+    attach_both(lines, from, to, name)?;
+    act(lines, to, from, ops::grant(link, 10))?;
+    act(lines, from, to, start(link, 1))?;
+    act(lines, to, from, ops::take(link))?;
+    act(lines, to, from, ops::accept(0))?;
+    act(lines, from, to, ops::learn(link))
 }
 
 /// The one end asks for a link, and the other takes it, to which it is offered.
 fn attach_both(
-    alloc: Global,
     lines: &mut Vec<u8>,
     from: &mut End,
     to: &mut End,
     name: &str,
 ) -> anyhow::Result<()> {
-    act(alloc, lines, from, to, attach(alloc, name, Role::Sender)?)?;
-    act(alloc, lines, to, from, attach(alloc, name, Role::Receiver)?)
+    let alloc = *lines.allocator();
+    act(lines, from, to, attach(alloc, name, Role::Sender)?)?;
+    act(lines, to, from, attach(alloc, name, Role::Receiver)?)
 }
 
 /// The one end does the operation, and each hears what the other says then.
-fn act(
-    alloc: Global,
-    lines: &mut Vec<u8>,
-    one: &mut End,
-    other: &mut End,
-    op: Op,
-) -> anyhow::Result<()> {
+fn act(lines: &mut Vec<u8>, one: &mut End, other: &mut End, op: Op) -> anyhow::Result<()> {
     one.apply(lines, op)?;
-    exchange(alloc, lines, one, other)
+    exchange(lines, one, other)
 }
 
 /// One end, and its name.
@@ -107,14 +100,9 @@ impl End {
     }
 
     /// Hears the octets, tells what they gave, and answers what goes out then.
-    pub fn hear(
-        &mut self,
-        alloc: Global,
-        lines: &mut Vec<u8>,
-        octets: &[u8],
-    ) -> anyhow::Result<Vec<u8>> {
+    pub fn hear(&mut self, lines: &mut Vec<u8>, octets: &[u8]) -> anyhow::Result<Vec<u8>> {
         let before = self.conn.logged().journal().len();
-        let answer = hear(alloc, &mut self.conn, octets)?;
+        let answer = hear(*lines.allocator(), &mut self.conn, octets)?;
         self.tell_since(lines, before)?;
         Ok(answer)
     }
@@ -161,16 +149,11 @@ fn tell_ready(lines: &mut Vec<u8>, name: &str, id: u32, link: u32) -> anyhow::Re
 }
 
 /// Each end hears what the other says, in turn.
-fn exchange(
-    alloc: Global,
-    lines: &mut Vec<u8>,
-    one: &mut End,
-    other: &mut End,
-) -> anyhow::Result<()> {
-    let mut said = one.hear(alloc, lines, &[])?;
+fn exchange(lines: &mut Vec<u8>, one: &mut End, other: &mut End) -> anyhow::Result<()> {
+    let mut said = one.hear(lines, &[])?;
     for _ in 0..TURNS {
-        let answer = other.hear(alloc, lines, &said)?;
-        said = one.hear(alloc, lines, &answer)?;
+        let answer = other.hear(lines, &said)?;
+        said = one.hear(lines, &answer)?;
     }
     Ok(())
 }

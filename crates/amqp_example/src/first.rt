@@ -142,7 +142,8 @@ impl Source for Recorded {
 }
 
 /// Sends a message to the recorded peer, and tells what became of it.
-pub fn send_first(alloc: Global, lines: &mut Vec<u8>) -> anyhow::Result<()> {
+pub fn send_first(lines: &mut Vec<u8>) -> anyhow::Result<()> {
+    let alloc = *lines.allocator();
     let mut client = connect(alloc)?;
     let settled = send(&mut client, alloc, "q", Bytes::from_static(b"hello"));
     let octets = octets_sent(client);

@@ -42,11 +42,10 @@ fn run_each<R: AllocGlobal + Threads + Wait + Sync>(
     rt: &R,
     lines: &mut Vec<u8>,
 ) -> anyhow::Result<()> {
-    let alloc = rt.alloc();
-    codec::run(alloc, lines)?;
-    session::run(alloc, lines)?;
-    first::send_first(alloc, lines)?;
-    connection::run(alloc, lines)?;
-    rejoined::run(alloc, lines)?;
+    codec::run(lines)?;
+    session::run(lines)?;
+    first::send_first(lines)?;
+    connection::run(lines)?;
+    rejoined::run(lines)?;
     shared::run(rt, lines)
 }

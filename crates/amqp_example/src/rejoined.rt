@@ -50,9 +50,9 @@ struct Ends {
 }
 
 /// Sends all messages, over as many connections as it takes.
-pub fn run(alloc: Global, lines: &mut Vec<u8>) -> anyhow::Result<()> {
-    let mut known = at_first(alloc)?;
-    let sent = send_all(alloc, lines, &mut known);
+pub fn run(lines: &mut Vec<u8>) -> anyhow::Result<()> {
+    let mut known = at_first(*lines.allocator())?;
+    let sent = send_all(lines, &mut known);
     let once = known.arrived.iter().all(|times| *times == 1);
     drop(known);
     sent?;
@@ -79,9 +79,9 @@ fn at_first(alloc: Global) -> anyhow::Result<Known> {
     })
 }
 
-fn send_all(alloc: Global, lines: &mut Vec<u8>, known: &mut Known) -> anyhow::Result<()> {
+fn send_all(lines: &mut Vec<u8>, known: &mut Known) -> anyhow::Result<()> {
     for number in 0..CONNECTIONS {
-        connect_and_go(alloc, lines, number, known)?;
+        connect_and_go(lines, number, known)?;
         if known.learnt == MESSAGES as u32 {
             break;
         }
@@ -90,14 +90,9 @@ fn send_all(alloc: Global, lines: &mut Vec<u8>, known: &mut Known) -> anyhow::Re
 }
 
 /// One connection with this number, after which what of the link goes with it to the next is known.
-fn connect_and_go(
-    alloc: Global,
-    lines: &mut Vec<u8>,
-    number: u8,
-    known: &mut Known,
-) -> anyhow::Result<()> {
-    let mut ends = connect(alloc)?;
-    let gone = go(alloc, lines, number, &mut ends, known);
+fn connect_and_go(lines: &mut Vec<u8>, number: u8, known: &mut Known) -> anyhow::Result<()> {
+    let mut ends = connect(*lines.allocator())?;
+    let gone = go(lines, number, &mut ends, known);
     drop(ends);
     gone
 }
@@ -120,19 +115,14 @@ fn conn(alloc: Global, name: &str) -> anyhow::Result<Conn> {
     Ok(Conn::new(alloc, config)?)
 }
 
-fn go(
-    alloc: Global,
-    lines: &mut Vec<u8>,
-    number: u8,
-    ends: &mut Ends,
-    known: &mut Known,
-) -> anyhow::Result<()> {
+fn go(lines: &mut Vec<u8>, number: u8, ends: &mut Ends, known: &mut Known) -> anyhow::Result<()> {
+    let alloc = *lines.allocator();
     begin(alloc, ends)?;
     attach(alloc, ends, known)?;
     if number == 0 {
-        cut_off(alloc, lines, ends, known)?;
+        cut_off(lines, ends, known)?;
     } else {
-        go_on(alloc, lines, ends, known)?;
+        go_on(lines, ends, known)?;
     }
     put_aside(ends, known)
 }
@@ -184,14 +174,9 @@ fn exchange(alloc: Global, ends: &mut Ends) -> anyhow::Result<()> {
 }
 
 /// A batch is sent, and the pipe is cut in its last frame. Of the others the receiver takes two and accepts one, which the sender does not hear.
-fn cut_off(
-    alloc: Global,
-    lines: &mut Vec<u8>,
-    ends: &mut Ends,
-    known: &mut Known,
-) -> anyhow::Result<()> {
+fn cut_off(lines: &mut Vec<u8>, ends: &mut Ends, known: &mut Known) -> anyhow::Result<()> {
     send(&mut ends.one, known)?;
-    carry_but_three(alloc, ends)?;
+    carry_but_three(*lines.allocator(), ends)?;
     take(&mut ends.other, known)?;
     accept_at(&mut ends.other, 0)?;
     take(&mut ends.other, known)?;
@@ -211,12 +196,8 @@ fn carry_but_three(alloc: Global, ends: &mut Ends) -> anyhow::Result<()> {
 }
 
 /// What is in doubt is resumed, and batches are sent as long as there are steps for them. Then the connection is closed.
-fn go_on(
-    alloc: Global,
-    lines: &mut Vec<u8>,
-    ends: &mut Ends,
-    known: &mut Known,
-) -> anyhow::Result<()> {
+fn go_on(lines: &mut Vec<u8>, ends: &mut Ends, known: &mut Known) -> anyhow::Result<()> {
+    let alloc = *lines.allocator();
     resume(lines, &mut ends.one, known)?;
     deliver(alloc, ends, known)?;
     send_batches(alloc, ends, known)?;

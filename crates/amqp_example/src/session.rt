@@ -17,91 +17,61 @@ const MAX_FRAME: u32 = 65536;
 const UNITS: u32 = 8;
 
 /// A message is sent, taken, accepted and settled.
-pub fn run(alloc: Global, lines: &mut Vec<u8>) -> anyhow::Result<()> {
-    let mut sender = End::new(alloc, "sender")?;
-    let talked = talk_with_receiver(alloc, lines, &mut sender);
+pub fn run(lines: &mut Vec<u8>) -> anyhow::Result<()> {
+    let mut sender = End::new(*lines.allocator(), "sender")?;
+    let talked = talk_with_receiver(lines, &mut sender);
     drop(sender);
     talked
 }
 
-fn talk_with_receiver(alloc: Global, lines: &mut Vec<u8>, sender: &mut End) -> anyhow::Result<()> {
-    let mut receiver = End::new(alloc, "receiver")?;
-    let talked = talk(alloc, lines, sender, &mut receiver);
+fn talk_with_receiver(lines: &mut Vec<u8>, sender: &mut End) -> anyhow::Result<()> {
+    let mut receiver = End::new(*lines.allocator(), "receiver")?;
+    let talked = talk(lines, sender, &mut receiver);
     drop(receiver);
     talked
 }
 
-fn talk(
-    alloc: Global,
-    lines: &mut Vec<u8>,
-    sender: &mut End,
-    receiver: &mut End,
-) -> anyhow::Result<()> {
-    begin(alloc, lines, sender, receiver)?;
-    attach_both(alloc, lines, sender, receiver)?;
-    send(alloc, lines, sender, receiver)?;
-    settle(alloc, lines, sender, receiver)?;
+fn talk(lines: &mut Vec<u8>, sender: &mut End, receiver: &mut End) -> anyhow::Result<()> {
+    begin(lines, sender, receiver)?;
+    attach_both(lines, sender, receiver)?;
+    send(lines, sender, receiver)?;
+    settle(lines, sender, receiver)?;
     sender.tell_steps(lines)?;
     receiver.tell_steps(lines)
 }
 
 /// Both begin the session.
-fn begin(
-    alloc: Global,
-    lines: &mut Vec<u8>,
-    sender: &mut End,
-    receiver: &mut End,
-) -> anyhow::Result<()> {
-    act(alloc, lines, sender, receiver, ops::begin())?;
-    act(alloc, lines, receiver, sender, ops::begin())
+fn begin(lines: &mut Vec<u8>, sender: &mut End, receiver: &mut End) -> anyhow::Result<()> {
+    act(lines, sender, receiver, ops::begin())?;
+    act(lines, receiver, sender, ops::begin())
 }
 
 /// Both attach a link of one name, neither of which has heard of the other's.
-fn attach_both(
-    alloc: Global,
-    lines: &mut Vec<u8>,
-    sender: &mut End,
-    receiver: &mut End,
-) -> anyhow::Result<()> {
+fn attach_both(lines: &mut Vec<u8>, sender: &mut End, receiver: &mut End) -> anyhow::Result<()> {
+    let alloc = *lines.allocator();
     sender.apply(lines, attach(alloc, "news", Role::Sender)?)?;
     receiver.apply(lines, attach(alloc, "news", Role::Receiver)?)?;
-    exchange(alloc, lines, sender, receiver)
+    exchange(lines, sender, receiver)
 }
 
 /// The link has no credit yet. A refusal has changed nothing, so the same operation may be tried again.
-fn send(
-    alloc: Global,
-    lines: &mut Vec<u8>,
-    sender: &mut End,
-    receiver: &mut End,
-) -> anyhow::Result<()> {
-    act(alloc, lines, sender, receiver, start(0, 1))?;
-    act(alloc, lines, receiver, sender, ops::grant(0, 10))?;
-    act(alloc, lines, sender, receiver, start(0, 1))
+fn send(lines: &mut Vec<u8>, sender: &mut End, receiver: &mut End) -> anyhow::Result<()> {
+    act(lines, sender, receiver, start(0, 1))?;
+    act(lines, receiver, sender, ops::grant(0, 10))?;
+    act(lines, sender, receiver, start(0, 1))
 }
 
 /// The receiver takes the message and accepts it; the sender learns of it.
-fn settle(
-    alloc: Global,
-    lines: &mut Vec<u8>,
-    sender: &mut End,
-    receiver: &mut End,
-) -> anyhow::Result<()> {
-    act(alloc, lines, receiver, sender, ops::take(0))?;
-    act(alloc, lines, receiver, sender, ops::accept(0))?;
-    act(alloc, lines, sender, receiver, ops::learn(0))
+fn settle(lines: &mut Vec<u8>, sender: &mut End, receiver: &mut End) -> anyhow::Result<()> {
+    act(lines, receiver, sender, ops::take(0))?;
+    act(lines, receiver, sender, ops::accept(0))?;
+    act(lines, sender, receiver, ops::learn(0))
 }
 
 /// The one end does the operation, and each hears what the other put out then.
-fn act(
-    alloc: Global,
-    lines: &mut Vec<u8>,
-    one: &mut End,
-    other: &mut End,
-    op: Op,
-) -> anyhow::Result<()> {
+fn act(lines: &mut Vec<u8>, one: &mut End, other: &mut End, op: Op) -> anyhow::Result<()> {
     one.apply(lines, op)?;
-    exchange(alloc, lines, one, other)
+    exchange(lines, one, other)
 }
 
 /// One end of the session, and the framer of what it hears.
@@ -146,8 +116,8 @@ impl End {
     }
 
     /// Takes octets of the peer's.
-    fn hear(&mut self, alloc: Global, lines: &mut Vec<u8>, octets: &[u8]) -> anyhow::Result<()> {
-        let mut frames = Vec::new(alloc);
+    fn hear(&mut self, lines: &mut Vec<u8>, octets: &[u8]) -> anyhow::Result<()> {
+        let mut frames = Vec::new(*lines.allocator());
         let heard = match self.framer.feed_all(octets, &mut frames) {
             Ok(()) => self.receive_all(lines, frames.as_slice()),
             Err(fault) => Err(fault.into()),
@@ -201,26 +171,21 @@ fn tell_taken(lines: &mut Vec<u8>, name: &str, taken: &Taken) -> anyhow::Result<
 }
 
 /// Each end hears what the other put out.
-fn exchange(
-    alloc: Global,
-    lines: &mut Vec<u8>,
-    one: &mut End,
-    other: &mut End,
-) -> anyhow::Result<()> {
+fn exchange(lines: &mut Vec<u8>, one: &mut End, other: &mut End) -> anyhow::Result<()> {
     for _ in 0..UNITS {
-        hand_on(alloc, lines, one, other)?;
-        hand_on(alloc, lines, other, one)?;
+        hand_on(lines, one, other)?;
+        hand_on(lines, other, one)?;
     }
     Ok(())
 }
 
 /// The first unit that waits at the one end is heard at the other.
-fn hand_on(alloc: Global, lines: &mut Vec<u8>, from: &mut End, to: &mut End) -> anyhow::Result<()> {
+fn hand_on(lines: &mut Vec<u8>, from: &mut End, to: &mut End) -> anyhow::Result<()> {
     let Some(unit) = from.logged.pop_unit() else {
         return Ok(());
     };
-    let joined = unit.bytes.join(alloc);
+    let joined = unit.bytes.join(*lines.allocator());
     drop(unit);
     let octets = joined?;
-    to.hear(alloc, lines, octets.as_slice())
+    to.hear(lines, octets.as_slice())
 }

@@ -54,7 +54,7 @@ fn talk<N: Name + Send + Sync, R: AllocGlobal + Threads + Wait + Sync>(
 {
     let (shared, mut pass, mut units) = open_shared::<N>(seed);
     match speak(rt, lines, &shared, &mut pass, &mut units, peer) {
-        Ok((first, second)) => close(rt.alloc(), lines, shared, units, pass, first, second),
+        Ok((first, second)) => close(lines, shared, units, pass, first, second),
         Err(error) => {
             drop(units);
             drop(pass);
@@ -122,12 +122,13 @@ fn attach_both<N: Name, R: AllocGlobal + Wait>(
 ) -> anyhow::Result<()> {
     apply(rt, shared, pass, attach(rt.alloc(), "there", Role::Sender)?)?;
     exchange(rt, lines, shared, pass, units, peer)?;
-    attach_peer(rt.alloc(), lines, peer)?;
+    attach_peer(lines, peer)?;
     exchange(rt, lines, shared, pass, units, peer)
 }
 
 /// The peer takes the link that was offered to it.
-fn attach_peer(alloc: Global, lines: &mut Vec<u8>, peer: &mut End) -> anyhow::Result<()> {
+fn attach_peer(lines: &mut Vec<u8>, peer: &mut End) -> anyhow::Result<()> {
+    let alloc = *lines.allocator();
     peer.apply(lines, attach(alloc, "there", Role::Receiver)?)?;
     peer.apply(lines, ops::grant(0, 10))
 }
@@ -202,7 +203,7 @@ fn exchange<N: Name, R: AllocGlobal + Wait>(
 ) -> anyhow::Result<()> {
     for _ in 0..TURNS {
         shared.move_units(&mut shared.lock(rt));
-        let answer = write_to_peer(rt.alloc(), lines, units, peer)?;
+        let answer = write_to_peer(lines, units, peer)?;
         hear(rt, shared, pass, answer)?;
     }
     Ok(())
@@ -210,18 +211,18 @@ fn exchange<N: Name, R: AllocGlobal + Wait>(
 
 /// The peer hears the first unit in the ring, if there is one, and answers what it says then.
 fn write_to_peer<N: Name>(
-    alloc: Global,
     lines: &mut Vec<u8>,
     units: &mut WriterEnd<N>,
     peer: &mut End,
 ) -> anyhow::Result<Vec<u8>> {
+    let alloc = *lines.allocator();
     let Some(unit) = units.take() else {
-        return peer.hear(alloc, lines, &[]);
+        return peer.hear(lines, &[]);
     };
     let joined = unit.bytes.join(alloc);
     drop(unit);
     let octets = joined?;
-    peer.hear(alloc, lines, octets.as_slice())
+    peer.hear(lines, octets.as_slice())
 }
 
 /// Feeds all of the octets.
@@ -258,7 +259,6 @@ fn feed_all<N: Name>(
 
 /// All that belongs to the connection comes together again.
 fn close<N: Name>(
-    alloc: Global,
     lines: &mut Vec<u8>,
     shared: Shared<N>,
     units: WriterEnd<N>,
@@ -266,6 +266,7 @@ fn close<N: Name>(
     first: Pass<N>,
     second: Pass<N>,
 ) -> anyhow::Result<()> {
+    let alloc = *lines.allocator();
     let made = [pass.made(), first.made(), second.made()];
     match gather(alloc, pass, first, second) {
         Ok(passes) => tell(lines, made, shared.close(passes, units)),

@@ -174,15 +174,6 @@ kept-put-parts c gone journal before after popped place left endpoint queue queu
     let here : after ≡ before ++ (length (gone ++ journal), octets) ∷ [] = p ∙ ap (λ n. before ++ (n, octets) ∷ []) h in
     subst P (sym q) (subst Q (sym here) (kept-put l endpoint queue octets k))
 
--- what was forgotten is all that there was
-all-gone : (gone journal after left : List Entry) → after ≡ gone ++ journal → left ≡ [] → after ++ left ≡ gone ++ journal
-all-gone gone journal after left a e = ap (λ (x : List Entry). after ++ x) e ∙ append-nil after ∙ a
-
-pub forgetting-is : (c : Config) (gone journal after rest : List Entry) (put : List (ℕ × List ℕ)) (popped : ℕ) (left : List Left) → after ≡ gone ++ journal → rest ≡ []
-    → log_of c after rest put popped left ≡ forgetting (log_of c gone journal put popped left)
-forgetting-is c gone journal after rest put popped left a e =
-    λ i. record { config = c; journal = all-gone gone journal after rest a e i; forgotten = length (a i); put = put; popped = popped; left = left }
-
 pub kept-forgotten : (l : Log) (endpoint : View) (queue : List (List ℕ)) → IsKept l endpoint queue → IsKept (forgetting l) endpoint queue
 kept-forgotten l endpoint queue k =
     record { limits = k.limits; lawful = k.lawful; is_at = k.is_at; queued = k.queued; within = k.within; some = k.some; few = k.few; forgot = omega arith }

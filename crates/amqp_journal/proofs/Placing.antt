@@ -1,5 +1,5 @@
 -- The first of a list that passes a test, sought from the front.
-use Rattle.std.proofs.Common.{◌≡◌, ◌<◌, ℕ, zero, suc, Bool, true, false, cond, None, Some, List, [], ◌∷◌, ◌++◌, length, take, drop, find, refl, sym, ap, ◌∙◌, arith, append_assoc}
+use Rattle.std.proofs.Common.{◌≡◌, ◌<◌, ℕ, zero, suc, Bool, true, cond, Some, List, [], ◌∷◌, ◌++◌, length, take, drop, find, refl, sym, ap, ◌∙◌, arith}
 use Rattle.std.specs.Prelude.{slice_get, slice_index_or, remove}
 use Rattle.amqp_rules.specs.View.{remove_first}
 
@@ -16,17 +16,6 @@ front (x ∷ xs) (suc n) d h =
     let rest = front xs n d (omega (arith, h)) in
     (rest.0, ap (λ ys. x ∷ ys) rest.1, rest.2)
 
-pub past-more : {A : Type 0} (test : A → Bool) (xs : List A) (n : ℕ) (d : A) → n < length xs → test (slice_index_or xs n d) ≡ false → IsPast test xs n → IsPast test xs (suc n)
-past-more test xs n d h t p =
-    let f = front xs n d h in
-    let x = slice_index_or xs n d in
-    let rest = drop (suc n) xs in (
-      p.0 ∙ ap (find test) f.0 ∙ ap (λ b. cond b (Some x) (find test rest)) t,
-      p.1 ∙ ap (λ ys. take n xs ++ remove_first test ys) f.0 ∙ ap (λ b. take n xs ++ cond b rest (x ∷ remove_first test rest)) t
-          ∙ sym (append_assoc (take n xs) (x ∷ []) (remove_first test rest))
-          ∙ ap (λ ys. ys ++ remove_first test rest) (sym f.1),
-    )
-
 pub past-found : {A : Type 0} (test : A → Bool) (xs : List A) (n : ℕ) (d : A) → n < length xs → test (slice_index_or xs n d) ≡ true → IsPast test xs n
     → (find test xs ≡ slice_get xs n) × (remove xs n ≡ remove_first test xs)
 past-found test xs n d h t p =
@@ -40,6 +29,3 @@ past-found test xs n d h t p =
 none-left : {A : Type 0} (ys : List A) → drop (length ys) ys ≡ []
 none-left [] = refl
 none-left (y ∷ ys) = none-left ys
-
-pub past-all : {A : Type 0} (test : A → Bool) (xs : List A) (n : ℕ) → n ≡ length xs → IsPast test xs n → find test xs ≡ None
-past-all test xs n h p = p.0 ∙ ap (λ k. find test (drop k xs)) h ∙ ap (find test) (none-left xs)

@@ -123,11 +123,6 @@ known-joined s n numbers key l w end i j k m h =
     here : slab.get n key ≡ Some m → tree.get nat_cmp numbers m.number ≡ Some key
     here g = let q : w ≡ m = same (rw (← j.is) g) in rw (← q, j.number) (i key l j.was)
 
-changed-joined : (s n : Slab LinkView) (key : ℕ) (l w : LinkView) (end : EndView) (f : LinkView → LinkView) → IsJoined s n key l w end → f l ≡ w
-    → ((k : ℕ) (m : LinkView) → slab.get s k ≡ Some m → m.number ≡ l.number → k ≡ key)
-    → (es : List (ℕ × ℕ)) (from to : ℕ) → AreListed s es → AreRising from to es → links_of n es ≡ change_first (has_number l.number) f (links_of s es)
-changed-joined s n key l w end f j fl only es from to a r = changed-over s n key l w f j.was j.is j.others fl only es from to a r
-
 pub number-at : (n m : ℕ) → tree.is_at (nat_cmp n) m ≡ (n == m)
 number-at n m = grind (arith)
 

@@ -220,9 +220,6 @@ back-indexed old more new handles ls name i a u v =
 pub reserved-indexed : (names : Names) (was now : Handles) (ls : LinksView) → AreIndexed names was ls → ((links : List LinkView) → AreHandled was links → AreHandled now links) → now.next ≡ was.next → AreIndexed names now ls
 reserved-indexed names was now ls i u n = record { named = i.named; handled = u ls.list i.handled; low = rw n i.low }
 
-pub unnamed-indexed : (was now : Names) (handles : Handles) (ls : LinksView) → AreIndexed was handles ls → ((q : List ℕ) → numbers_under now q ≡ numbers_under was q) → AreIndexed now handles ls
-unnamed-indexed was now handles ls i u = record { named = λ q. u q ∙ i.named q; handled = i.handled; low = i.low }
-
 -- a link is gone that we called by a handle, and one that we did not
 pub gone-indexed : (was now : Names) (held holds : Handles) (ls : LinksView) (n h : ℕ) (l : LinkView) → AreIndexed was held ls → AreNumbered 0 ls.list
     → find (has_number n) ls.list ≡ Some l → is_some l.ours ≡ true → h ≡ handle_of l.ours

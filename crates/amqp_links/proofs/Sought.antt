@@ -56,12 +56,6 @@ seek-in test q its whole (l ∷ ls) a =
 pub seek-start : (test : LinkView → Bool) (q : List ℕ) (ls : List LinkView) → ((l : LinkView) → test l ≡ true → is_named q l ≡ true) → AreNumbered 0 ls → find test ls ≡ seek test ls (numbers_named q ls)
 seek-start test q ls its a = seek-in test q its ls ls (there-all ls 0 a)
 
-pub seek-gone : (test : LinkView → Bool) (ls : List LinkView) (n : ℕ) (ns : List ℕ) → find (has_number n) ls ≡ None → find test ls ≡ seek test ls (n ∷ ns) → find test ls ≡ seek test ls ns
-seek-gone test ls n ns g h = h ∙ ap (λ o. among test o (seek test ls ns)) g
-
-pub seek-past : (test : LinkView → Bool) (ls : List LinkView) (n : ℕ) (ns : List ℕ) (l : LinkView) → find (has_number n) ls ≡ Some l → test l ≡ false → find test ls ≡ seek test ls (n ∷ ns) → find test ls ≡ seek test ls ns
-seek-past test ls n ns l g t h = h ∙ ap (λ o. among test o (seek test ls ns)) g ∙ ap (λ b. cond b (Some l) (seek test ls ns)) t
-
 pub seek-found : (test : LinkView → Bool) (ls : List LinkView) (n : ℕ) (ns : List ℕ) (l : LinkView) → find (has_number n) ls ≡ Some l → test l ≡ true → find test ls ≡ seek test ls (n ∷ ns) → find test ls ≡ Some l
 seek-found test ls n ns l g t h = h ∙ ap (λ o. among test o (seek test ls ns)) g ∙ ap (λ b. cond b (Some l) (seek test ls ns)) t
 

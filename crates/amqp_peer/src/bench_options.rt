@@ -1,6 +1,6 @@
 //! The command `bench`, with the commands `codec`, `session` and `sockets` under it and their options, and what is read from those that were given.
 
-use crate::choice::{Choice, NUMBER, Value, command, put};
+use crate::choice::{Choice, NUMBER, Value, choice, command, put};
 use amqp_bench::{Bench, Ends, Messages, SHORT_RUN, Sockets};
 use clap::{ArgMatches, Command};
 use std::alloc::{AllocError, Global};
@@ -16,92 +16,42 @@ const PORT: Value = Value::Number("PORT", 0, 65535);
 
 /// Of `codec`.
 static CODEC: [Choice; 2] = [
-    Choice {
-        name: "rounds",
-        help: "How often each frame is written and read",
-        value: Value::Number("N", 1, 100000000),
-        usual: Some("100000"),
-        ..NUMBER
-    },
-    Choice {
-        name: "part",
-        help: "One way alone: 1 a transfer written, 2 read, 3 and 4 a flow, 5 and 6 a disposition",
-        value: Value::Number("K", 1, 6),
-        ..NUMBER
-    },
+    choice!(NUMBER, "rounds": "How often each frame is written and read",
+        value: Value::Number("N", 1, 100000000), usual: Some("100000")),
+    choice!(NUMBER, "part": "One way alone: 1 a transfer written, 2 read, 3 and 4 a flow, 5 and 6 a disposition",
+        value: Value::Number("K", 1, 6)),
 ];
 
 /// By which messages are asked for.
 static MESSAGES: [Choice; 6] = [
-    Choice {
-        name: "count",
-        help: "How many messages are sent",
-        value: Value::Number("N", 1, 100000000),
-        ..NUMBER
-    },
-    Choice {
-        name: "size",
-        help: "How long each is, in octets",
-        value: Value::Number("S", 0, 100000000),
-        ..NUMBER
-    },
-    Choice {
-        name: "settled",
-        help: "1: they are sent settled; 0: each is accepted, settled and learnt",
-        value: Value::Number("0|1", 0, 1),
-        ..NUMBER
-    },
-    Choice {
-        name: "credit",
-        help: "How many the receiver lets begin at a time",
-        value: Value::Number("C", 1, MANY),
-        ..NUMBER
-    },
-    Choice {
-        name: "range",
-        help: "How many deliveries a disposition names at most; all that were taken where it is left off",
-        value: Value::Number("R", 1, MANY),
-        ..NUMBER
-    },
-    Choice {
-        name: "keep",
-        help: "How many entries of its journal each end keeps at most; all where it is left off",
-        value: Value::Number("N", 1, 1073741824),
-        ..NUMBER
-    },
+    choice!(NUMBER, "count": "How many messages are sent", value: Value::Number("N", 1, 100000000)),
+    choice!(NUMBER, "size": "How long each is, in octets", value: Value::Number("S", 0, 100000000)),
+    choice!(NUMBER, "settled": "1: they are sent settled; 0: each is accepted, settled and learnt",
+        value: Value::Number("0|1", 0, 1)),
+    choice!(NUMBER, "credit": "How many the receiver lets begin at a time", value: Value::Number("C", 1, MANY)),
+    choice!(NUMBER, "range": "How many deliveries a disposition names at most; all that were taken where it is left off",
+        value: Value::Number("R", 1, MANY)),
+    choice!(NUMBER, "keep": "How many entries of its journal each end keeps at most; all where it is left off",
+        value: Value::Number("N", 1, 1073741824)),
 ];
 
 /// Of `session` alone.
-static SESSION: [Choice; 1] = [Choice {
-    name: "sessions",
-    help: "How many sessions, one after the other: from the second on they find memory that was used before",
-    value: Value::Number("N", 1, 1000),
-    ..NUMBER
-}];
+static SESSION: [Choice; 1] = [
+    choice!(NUMBER, "sessions": "How many sessions, one after the other: from the second on they find memory that was used before",
+    value: Value::Number("N", 1, 1000)),
+];
 
 /// The ports of `sockets`.
 static PORTS: [Choice; 2] = [
-    Choice {
-        name: "connect",
-        help: "Has the sending ends, and connects to this port",
-        value: PORT,
-        ..NUMBER
-    },
-    Choice {
-        name: "listen",
-        help: "Has the receiving ends, and listens at this port",
-        value: PORT,
-        ..NUMBER
-    },
+    choice!(NUMBER, "connect": "Has the sending ends, and connects to this port", value: PORT),
+    choice!(NUMBER, "listen": "Has the receiving ends, and listens at this port", value: PORT),
 ];
 
 /// Of `sockets` alone.
-static SOCKETS: [Choice; 1] = [Choice {
-    name: "connections",
-    help: "How many connections there are at once, each with messages of its own",
-    value: Value::Number("N", 1, 100000),
-    ..NUMBER
-}];
+static SOCKETS: [Choice; 1] = [
+    choice!(NUMBER, "connections": "How many connections there are at once, each with messages of its own",
+    value: Value::Number("N", 1, 100000)),
+];
 
 /// The command `bench` with the commands under it.
 pub fn bench<'a>(alloc: Global) -> Result<Command<'a>, AllocError> {

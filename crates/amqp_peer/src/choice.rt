@@ -63,6 +63,15 @@ pub const NUMBER: Choice = Choice {
     ..FLAG
 };
 
+/// A row of a table: the option that it is but for its name, its help and what else is given.
+macro_rules! choice {
+    ($base:ident, $name:literal: $help:literal $(, $field:ident: $value:expr)*) => {
+        Choice { name: $name, help: $help, $($field: $value,)* ..$base }
+    };
+}
+
+pub(crate) use choice;
+
 /// A command with options, which its help tells in their order.
 pub fn command<'a>(
     alloc: Global,
@@ -86,18 +95,14 @@ pub fn put<'a>(
 fn arguments<'a>(alloc: Global, choices: &[&[Choice]]) -> Result<Vec<Arg<'a>>, AllocError> {
     let mut arguments = Vec::new(alloc);
     for some in choices {
-        add(alloc, &mut arguments, some)?;
+        add(&mut arguments, some)?;
     }
     Ok(arguments)
 }
 
-fn add<'a>(
-    alloc: Global,
-    arguments: &mut Vec<Arg<'a>>,
-    choices: &[Choice],
-) -> Result<(), AllocError> {
+fn add<'a>(arguments: &mut Vec<Arg<'a>>, choices: &[Choice]) -> Result<(), AllocError> {
     for choice in choices {
-        arguments.push(argument(alloc, choice)?)?;
+        arguments.push(argument(*arguments.allocator(), choice)?)?;
     }
     Ok(())
 }

@@ -1,7 +1,7 @@
 //! The commands `script`, `conn`, `frames`, `trace`, `explain`, `pair`, `send`, `receive`, `serve`, `example` and `rows` with their options. A table is a static, since a constant is written out, and proved, in
 //! each function that names it; one of all commands would cost more than all of these functions.
 
-use crate::choice::{Choice, FLAG, NUMBER, TEXT, Value, command};
+use crate::choice::{Choice, FLAG, NUMBER, TEXT, Value, choice, command};
 use amqp_client::MIN_MAX_FRAME;
 use amqp_pair::{MAX_CONSUMERS, MAX_COUNT, MAX_CREDIT, MAX_SIZE};
 use amqp_rules::config::{MAX_JOURNAL_LIMIT, MAX_WINDOW};
@@ -16,27 +16,18 @@ const MAX_PATIENCE: u32 = 8_589_934;
 const MAX_CONNECTIONS: u32 = 100_000;
 
 /// How many of a journal's entries are kept.
-const KEEP: Choice = Choice {
-    name: "keep",
-    help: "How many entries of the journal stay at most; all where it is left off",
-    value: Value::Number("N", 1, MAX_JOURNAL_LIMIT),
-    ..NUMBER
-};
+const KEEP: Choice =
+    choice!(NUMBER, "keep": "How many entries of the journal stay at most; all where it is left off",
+    value: Value::Number("N", 1, MAX_JOURNAL_LIMIT));
 
 /// The messages go settled.
-const SETTLED: Choice = Choice {
-    name: "settled",
-    help: "The messages go settled: nothing is told of them",
-    ..FLAG
-};
+const SETTLED: Choice =
+    choice!(FLAG, "settled": "The messages go settled: nothing is told of them");
 
 /// The file that is the journal of a `send` or a `receive`, beside which another option does not stand.
-const JOURNAL: Choice = Choice {
-    name: "journal",
-    help: "Keeps in this file what became of each message: lost connections, and runs that were killed, are taken up again",
-    value: PATH,
-    ..TEXT
-};
+const JOURNAL: Choice =
+    choice!(TEXT, "journal": "Keeps in this file what became of each message: lost connections, and runs that were killed, are taken up again",
+    value: PATH);
 
 /// Of `script` alone.
 static KEEPING: [Choice; 1] = [KEEP];
@@ -49,257 +40,82 @@ const PATH: Value = Value::Text("PATH");
 
 /// Of an endpoint's settings.
 static CONFIG: [Choice; 3] = [
-    Choice {
-        name: "first-id",
-        help: "The first transfer id and delivery id",
-        usual: Some("0"),
-        ..NUMBER
-    },
-    Choice {
-        name: "window",
-        help: "The incoming window, in transfers",
-        value: Value::Number("W", 1, MAX_WINDOW),
-        usual: Some("2048"),
-        ..NUMBER
-    },
-    Choice {
-        name: "limit",
-        help: "How many steps the journal may have",
-        value: Value::Number("L", 1, MAX_JOURNAL_LIMIT),
-        usual: Some("1073741824"),
-        ..NUMBER
-    },
+    choice!(NUMBER, "first-id": "The first transfer id and delivery id", usual: Some("0")),
+    choice!(NUMBER, "window": "The incoming window, in transfers",
+        value: Value::Number("W", 1, MAX_WINDOW), usual: Some("2048")),
+    choice!(NUMBER, "limit": "How many steps the journal may have",
+        value: Value::Number("L", 1, MAX_JOURNAL_LIMIT), usual: Some("1073741824")),
 ];
 
 /// Of `trace` alone.
 static TRACE: [Choice; 3] = [
-    Choice {
-        name: "heard",
-        help: "The octets were heard, and not sent",
-        ..FLAG
-    },
-    Choice {
-        name: "raw",
-        help: "Standard input has the octets as they are",
-        ..FLAG
-    },
-    Choice {
-        name: "color",
-        help: "The lines are in colour",
-        ..FLAG
-    },
+    choice!(FLAG, "heard": "The octets were heard, and not sent"),
+    choice!(FLAG, "raw": "Standard input has the octets as they are"),
+    choice!(FLAG, "color": "The lines are in colour"),
 ];
 
 /// Of `explain`.
 static EXPLAIN: [Choice; 3] = [
-    Choice {
-        name: "number",
-        help: "The number of a refusal",
-        is_required: true,
-        is_bare: true,
-        ..NUMBER
-    },
-    Choice {
-        name: "violation",
-        help: "It is the number of a violation",
-        ..FLAG
-    },
-    Choice {
-        name: "fault",
-        help: "It is that of a fault of framing",
-        excludes: Some("violation"),
-        ..FLAG
-    },
+    choice!(NUMBER, "number": "The number of a refusal", is_required: true, is_bare: true),
+    choice!(FLAG, "violation": "It is the number of a violation"),
+    choice!(FLAG, "fault": "It is that of a fault of framing", excludes: Some("violation")),
 ];
 
 /// Of `pair`.
 static PAIR: [Choice; 9] = [
-    Choice {
-        name: "count",
-        help: "How many messages",
-        value: Value::Number("N", 1, MAX_COUNT),
-        is_required: true,
-        ..NUMBER
-    },
-    Choice {
-        name: "consumers",
-        help: "How many threads consume them",
-        value: Value::Number("N", 1, MAX_CONSUMERS),
-        unless: Some("drivers"),
-        ..NUMBER
-    },
-    Choice {
-        name: "credit",
-        help: "How many messages may come at a time",
-        value: Value::Number("N", 1, MAX_CREDIT),
-        is_required: true,
-        ..NUMBER
-    },
-    Choice {
-        name: "size",
-        help: "The octets of a message",
-        value: Value::Number("N", 0, MAX_SIZE),
-        is_required: true,
-        ..NUMBER
-    },
-    Choice {
-        name: "first-id",
-        help: "The first transfer id and delivery id",
-        unless: Some("drivers"),
-        ..NUMBER
-    },
+    choice!(NUMBER, "count": "How many messages", value: Value::Number("N", 1, MAX_COUNT), is_required: true),
+    choice!(NUMBER, "consumers": "How many threads consume them",
+        value: Value::Number("N", 1, MAX_CONSUMERS), unless: Some("drivers")),
+    choice!(NUMBER, "credit": "How many messages may come at a time",
+        value: Value::Number("N", 1, MAX_CREDIT), is_required: true),
+    choice!(NUMBER, "size": "The octets of a message", value: Value::Number("N", 0, MAX_SIZE), is_required: true),
+    choice!(NUMBER, "first-id": "The first transfer id and delivery id", unless: Some("drivers")),
     KEEP,
     SETTLED,
-    Choice {
-        name: "drivers",
-        help: "Each end is one thread, which drives all of its connections",
-        ..FLAG
-    },
-    Choice {
-        name: "connections",
-        help: "How many connections there are at once, each with messages of its own; 1 where it is left off",
-        value: Value::Number("N", 1, MAX_CONNECTIONS),
-        needs: Some("drivers"),
-        // clap does not ask for `drivers` beside an option that excludes it.
-        excludes: Some("consumers"),
-        ..NUMBER
-    },
+    choice!(FLAG, "drivers": "Each end is one thread, which drives all of its connections"),
+    // clap does not ask for `drivers` beside an option that excludes it.
+    choice!(NUMBER, "connections": "How many connections there are at once, each with messages of its own; 1 where it is left off",
+        value: Value::Number("N", 1, MAX_CONNECTIONS), needs: Some("drivers"), excludes: Some("consumers")),
 ];
 
 /// Of what has each frame told.
 static TRACED: [Choice; 2] = [
-    Choice {
-        name: "trace",
-        help: "Tells each frame on standard error",
-        ..FLAG
-    },
-    Choice {
-        name: "color",
-        help: "Tells them in colour",
-        needs: Some("trace"),
-        ..FLAG
-    },
+    choice!(FLAG, "trace": "Tells each frame on standard error"),
+    choice!(FLAG, "color": "Tells them in colour", needs: Some("trace")),
 ];
 
 /// Of who the peer is, and of how many messages.
 static PEER: [Choice; 10] = [
-    Choice {
-        name: "address",
-        help: "The address at the peer, where this end begins",
-        usual: Some("q"),
-        ..TEXT
-    },
-    Choice {
-        name: "host",
-        help: "The peer's host, or the one to listen at",
-        usual: Some("127.0.0.1"),
-        ..TEXT
-    },
-    Choice {
-        name: "port",
-        help: "The peer's port, or the one to listen at",
-        value: PORT,
-        usual: Some("5672"),
-        ..NUMBER
-    },
-    Choice {
-        name: "listen",
-        help: "The peer connects and begins",
-        ..FLAG
-    },
-    Choice {
-        name: "timeout",
-        help: "After so long without an octet the peer is left",
-        value: Value::Number("SECONDS", 1, MAX_PATIENCE),
-        ..NUMBER
-    },
-    Choice {
-        name: "container-id",
-        help: "This end's name",
-        usual: Some("amqp_peer"),
-        ..TEXT
-    },
-    Choice {
-        name: "max-frame",
-        help: "The longest frame that this end takes, in octets",
-        value: Value::Number("N", MIN_MAX_FRAME, u32::MAX),
-        usual: Some("65536"),
-        ..NUMBER
-    },
-    Choice {
-        name: "quiet",
-        help: "Does not tell how far it is",
-        ..FLAG
-    },
-    Choice {
-        name: "retries",
-        help: "With a journal: how often in a row a peer is tried again where that brings nothing",
-        usual: Some("20"),
-        ..NUMBER
-    },
-    Choice {
-        name: "count",
-        help: "How many messages",
-        value: Value::Number("N", 1, u32::MAX),
-        usual: Some("1"),
-        ..NUMBER
-    },
+    choice!(TEXT, "address": "The address at the peer, where this end begins", usual: Some("q")),
+    choice!(TEXT, "host": "The peer's host, or the one to listen at", usual: Some("127.0.0.1")),
+    choice!(NUMBER, "port": "The peer's port, or the one to listen at", value: PORT, usual: Some("5672")),
+    choice!(FLAG, "listen": "The peer connects and begins"),
+    choice!(NUMBER, "timeout": "After so long without an octet the peer is left",
+        value: Value::Number("SECONDS", 1, MAX_PATIENCE)),
+    choice!(TEXT, "container-id": "This end's name", usual: Some("amqp_peer")),
+    choice!(NUMBER, "max-frame": "The longest frame that this end takes, in octets",
+        value: Value::Number("N", MIN_MAX_FRAME, u32::MAX), usual: Some("65536")),
+    choice!(FLAG, "quiet": "Does not tell how far it is"),
+    choice!(NUMBER, "retries": "With a journal: how often in a row a peer is tried again where that brings nothing",
+        usual: Some("20")),
+    choice!(NUMBER, "count": "How many messages", value: Value::Number("N", 1, u32::MAX), usual: Some("1")),
 ];
 
 /// Of what each message tells beside its body.
 static LABELS: [Choice; 6] = [
-    Choice {
-        name: "message-id",
-        help: "The messages' message-id, a string",
-        ..TEXT
-    },
-    Choice {
-        name: "correlation-id",
-        help: "Their correlation-id, a string",
-        ..TEXT
-    },
-    Choice {
-        name: "subject",
-        help: "Their subject",
-        ..TEXT
-    },
-    Choice {
-        name: "reply-to",
-        help: "Their reply-to",
-        ..TEXT
-    },
-    Choice {
-        name: "content-type",
-        help: "Their content-type",
-        ..TEXT
-    },
-    Choice {
-        name: "durable",
-        help: "They are durable",
-        ..FLAG
-    },
+    choice!(TEXT, "message-id": "The messages' message-id, a string"),
+    choice!(TEXT, "correlation-id": "Their correlation-id, a string"),
+    choice!(TEXT, "subject": "Their subject"),
+    choice!(TEXT, "reply-to": "Their reply-to"),
+    choice!(TEXT, "content-type": "Their content-type"),
+    choice!(FLAG, "durable": "They are durable"),
 ];
 
 /// Of `send` alone.
 static SEND: [Choice; 5] = [
-    Choice {
-        name: "size",
-        help: "The octets of a message's body",
-        usual: Some("16"),
-        ..NUMBER
-    },
-    Choice {
-        name: "lines",
-        help: "Each line of standard input is a message",
-        ..FLAG
-    },
-    Choice {
-        name: "file",
-        help: "The octets of this file are each message's body",
-        value: PATH,
-        excludes: Some("lines"),
-        ..TEXT
-    },
+    choice!(NUMBER, "size": "The octets of a message's body", usual: Some("16")),
+    choice!(FLAG, "lines": "Each line of standard input is a message"),
+    choice!(TEXT, "file": "The octets of this file are each message's body", value: PATH, excludes: Some("lines")),
     SETTLED,
     Choice {
         excludes: Some("settled"),
@@ -309,39 +125,13 @@ static SEND: [Choice; 5] = [
 
 /// Of `receive` alone.
 static RECEIVE: [Choice; 7] = [
-    Choice {
-        name: "credit",
-        help: "How many messages may come at a time",
-        value: Value::Number("N", 1, u32::MAX),
-        usual: Some("10"),
-        ..NUMBER
-    },
-    Choice {
-        name: "half",
-        help: "Gives credit again once half of it is used, and not all",
-        ..FLAG
-    },
-    Choice {
-        name: "drain",
-        help: "Takes what is there, and waits for no message",
-        excludes: Some("half"),
-        ..FLAG
-    },
-    Choice {
-        name: "lines",
-        help: "Prints the body of each message, and a line's end",
-        ..FLAG
-    },
-    Choice {
-        name: "sections",
-        help: "Prints a line for each section of each message",
-        ..FLAG
-    },
-    Choice {
-        name: "json",
-        help: "Prints a line of JSON for each message",
-        ..FLAG
-    },
+    choice!(NUMBER, "credit": "How many messages may come at a time",
+        value: Value::Number("N", 1, u32::MAX), usual: Some("10")),
+    choice!(FLAG, "half": "Gives credit again once half of it is used, and not all"),
+    choice!(FLAG, "drain": "Takes what is there, and waits for no message", excludes: Some("half")),
+    choice!(FLAG, "lines": "Prints the body of each message, and a line's end"),
+    choice!(FLAG, "sections": "Prints a line for each section of each message"),
+    choice!(FLAG, "json": "Prints a line of JSON for each message"),
     Choice {
         excludes: Some("drain"),
         ..JOURNAL
@@ -350,44 +140,14 @@ static RECEIVE: [Choice; 7] = [
 
 /// Of `serve` alone.
 static SERVE: [Choice; 6] = [
-    Choice {
-        name: "host",
-        help: "The address to listen at, in digits",
-        usual: Some("127.0.0.1"),
-        ..TEXT
-    },
-    Choice {
-        name: "port",
-        help: "The peer's port, or the one to listen at",
-        value: PORT,
-        usual: Some("5672"),
-        ..NUMBER
-    },
-    Choice {
-        name: "credit",
-        help: "How many messages may come at a time on each link",
-        value: Value::Number("N", 1, 2147483647),
-        usual: Some("100"),
-        ..NUMBER
-    },
-    Choice {
-        name: "limit",
-        help: "How many messages are kept at most",
-        usual: Some("100000"),
-        ..NUMBER
-    },
-    Choice {
-        name: "threads",
-        help: "How many threads drive connections",
-        value: Value::Number("N", 1, MAX_THREADS),
-        usual: Some("1"),
-        ..NUMBER
-    },
-    Choice {
-        name: "count",
-        help: "Ends once so many messages were sent and are done with",
-        ..NUMBER
-    },
+    choice!(TEXT, "host": "The address to listen at, in digits", usual: Some("127.0.0.1")),
+    choice!(NUMBER, "port": "The peer's port, or the one to listen at", value: PORT, usual: Some("5672")),
+    choice!(NUMBER, "credit": "How many messages may come at a time on each link",
+        value: Value::Number("N", 1, 2147483647), usual: Some("100")),
+    choice!(NUMBER, "limit": "How many messages are kept at most", usual: Some("100000")),
+    choice!(NUMBER, "threads": "How many threads drive connections",
+        value: Value::Number("N", 1, MAX_THREADS), usual: Some("1")),
+    choice!(NUMBER, "count": "Ends once so many messages were sent and are done with"),
 ];
 
 /// The command `script` with its options.

@@ -24,9 +24,6 @@ left-one us n x e = let k : n + 1 ≡ suc n = omega arith in by us n e ∙ ap (�
     by (v ∷ vs) zero h = let same : v ≡ x = cc in ap (λ y. y ++ joined vs) same
     by (v ∷ vs) (suc i) h = by vs i h
 
-pub gathers-none : (left : List ℕ) (c : Connection) → Gathers left c left c
-gathers-none left c = record { more = []; popped = sym (append-nil (gone c)); behind = sym (append-nil left); none_lost = refl }
-
 gathers-unit : (left x : List ℕ) (c : Connection) → slice_get (units c.core.log) c.core.log.popped ≡ Some x → Gathers left c (left ++ x) (popped c)
 unfolding gone
 gathers-unit left x c e =
@@ -41,15 +38,6 @@ gathers-unit left x c e =
 pub gathers-one : (left left' x : List ℕ) (c d : Connection) → slice_get (units c.core.log) c.core.log.popped ≡ Some x → d ≡ popped c → left' ≡ left ++ x → Gathers left c left' d
 gathers-one left left' x c d e p b =
     subst (λ (y : List ℕ). Gathers left c y d) (sym b) (subst (λ (y : Connection). Gathers left c (left ++ x) y) (sym p) (gathers-unit left x c e))
-
-pub gathers-then : (x y z : List ℕ) (c d e : Connection) → Gathers x c y d → Gathers y d z e → Gathers x c z e
-gathers-then x y z c d e p q =
-    record {
-      more = p.more ++ q.more;
-      popped = q.popped ∙ ap (λ w. w ++ q.more) p.popped ∙ append_assoc (gone c) p.more q.more;
-      behind = q.behind ∙ ap (λ w. w ++ q.more) p.behind ∙ append_assoc x p.more q.more;
-      none_lost = q.none_lost ∙ p.none_lost;
-    }
 
 -- what is left has more octets behind: copied, or from where they stand
 pub copied-behind : (sent : ℕ) (short short' long x left : List ℕ) → sent ≤ length short → drop sent short ++ long ≡ left → long ≡ [] → short' ≡ short ++ x → drop sent short' ++ long ≡ left ++ x

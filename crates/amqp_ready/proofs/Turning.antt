@@ -7,7 +7,7 @@ use Rattle.amqp_conn.specs.Connection.{Connection}
 use Rattle.amqp_conn.specs.Pumping.{OnlyWrote, as_popped}
 use Rattle.amqp_ready.specs.declared.fault.SlotFault.{SlotFault}
 use Rattle.amqp_ready.specs.Moving.{PassesOn}
-use Rattle.amqp_ready.specs.Gathering.{gone, Gathers}
+use Rattle.amqp_ready.specs.Gathering.{gone}
 use Rattle.amqp_ready.specs.Lending.{still}
 use Rattle.amqp_ready.specs.Failing.{EndsSo, IsOfFeeding, Stays, TellsFailure}
 use Rattle.amqp_ready.specs.Serving.{FeedsOn, IsNoFeeds}
@@ -25,9 +25,6 @@ passes-behind a b x y z p = record { front = p.front; split = ap (λ w. w ++ z) 
 pub sent-none : (c d : Connection) (l : List ℕ) (k : Option (List ℕ)) → gone d ≡ gone c → Sent c d l l k k
 sent-none c d l k g = record { more = []; popped = g ∙ sym (append-nil (gone c)); passes = subst (λ (x : List ℕ). PassesOn k k x l) (sym (append-nil l)) (passes-none k l) }
 
-pub sent-gathered : (c d : Connection) (l m n : List ℕ) (k k' : Option (List ℕ)) → Gathers l c m d → PassesOn k k' m n → Sent c d l n k k'
-sent-gathered c d l m n k k' g p = record { more = g.more; popped = g.popped; passes = subst (λ (x : List ℕ). PassesOn k k' x n) g.behind p }
-
 pub sent-then : (c d e : Connection) (l m n : List ℕ) (i j k : Option (List ℕ)) → Sent c d l m i j → Sent d e m n j k → Sent c e l n i k
 sent-then c d e l m n i j k p q =
     record {
@@ -37,9 +34,6 @@ sent-then c d e l m n i j k p q =
           subst (λ (x : List ℕ). PassesOn i k x n) (append_assoc l p.more q.more)
           (passes-then i j k ((l ++ p.more) ++ q.more) (m ++ q.more) n (passes-behind i j (l ++ p.more) m q.more p.passes) q.passes);
     }
-
-pub only-none : (c : Connection) → OnlyWrote c c
-only-none c = refl
 
 pub only-then : (c d e : Connection) → OnlyWrote c d → OnlyWrote d e → OnlyWrote c e
 only-then c d e a b = b ∙ ap (as_popped e.core.log.popped) a

@@ -118,11 +118,11 @@ impl Endpoint {
         ensures { IfSome result (λ reply. reply ≡ plan_reply plan self.now) }
     {
         let Plan {
-            session: _,
             fate,
             change,
             sent,
             given,
+            ..
         } = plan;
         drop(fate);
         let ended = self.stores.tables.ended(&change);

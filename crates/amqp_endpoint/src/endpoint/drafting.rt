@@ -26,10 +26,10 @@ impl Endpoint {
             Err(refusal) => Some(refusal),
             Ok(draft) => {
                 let Draft {
-                    session: _,
                     fate,
                     change,
                     body,
+                    ..
                 } = draft;
                 drop(change);
                 drop(fate);
