@@ -19,7 +19,7 @@ const PART: usize = 65472;
 const RUN: u32 = 65536;
 
 /// How far an end has come.
-#[derive(Clone, Copy, PartialEq, Eq)]
+#[derive(Clone, Copy)]
 enum Stage {
     Opens,
     Begins,
@@ -29,7 +29,7 @@ enum Stage {
 }
 
 /// What an end has done.
-#[derive(Clone, Copy, Debug, PartialEq, Eq)]
+#[derive(Clone, Copy)]
 pub struct Counts {
     pub begun: u32,
     pub learnt: u32,

@@ -24,7 +24,7 @@ pub struct Messages {
 }
 
 /// What came of it.
-#[derive(Clone, Copy, Debug, PartialEq, Eq)]
+#[derive(Clone, Copy)]
 pub struct Totals {
     /// How many messages were taken.
     pub taken: u32,

@@ -29,7 +29,7 @@ const LIMITS: Limits = Limits {
 };
 
 /// Which ends a run has.
-#[derive(Clone, Copy, Debug, PartialEq, Eq)]
+#[derive(Clone, Copy, Debug)]
 pub enum Ends {
     /// It connects, and sends.
     Sender,
@@ -51,7 +51,7 @@ pub struct Sockets {
 }
 
 /// What the ends have done.
-#[derive(Clone, Copy, Debug, PartialEq, Eq)]
+#[derive(Clone, Copy)]
 pub(crate) struct Totals {
     pub(crate) begun: u64,
     pub(crate) learnt: u64,

@@ -9,7 +9,7 @@ use amqp_flow::sender::SenderCredit;
 use amqp_performatives::Role;
 
 /// The credit of our end of a link (part 2, 2.6.7).
-#[derive(Clone, Copy, Debug)]
+#[derive(Clone, Copy)]
 pub enum Credit {
     Sending(SenderCredit),
     Receiving(ReceiverCredit),

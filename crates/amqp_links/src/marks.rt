@@ -5,7 +5,7 @@ use crate::credit::Credit;
 use std::marker::Model;
 
 /// A delivery that we send and that is unfinished: its id, and the length of its payloads so far, in octets.
-#[derive(Clone, Copy, Debug)]
+#[derive(Clone, Copy)]
 pub struct Sending {
     pub id: u32,
     pub size: u128,
@@ -22,7 +22,7 @@ impl Model for Sending {
 }
 
 /// What most steps change of a link.
-#[derive(Clone, Copy, Debug)]
+#[derive(Clone, Copy)]
 pub struct Marks {
     /// Our detach was sent.
     pub left: bool,

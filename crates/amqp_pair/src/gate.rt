@@ -4,7 +4,7 @@ use std::alloc::Global;
 use std::sync::{Arc, Condvar, Mutex, Wait};
 
 /// How far an end has come.
-#[derive(Clone, Copy, Debug, PartialEq, Eq)]
+#[derive(Clone, Copy)]
 pub enum Opening {
     /// It is still being opened.
     Waits,

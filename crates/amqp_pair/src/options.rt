@@ -18,7 +18,7 @@ pub const MAX_SIZE: u32 = 1000000;
 pub(crate) const MAX_FRAME: u32 = 65536;
 
 /// What a run is to do.
-#[derive(Clone, Copy, Debug, PartialEq, Eq)]
+#[derive(Clone, Copy, Debug)]
 pub struct Options {
     /// How many messages, 1 to `MAX_COUNT`.
     pub count: u32,

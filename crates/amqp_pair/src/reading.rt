@@ -24,7 +24,7 @@ pub const LINK: u32 = 0;
 pub const WINDOW: u32 = 2048;
 
 /// How far the session has come that an end opens.
-#[derive(Clone, Copy, PartialEq, Eq)]
+#[derive(Clone, Copy)]
 enum Stage {
     /// The peer's open is awaited.
     Opens,

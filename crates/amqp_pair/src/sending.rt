@@ -30,7 +30,7 @@ const RUN: u32 = 128;
 const RUN_OCTETS: usize = 65536;
 
 /// What was sent and accepted.
-#[derive(Clone, Copy, Debug, PartialEq, Eq)]
+#[derive(Clone, Copy)]
 pub struct Done {
     /// How many messages were begun.
     pub queued: u64,

@@ -202,7 +202,7 @@ impl<N: Name> Outgoing<N> {
 }
 
 /// What the thread beside the reader is asked for.
-#[derive(Clone, Copy, Debug, PartialEq, Eq)]
+#[derive(Clone, Copy)]
 enum Asked {
     Nothing,
     /// To write what was put out.

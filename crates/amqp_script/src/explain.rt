@@ -11,7 +11,7 @@ use std::fmt;
 use std::fmt::{Formatter, Write};
 
 /// What is explained; its text has no newline.
-#[derive(Clone, Copy, Debug, PartialEq, Eq)]
+#[derive(Clone, Copy, Debug)]
 pub enum Explained {
     Refusal(Refusal),
     Violation(ViolationKind),

@@ -24,14 +24,14 @@ const NAMES: [&str; 10] = [
 ];
 
 /// Whether the lines were good, and the octets frames and nothing more.
-#[derive(Clone, Copy, Debug, PartialEq, Eq)]
+#[derive(Clone, Copy)]
 pub struct Framed {
     pub lines: Outcome,
     pub octets: Octets,
 }
 
 /// Whether octets are frames.
-#[derive(Clone, Copy, Debug, PartialEq, Eq)]
+#[derive(Clone, Copy)]
 pub enum Octets {
     Whole,
     /// They end within a frame.

@@ -17,7 +17,7 @@ use thiserror::Error;
 const MAX_FRAME: u32 = 65536;
 
 /// A line of a script.
-#[derive(Debug, Drop)]
+#[derive(Drop)]
 pub enum Line {
     /// The peer takes frames of so many octets: `opened MAX`.
     Opened(u32),
@@ -29,7 +29,7 @@ pub enum Line {
 }
 
 /// What a line asks of an endpoint.
-#[derive(Clone, Copy, Debug, PartialEq, Eq)]
+#[derive(Clone, Copy)]
 pub enum Question {
     /// The windows of the session: `windows`.
     Windows,
@@ -54,7 +54,7 @@ impl Question {
 }
 
 /// Why octets give no line.
-#[derive(Clone, Copy, Debug, PartialEq, Eq, Error)]
+#[derive(Clone, Copy, Debug, Error)]
 pub enum LineFault {
     #[error("bad line")]
     Bad,

@@ -32,7 +32,7 @@ pub enum RunFault {
 }
 
 /// Whether each line of an input was one.
-#[derive(Clone, Copy, Debug, PartialEq, Eq)]
+#[derive(Clone, Copy)]
 pub enum Outcome {
     EachLineGood,
     SomeLineBad,

@@ -11,7 +11,7 @@ use std::alloc::Global;
 
 /// The words of a line that were not taken yet. One space stands between two words, so two spaces have an empty word
 /// between them.
-#[derive(Debug, Drop)]
+#[derive(Drop)]
 pub struct Words<'a> {
     rest: Option<&'a [u8]>,
 }

@@ -18,7 +18,7 @@ use bytes::Bytes;
 use std::alloc::{AllocError, Global};
 
 /// What a session is besides its links and its deliveries.
-#[derive(Clone, Copy, Debug)]
+#[derive(Clone, Copy)]
 pub struct Session {
     pub begin_sent: bool,
     pub begin_heard: bool,

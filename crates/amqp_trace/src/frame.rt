@@ -15,7 +15,7 @@ use std::alloc::{AllocError, Global};
 const SHOWN: usize = 64;
 
 /// Which way octets went.
-#[derive(Clone, Copy, Debug, PartialEq, Eq)]
+#[derive(Clone, Copy, Debug)]
 pub enum Direction {
     Sent,
     Heard,
@@ -104,7 +104,7 @@ fn put_dots(line: &mut Line, payload: &[u8]) -> Result<(), AllocError>
 }
 
 /// A protocol header (part 2, 2.2).
-#[derive(Clone, Copy, Debug, PartialEq, Eq)]
+#[derive(Clone, Copy)]
 pub struct Protocol {
     /// 0 is AMQP, 2 TLS, 3 SASL.
     pub id: u8,

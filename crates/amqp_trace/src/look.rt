@@ -2,7 +2,7 @@
 use crate::frame::Direction;
 
 /// How a line is written.
-#[derive(Clone, Copy, Debug, PartialEq, Eq)]
+#[derive(Clone, Copy, Debug)]
 pub enum Look {
     /// Its text alone.
     Plain,

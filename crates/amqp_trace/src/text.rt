@@ -11,7 +11,7 @@ use std::fmt;
 use std::marker::Model;
 
 /// A line of text: printable characters of ASCII alone, so it has no newline. Contracts see it as these.
-#[derive(Debug, Drop)]
+#[derive(Drop)]
 pub struct Line {
     text: String,
     /// Where an error stands in it.
@@ -21,7 +21,7 @@ pub struct Line {
 }
 
 /// From a character of a line to another one, which is not of it.
-#[derive(Clone, Copy, Debug)]
+#[derive(Clone, Copy)]
 struct Span {
     from: usize,
     to: usize,

@@ -9,7 +9,7 @@ use std::fmt;
 use std::fmt::{Formatter, Write};
 
 /// What one feed told.
-#[derive(Drop, Debug)]
+#[derive(Drop)]
 pub enum Told {
     /// It made a step, which gives this.
     Step(Given),

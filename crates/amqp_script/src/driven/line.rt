@@ -6,7 +6,7 @@ use amqp_endpoint::op::Op;
 use std::alloc::Global;
 
 /// A line that drives a connection.
-#[derive(Debug, Drop)]
+#[derive(Drop)]
 pub enum DrivenLine {
     /// Octets of the peer's: `feed HEX`.
     Feed(Vec<u8>),
