@@ -8,11 +8,13 @@
 //! | `violations` | each violation and each fault, with the condition that goes out |
 //! | `sessions` | whole sessions, cut short and with octets replaced |
 //! | `devices` | a pump whose devices fail at each place, and move one octet at a time |
+//! | `pumps` | how a pump ends |
 //! | `bounds` | what a peer can make a connection keep |
 
 mod bounds;
 mod devices;
 mod frames;
 mod peer;
+mod pumps;
 mod sessions;
 mod violations;

@@ -1,5 +1,5 @@
-//! What no clause says: octets of known connections, that calls succeed where memory is there, and devices that fail. A connection is let go in the
-//! helper that makes it: a test holds answers alone.
+//! What no clause says: octets of known connections, and that calls succeed where memory is there. A connection is let go in the helper that makes it: a
+//! test holds answers alone.
 
 use crate::acts::{Act, op};
 use crate::octets::{BEGIN, CLOSE, HEADER, OPEN};
@@ -7,8 +7,6 @@ use amqp_conn::*;
 use amqp_types::Text;
 use bytes::Bytes;
 use std::alloc::Global;
-use std::io;
-use std::io::{Read, Write};
 
 /// The open behind an octet that was used.
 const BEHIND: &[u8] =
@@ -23,18 +21,6 @@ const OTHER: &[u8] = b"AMQP\x03\x01\x00\x00";
 /// Header and open of a peer.
 const OPENED: &[u8] =
     b"AMQP\x00\x01\x00\x00\x00\x00\x00\x1a\x02\x00\x00\x00\x00\x53\x10\xc0\x0d\x04\xa1\x01a\x40\x70\x00\x01\x00\x00\x60\x00\x00";
-
-/// Header, open and close.
-const WHOLE: &[u8] =
-    b"AMQP\x00\x01\x00\x00\x00\x00\x00\x1a\x02\x00\x00\x00\x00\x53\x10\xc0\x0d\x04\xa1\x01a\x40\x70\x00\x01\x00\x00\x60\x00\x00\x00\x00\x00\x0c\x02\x00\x00\x00\x00\x53\x18\x45";
-
-/// Header, and the open twice.
-const TWICE: &[u8] =
-    b"AMQP\x00\x01\x00\x00\x00\x00\x00\x1a\x02\x00\x00\x00\x00\x53\x10\xc0\x0d\x04\xa1\x01a\x40\x70\x00\x01\x00\x00\x60\x00\x00\x00\x00\x00\x1a\x02\x00\x00\x00\x00\x53\x10\xc0\x0d\x04\xa1\x01a\x40\x70\x00\x01\x00\x00\x60\x00\x00";
-
-/// Header, open, and a close on channel 1.
-const ELSEWHERE: &[u8] =
-    b"AMQP\x00\x01\x00\x00\x00\x00\x00\x1a\x02\x00\x00\x00\x00\x53\x10\xc0\x0d\x04\xa1\x01a\x40\x70\x00\x01\x00\x00\x60\x00\x00\x00\x00\x00\x0c\x02\x00\x00\x01\x00\x53\x18\x45";
 
 /// What is done with a connection.
 #[derive(Clone, Copy)]
@@ -314,190 +300,4 @@ fn wrong_octets(rt: HostRuntime) {
         session[place] = right;
         assert!(rt; so && is_awaited(rt.alloc(), &session[..place]));
     }
-}
-
-/// Octets of the peer's, in pieces of nine.
-#[derive(Drop)]
-struct Fails<'a> {
-    octets: &'a [u8],
-    calls: u32,
-    /// The first call that fails, and the last.
-    failing: (u32, u32),
-}
-
-impl Read for Fails<'_> {
-    fn read(&mut self, buf: &mut [u8]) -> io::Result<usize> {
-        self.calls = self.calls.saturating_add(1);
-        let (first, last) = self.failing;
-        if first <= self.calls && self.calls <= last {
-            return Err(io::Error::other("the line is cut"));
-        }
-        let (mut piece, rest) = self.octets.split_at(self.octets.len().min(9));
-        self.octets = rest;
-        piece.read(buf)
-    }
-}
-
-/// Takes octets; after so many calls each one fails.
-#[derive(Drop)]
-struct Full {
-    calls: u32,
-}
-
-impl Write for Full {
-    fn write(&mut self, buf: &[u8]) -> io::Result<usize> {
-        if self.calls == 0 {
-            return Err(io::Error::other("the line is cut"));
-        }
-        self.calls -= 1;
-        Ok(buf.len())
-    }
-
-    fn flush(&mut self) -> io::Result<()> {
-        Ok(())
-    }
-}
-
-type PumpAnswer = Result<PumpEnd, PumpFault>;
-
-/// What a peer says, how many turns a pump has, after how many reads and writes each one fails, and how the pump ends.
-const PUMPS: &[(&[u8], u32, u32, u32, PumpAnswer)] = &[
-    (HEADER, 1, 9, 9, Ok(PumpEnd::TurnsOver)),
-    (HEADER, 9, 9, 9, Ok(PumpEnd::EndOfInput)),
-    // Six reads of nine octets at most; that the connection is closed is told in the next turn.
-    (WHOLE, 0, 9, 9, Ok(PumpEnd::TurnsOver)),
-    (WHOLE, 1, 9, 9, Ok(PumpEnd::TurnsOver)),
-    (WHOLE, 2, 9, 9, Ok(PumpEnd::TurnsOver)),
-    (WHOLE, 3, 9, 9, Ok(PumpEnd::TurnsOver)),
-    (WHOLE, 4, 9, 9, Ok(PumpEnd::TurnsOver)),
-    (WHOLE, 5, 9, 9, Ok(PumpEnd::TurnsOver)),
-    (WHOLE, 6, 9, 9, Ok(PumpEnd::TurnsOver)),
-    (WHOLE, 7, 9, 9, Ok(PumpEnd::Closed)),
-    (WHOLE, 99, 0, 9, Err(PumpFault::Read)),
-    (WHOLE, 99, 1, 9, Err(PumpFault::Read)),
-    (WHOLE, 99, 2, 9, Err(PumpFault::Read)),
-    (WHOLE, 99, 3, 9, Err(PumpFault::Read)),
-    (WHOLE, 99, 4, 9, Err(PumpFault::Read)),
-    (WHOLE, 99, 5, 9, Err(PumpFault::Read)),
-    // Three units: our header, open and close.
-    (WHOLE, 99, 99, 0, Err(PumpFault::Write)),
-    (WHOLE, 99, 99, 1, Err(PumpFault::Write)),
-    (WHOLE, 99, 99, 2, Err(PumpFault::Write)),
-    // The fault is told behind the last close, and that the close cannot be written before it.
-    (
-        TWICE,
-        99,
-        99,
-        3,
-        Err(PumpFault::Conn(ConnFault::OutOfPlace)),
-    ),
-    (TWICE, 99, 99, 2, Err(PumpFault::Write)),
-    (
-        ELSEWHERE,
-        99,
-        99,
-        3,
-        Err(PumpFault::Conn(ConnFault::BadChannel)),
-    ),
-    (ELSEWHERE, 99, 99, 2, Err(PumpFault::Write)),
-    // Behind another header no close goes out.
-    (OTHER, 99, 99, 1, Err(PumpFault::Conn(ConnFault::BadHeader))),
-];
-
-/// How a pump ends over such devices.
-fn pumped(alloc: Global, octets: &[u8], turns: u32, reads: u32, writes: u32) -> Option<PumpAnswer> {
-    let Ok(mut conn) = connection(alloc) else {
-        return None;
-    };
-    let end = pump(octets, turns, reads, writes, &mut conn);
-    drop(conn);
-    Some(end)
-}
-
-fn pump(octets: &[u8], turns: u32, reads: u32, writes: u32, conn: &mut Conn) -> PumpAnswer {
-    let mut source = FromStd::new(Fails {
-        octets,
-        calls: 0,
-        failing: (reads.saturating_add(1), u32::MAX),
-    });
-    let mut sink = FromStd::new(Full { calls: writes });
-    Pump::new().run(&mut source, &mut sink, conn, turns)
-}
-
-#[test]
-fn pumps_end(rt: HostRuntime) {
-    for (octets, turns, reads, writes, end) in PUMPS {
-        assert!(rt; pumped(rt.alloc(), octets, *turns, *reads, *writes) == Some(*end));
-    }
-}
-
-/// Whether a pump tells a read that fails, keeps its error, and goes on to the end where it is called again.
-fn goes_on(alloc: Global, failing: u32) -> bool {
-    let Ok(mut conn) = connection(alloc) else {
-        return false;
-    };
-    let so = is_called_again(failing, &mut conn);
-    drop(conn);
-    so
-}
-
-fn is_called_again(failing: u32, conn: &mut Conn) -> bool {
-    let mut source = FromStd::new(Fails {
-        octets: WHOLE,
-        calls: 0,
-        failing: (failing, failing),
-    });
-    let mut sink = FromStd::new(Full { calls: 9 });
-    let mut pump = Pump::new();
-    let first = pump.run(&mut source, &mut sink, conn, 99);
-    let kept = match source.take_error() {
-        Some(error) => error.kind() == io::ErrorKind::Other,
-        None => false,
-    };
-    let then = pump.run(&mut source, &mut sink, conn, 99);
-    kept && first == Err(PumpFault::Read) && then == Ok(PumpEnd::Closed)
-}
-
-#[test]
-fn a_pump_goes_on_behind_a_read_that_failed(rt: HostRuntime) {
-    for failing in 1..7 {
-        assert!(rt; goes_on(rt.alloc(), failing));
-    }
-}
-
-/// Takes five octets at most, and is interrupted before each time; after so many octets it takes none.
-#[derive(Drop)]
-struct Slow {
-    interrupted: bool,
-    room: usize,
-}
-
-impl Write for Slow {
-    fn write(&mut self, buf: &[u8]) -> io::Result<usize> {
-        self.interrupted = !self.interrupted;
-        if self.interrupted {
-            return Err(io::Error::from(io::ErrorKind::Interrupted));
-        }
-        let taken = buf.len().min(5).min(self.room);
-        self.room -= taken;
-        Ok(taken)
-    }
-
-    fn flush(&mut self) -> io::Result<()> {
-        Ok(())
-    }
-}
-
-/// Whether a device with so much room takes sixteen octets.
-fn takes(room: usize) -> bool {
-    let mut sink = FromStd::new(Slow {
-        interrupted: false,
-        room,
-    });
-    Sink::write_all(&mut sink, &[7; 16]).is_ok()
-}
-
-#[test]
-fn a_sink_writes_on_behind_short_writes(rt: HostRuntime) {
-    assert!(rt; takes(16) && !takes(15));
 }

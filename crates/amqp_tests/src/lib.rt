@@ -1,5 +1,5 @@
 //! Tests of an endpoint, its journal, a connection, and two ends that speak with each other, in one crate above them, as those of the libraries below stand
-//! in `amqp_codec_tests`. They show what no clause says: octets of known connections, faults of devices, and that each call succeeds where memory is there.
+//! in `amqp_codec_tests`. They show what no clause says: octets of known connections, and that each call succeeds where memory is there.
 //!
 //! | module | of |
 //! |---|---|
