@@ -53,7 +53,12 @@ fn talk<N: Name + Send + Sync, R: AllocGlobal + Threads + Wait + Sync>(
     requires { IsNamed seed N.name N.parts N.ring }
 {
     let (shared, mut pass, mut units) = open_shared::<N>(seed);
-    match speak(rt, lines, &shared, &mut pass, &mut units, peer) {
+    let mut ours = Ours {
+        shared: &shared,
+        pass: &mut pass,
+        units: &mut units,
+    };
+    match speak(rt, lines, &mut ours, peer) {
         Ok((first, second)) => close(lines, shared, units, pass, first, second),
         Err(error) => {
             drop(units);
@@ -64,20 +69,26 @@ fn talk<N: Name + Send + Sync, R: AllocGlobal + Threads + Wait + Sync>(
     }
 }
 
+/// The shared end, as the thread has it that speaks with the peer.
+#[derive(Drop)]
+struct Ours<'a, N: Name> {
+    shared: &'a Shared<N>,
+    pass: &'a mut Pass<N>,
+    units: &'a mut WriterEnd<N>,
+}
+
 /// Two threads send, each with a pass of its own, which it gives back.
 fn speak<N: Name + Send + Sync, R: AllocGlobal + Threads + Wait + Sync>(
     rt: &R,
     lines: &mut Vec<u8>,
-    shared: &Shared<N>,
-    pass: &mut Pass<N>,
-    units: &mut WriterEnd<N>,
+    ours: &mut Ours<'_, N>,
     peer: &mut End,
 ) -> anyhow::Result<(Pass<N>, Pass<N>)> {
-    begin(rt, lines, shared, pass, units, peer)?;
-    attach_both(rt, lines, shared, pass, units, peer)?;
-    let (first, second) = split(pass)?;
-    let (first, second) = send_by_two(rt, shared, first, second);
-    match exchange(rt, lines, shared, pass, units, peer) {
+    begin(rt, lines, ours, peer)?;
+    attach_both(rt, lines, ours, peer)?;
+    let (first, second) = split(ours.pass)?;
+    let (first, second) = send_by_two(rt, ours.shared, first, second);
+    match exchange(rt, lines, ours, peer) {
         Ok(()) => Ok((first, second)),
         Err(error) => {
             drop(first);
@@ -99,31 +110,28 @@ fn split<N: Name>(pass: &mut Pass<N>) -> anyhow::Result<(Pass<N>, Pass<N>)> {
 fn begin<N: Name, R: AllocGlobal + Wait>(
     rt: &R,
     lines: &mut Vec<u8>,
-    shared: &Shared<N>,
-    pass: &mut Pass<N>,
-    units: &mut WriterEnd<N>,
+    ours: &mut Ours<'_, N>,
     peer: &mut End,
 ) -> anyhow::Result<()> {
-    exchange(rt, lines, shared, pass, units, peer)?;
-    apply(rt, shared, pass, ops::begin())?;
-    exchange(rt, lines, shared, pass, units, peer)?;
+    exchange(rt, lines, ours, peer)?;
+    apply(rt, ours.shared, ours.pass, ops::begin())?;
+    exchange(rt, lines, ours, peer)?;
     peer.apply(lines, ops::begin())?;
-    exchange(rt, lines, shared, pass, units, peer)
+    exchange(rt, lines, ours, peer)
 }
 
 /// A link on which the peer gives credit for ten deliveries.
 fn attach_both<N: Name, R: AllocGlobal + Wait>(
     rt: &R,
     lines: &mut Vec<u8>,
-    shared: &Shared<N>,
-    pass: &mut Pass<N>,
-    units: &mut WriterEnd<N>,
+    ours: &mut Ours<'_, N>,
     peer: &mut End,
 ) -> anyhow::Result<()> {
-    apply(rt, shared, pass, attach(rt.alloc(), "there", Role::Sender)?)?;
-    exchange(rt, lines, shared, pass, units, peer)?;
+    let op = attach(rt.alloc(), "there", Role::Sender)?;
+    apply(rt, ours.shared, ours.pass, op)?;
+    exchange(rt, lines, ours, peer)?;
     attach_peer(lines, peer)?;
-    exchange(rt, lines, shared, pass, units, peer)
+    exchange(rt, lines, ours, peer)
 }
 
 /// The peer takes the link that was offered to it.
@@ -196,15 +204,13 @@ fn apply<N: Name, R: Wait>(
 fn exchange<N: Name, R: AllocGlobal + Wait>(
     rt: &R,
     lines: &mut Vec<u8>,
-    shared: &Shared<N>,
-    pass: &mut Pass<N>,
-    units: &mut WriterEnd<N>,
+    ours: &mut Ours<'_, N>,
     peer: &mut End,
 ) -> anyhow::Result<()> {
     for _ in 0..TURNS {
-        shared.move_units(&mut shared.lock(rt));
-        let answer = write_to_peer(lines, units, peer)?;
-        hear(rt, shared, pass, answer)?;
+        ours.shared.move_units(&mut ours.shared.lock(rt));
+        let answer = write_to_peer(lines, ours.units, peer)?;
+        hear(rt, ours.shared, ours.pass, answer)?;
     }
     Ok(())
 }
