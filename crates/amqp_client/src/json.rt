@@ -220,16 +220,25 @@ fn write_leaf<W: Write>(alloc: Global, value: &Value, out: &mut W) -> io::Result
         Value::Null => out.write_all(b"null"),
         Value::Bool(true) => out.write_all(b"true"),
         Value::Bool(false) => out.write_all(b"false"),
-        Value::Ubyte(n) => write!(out, "{n}"),
-        Value::Ushort(n) => write!(out, "{n}"),
-        Value::Uint(n) => write!(out, "{n}"),
-        Value::Ulong(n) => write!(out, "{n}"),
-        Value::Sbyte(n) => write!(out, "{n}"),
-        Value::Short(n) => write!(out, "{n}"),
-        Value::Int(n) => write!(out, "{n}"),
-        Value::Long(n) => write!(out, "{n}"),
-        Value::Timestamp(n) => write!(out, "{n}"),
-        _ => write_as_text(alloc, value, out),
+        _ => match number_of(value) {
+            Some(number) => write!(out, "{number}"),
+            None => write_as_text(alloc, value, out),
+        },
+    }
+}
+
+/// The number that it is, of those that are written as one.
+fn number_of(value: &Value) -> Option<i128> {
+    match value {
+        Value::Ubyte(n) => Some(i128::from(*n)),
+        Value::Ushort(n) => Some(i128::from(*n)),
+        Value::Uint(n) => Some(i128::from(*n)),
+        Value::Ulong(n) => Some(i128::from(*n)),
+        Value::Sbyte(n) => Some(i128::from(*n)),
+        Value::Short(n) => Some(i128::from(*n)),
+        Value::Int(n) => Some(i128::from(*n)),
+        Value::Long(n) | Value::Timestamp(n) => Some(i128::from(*n)),
+        _ => None,
     }
 }
 
