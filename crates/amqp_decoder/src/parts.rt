@@ -14,6 +14,7 @@ use crate::opening::open;
 use amqp_performatives::{AmqpError, Composite};
 use amqp_types::{Boxed, Items, Text, Value, read_null};
 use std::alloc::{AllocError, Global};
+use std::mem;
 
 impl<'a> Cursor<'a> {
     /// Whether no field is left, but for null ones, and no octet.
@@ -179,11 +180,11 @@ pub(crate) fn owned_error(
 }
 
 /// The pairs that a value is, where it is a map.
-fn pairs_of(read: Value) -> Option<Items<(Value, Value)>>
+fn pairs_of(alloc: Global, mut read: Value) -> Option<Items<(Value, Value)>>
     ensures { MatchOption result (is_mapping (view read) ≡ false) (λ pairs. mapping pairs ≡ fixed (view read)) }
 {
-    match read {
-        Value::Map(pairs) => Some(pairs),
+    match &mut read {
+        Value::Map(pairs) => Some(mem::replace(pairs, Items::new(alloc))),
         _ => None,
     }
 }
@@ -198,7 +199,7 @@ pub(crate) fn owned_map(
     match map {
         Some(borrowed) => {
             let read = borrowed.owned(alloc)?;
-            match pairs_of(read) {
+            match pairs_of(alloc, read) {
                 Some(pairs) => Ok(Some(pairs)),
                 // No other value is borrowed as a map.
                 None => Err(AllocError),

@@ -9,9 +9,8 @@ ghost use Rattle.amqp_halves.specs.Halves.{whole};
 ghost use Rattle.amqp_halves.specs.Leaves.{IsLeaf, IsLeafOf, IsItems, is_null_kind, is_ulong, is_symbol};
 
 use crate::halves::{Halves, compound, field, first, split};
-use crate::scan::read_number;
 use amqp_performatives::Composite;
-use amqp_types::{Class, Kind, Run, class_of};
+use amqp_types::{Class, Kind, Run, class_of, read_number};
 
 #[derive(Clone, Copy)]
 pub(crate) enum Leaf<'a> {

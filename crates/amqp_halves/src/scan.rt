@@ -1,73 +1,13 @@
 //! Passing over a value that lies in two places.
-ghost use Rattle.std.specs.Prelude.{◌≡◌, ◌^◌, [], Some, None, nat_lt, if◌then◌else◌, option_map, is_some, length, ◌==◌, false};
-ghost use Rattle.std.specs.Str.{is_utf8};
-ghost use Rattle.amqp_types.specs.Grammar.{read_number, fits, is_scalar, is_run, is_ascii, is_element, is_even};
+ghost use Rattle.std.specs.Prelude.{◌≡◌, option_map, is_some};
+ghost use Rattle.amqp_types.specs.Grammar.{is_run};
 ghost use Rattle.amqp_types.specs.Reading.{number_at, run_at, octets_at, compound_at, all_parts_at, list_at, map_at, array_content_at, array_at, described_at, part_at, body_at, after};
 ghost use Rattle.amqp_halves.specs.Halves.{whole};
 
 use crate::halves::{Halves, compound, field, first, is_ascii, is_empty, is_utf8, len_is, split};
-use amqp_types::{Class, Conversion, Kind, Run, Width, class_of};
-
-pub(crate) fn read_number(reading: Conversion, n: u64) -> Option<u64>
-    ensures { result ≡ (if nat_lt (read_number reading n) (2 ^ 64) then Some (read_number reading n) else None) }
-{
-    match reading {
-        Conversion::Plain => Some(n),
-        Conversion::One => n.checked_add(1),
-        Conversion::Widened32 => if n < 128 {
-            Some(n)
-        } else {
-            n.checked_add(0xffff_ff00)
-        },
-        Conversion::Widened64 => if n < 128 {
-            Some(n)
-        } else {
-            n.checked_add(0xffff_ffff_ffff_ff00)
-        },
-    }
-}
-
-/// Whether the type has the number.
-pub(crate) fn fits(kind: Kind, n: u64) -> bool
-    ensures { result ≡ fits kind n }
-{
-    match kind {
-        Kind::Null => n == 0,
-        Kind::Bool => n < 2,
-        Kind::Ubyte | Kind::Sbyte => n < 0x100,
-        Kind::Ushort | Kind::Short => n < 0x1_0000,
-        Kind::Uint | Kind::Int | Kind::FloatBits | Kind::Dec32 => n < 0x1_0000_0000,
-        Kind::Ulong | Kind::Long | Kind::DoubleBits | Kind::Dec64 | Kind::Timestamp => true,
-        Kind::Char => n < 0x1_0000_0000 && is_scalar(n as u32),
-    }
-}
-
-fn is_scalar(n: u32) -> bool
-    ensures { result ≡ is_scalar n }
-{
-    match char::from_u32(n) {
-        Some(_) => true,
-        None => false,
-    }
-}
-
-/// Whether the code may stand in front of this many bodies.
-fn is_element(class: Class, count: u64) -> bool
-    ensures { result ≡ is_element class count }
-{
-    match class {
-        Class::Unknown | Class::Described => false,
-        Class::EmptyList | Class::Number(_, Width::Zero, _) => count <= 255,
-        _ => true,
-    }
-}
-
-#[tactic(auto, using(amqp_types::proofs::Even::even_is))]
-fn is_even(n: u64) -> bool
-    ensures { result ≡ is_even n }
-{
-    n % 2 == 0
-}
+use amqp_types::{
+    Class, Conversion, Kind, Run, Width, class_of, fits, is_element, is_even, read_number,
+};
 
 /// Whether a run may have these octets.
 fn is_run(run: Run, octets: Halves<'_>) -> bool

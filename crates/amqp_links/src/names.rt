@@ -49,7 +49,7 @@ impl Names {
         let mut numbers = Vec::new(self.alloc);
         numbers.push(number)?;
         let name = name.clone()?;
-        self.numbers.insert(name.text, numbers)?;
+        self.numbers.insert(name.into_string(), numbers)?;
         Ok(())
     }
 

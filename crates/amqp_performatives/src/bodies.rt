@@ -1,4 +1,5 @@
 //! The bodies of the nine performatives (part 2, 2.7): their fields in order, an option where a field is not mandatory; no default is filled in.
+//! They are dropped by hand, so that a crate that owns one does not prove its parts' drops again.
 ghost use Rattle.std.specs.Prelude.{◌≡◌};
 ghost use Rattle.amqp_performatives.specs.Bare.{bare_open, bare_begin, bare_attach, bare_flow, bare_transfer, bare_disposition, bare_detach, bare_end, bare_close};
 
@@ -95,7 +96,6 @@ pub struct BeginBody {
     pub properties: Option<Boxed<Value>>,
 }
 
-// By hand, so that a crate that owns one does not prove its parts' drops again.
 impl Drop for BeginBody {
     fn drop(self) {
         let BeginBody {
@@ -177,7 +177,6 @@ pub struct AttachBody {
     pub properties: Option<Boxed<Value>>,
 }
 
-// By hand, so that a crate that owns one does not prove its parts' drops again.
 impl Drop for AttachBody {
     fn drop(self) {
         let AttachBody {
@@ -282,7 +281,6 @@ pub struct FlowBody {
     pub properties: Option<Boxed<Value>>,
 }
 
-// By hand, so that a crate that owns one does not prove its parts' drops again.
 impl Drop for FlowBody {
     // It would be copied whole for a call.
     #[inline(always)]
@@ -367,7 +365,6 @@ pub struct TransferBody {
     pub batchable: Option<bool>,
 }
 
-// By hand, so that a crate that owns one does not prove its parts' drops again.
 impl Drop for TransferBody {
     // It would be copied whole for a call.
     #[inline(always)]
@@ -444,7 +441,6 @@ pub struct DispositionBody {
     pub batchable: Option<bool>,
 }
 
-// By hand, so that a crate that owns one does not prove its parts' drops again.
 impl Drop for DispositionBody {
     // It would be copied whole for a call.
     #[inline(always)]
@@ -502,7 +498,6 @@ pub struct DetachBody {
     pub error: Option<Boxed<AmqpError>>,
 }
 
-// By hand, so that a crate that owns one does not prove its parts' drops again.
 impl Drop for DetachBody {
     fn drop(self) {
         let DetachBody {
@@ -546,7 +541,6 @@ pub struct EndBody {
     pub error: Option<Boxed<AmqpError>>,
 }
 
-// By hand, so that a crate that owns one does not prove its parts' drops again.
 impl Drop for EndBody {
     fn drop(self) {
         let EndBody { error } = self;
@@ -578,7 +572,6 @@ pub struct CloseBody {
     pub error: Option<Boxed<AmqpError>>,
 }
 
-// By hand, so that a crate that owns one does not prove its parts' drops again.
 impl Drop for CloseBody {
     fn drop(self) {
         let CloseBody { error } = self;

@@ -5,9 +5,17 @@ use std::alloc::{AllocError, Global};
 use std::marker::Model;
 
 /// A `Box` that contracts see as the value in it, so that equal values are equal in contracts wherever they lie.
-#[derive(Debug, Drop)]
+#[derive(Debug)]
 pub struct Boxed<T> {
     pub boxed: Box<T>,
+}
+
+// By hand, so that a crate that owns one does not prove its parts' drops again.
+impl<T: Drop> Drop for Boxed<T> {
+    fn drop(self) {
+        let Boxed { boxed } = self;
+        drop(boxed);
+    }
 }
 
 impl<T> Model for Boxed<T> {

@@ -8,9 +8,17 @@ use std::marker::Model;
 use std::slice::Iter;
 
 /// A `Vec` that contracts see as the list of its elements, so that equal lists are equal in contracts whatever room they keep.
-#[derive(Clone, Debug, Drop)]
+#[derive(Clone, Debug)]
 pub struct Items<T> {
     pub items: Vec<T>,
+}
+
+// By hand, so that a crate that owns one does not prove its parts' drops again.
+impl<T: Drop> Drop for Items<T> {
+    fn drop(self) {
+        let Items { items } = self;
+        drop(items);
+    }
 }
 
 impl<T> Model for Items<T> {

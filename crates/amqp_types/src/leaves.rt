@@ -75,7 +75,8 @@ pub(crate) fn field(octets: &[u8], width: Width) -> Option<(u64, &[u8])>
     }
 }
 
-pub(crate) fn read_number(reading: Conversion, n: u64) -> Option<u64>
+/// The number that a field of this many stands for, where it has no more than 64 bits.
+pub fn read_number(reading: Conversion, n: u64) -> Option<u64>
     ensures { result ≡ (if nat_lt (read_number reading n) (2 ^ 64) then Some (read_number reading n) else None) }
 {
     match reading {
@@ -303,7 +304,7 @@ pub(crate) fn sized_run(
 }
 
 /// Whether the type has the number.
-pub(crate) fn fits(kind: Kind, n: u64) -> bool
+pub fn fits(kind: Kind, n: u64) -> bool
     ensures { result ≡ fits kind n }
 {
     match kind {

@@ -35,7 +35,7 @@
 //! - [`read_value`], [`read_within`], [`skip_value`], [`skip_within`]; [`write_value`], [`value_size`]: whole values, in front of octets and behind them
 //! - [`read_uint`], [`write_uint`] and their like, [`read_list_head`], [`read_descriptor`], [`uint_size`], [`ulong_size`]: fields of one type
 //! - [`one_spelling`], [`canon_spells`], [`read_back`], [`canon_is_shortest`]: the laws of spellings
-//! - [`size_within`], [`map_size_within`], [`append_value`], [`append_map`], [`is_symbol`], [`class_of`]: what writers and readers of larger things stand on
+//! - [`size_within`], [`map_size_within`], [`append_value`], [`append_map`], [`is_symbol`], [`class_of`], [`read_number`], [`fits`], [`is_element`], [`is_even`]: what writers and readers of larger things stand on
 //! - [`equal_is_same`]: `==` of values, texts and tags is `≡` in contracts
 #![tactic(auto)]
 
@@ -72,6 +72,8 @@ pub use fields::{
 };
 pub use heads::{Descriptor, ListHead, read_descriptor, read_list_head};
 pub use items::Items;
+pub use leaves::{fits, read_number};
+pub use parts::{is_element, is_even};
 pub use read::{one_spelling, read_value, read_within};
 pub use skip::{skip_value, skip_within};
 pub use tag::Tag;

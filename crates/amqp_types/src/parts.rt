@@ -26,7 +26,7 @@ pub(crate) fn compound(bytes: &[u8], width: Width) -> Option<(u64, &[u8], &[u8])
 }
 
 /// Whether the code may stand in front of this many bodies.
-pub(crate) fn is_element(class: Class, count: u64) -> bool
+pub fn is_element(class: Class, count: u64) -> bool
     ensures { result ≡ is_element class count }
 {
     match class {
@@ -36,8 +36,9 @@ pub(crate) fn is_element(class: Class, count: u64) -> bool
     }
 }
 
+/// Whether so many parts are keys and values.
 #[tactic(auto, using(crate::proofs::Even::even_is))]
-pub(crate) fn is_even(n: u64) -> bool
+pub fn is_even(n: u64) -> bool
     ensures { result ≡ is_even n }
 {
     n % 2 == 0

@@ -5,9 +5,17 @@ use std::alloc::{AllocError, Global};
 use std::marker::Model;
 
 /// A `String` that contracts see as its octets, in UTF-8.
-#[derive(Clone, Debug, Drop)]
+#[derive(Clone, Debug)]
 pub struct Text {
     pub text: String,
+}
+
+// By hand, so that a crate that owns one does not prove its parts' drops again.
+impl Drop for Text {
+    fn drop(self) {
+        let Text { text } = self;
+        drop(text);
+    }
 }
 
 impl Model for Text {
@@ -39,6 +47,14 @@ impl Text {
         ensures { result.now ≡ self.now }
     {
         self.text.as_bytes()
+    }
+
+    /// The text as a `String`.
+    pub fn into_string(self) -> String
+        ensures { string_bytes result ≡ self }
+    {
+        let Text { text } = self;
+        text
     }
 }
 
