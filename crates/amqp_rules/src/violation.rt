@@ -3,40 +3,26 @@ ghost use Rattle.std.specs.Prelude.{◌≡◌};
 ghost use Rattle.amqp_rules.specs.ViolationNumbers.{violation_number};
 ghost use Rattle.amqp_rules.specs.Refusing.{unlinked};
 
-use thiserror::Error;
+use std::error::Error;
+use std::fmt;
 
 /// What a frame of the peer's violates. Where several hold, the one with the lowest number is told.
-#[derive(Clone, Copy, Debug, PartialEq, Eq, Error)]
+#[derive(Clone, Copy, Debug, PartialEq, Eq)]
 pub enum ViolationKind {
-    #[error("the journal has as many steps as it may")]
     JournalFull,
-    #[error("the session does not await this frame")]
     OutOfSession,
-    #[error("no link has this handle")]
     BadHandle,
-    #[error("a link has this handle")]
     HandleTaken,
-    #[error("the peer has attached this link")]
     NameTaken,
-    #[error("a count is ahead of what was sent")]
     CountAhead,
-    #[error("the window is used up")]
     Window,
-    #[error("a field is missing")]
     MissingField,
-    #[error("the delivery id is out of order")]
     IdOrder,
-    #[error("the tag is in use on the link")]
     TagHeld,
-    #[error("the link's settle mode does not allow it")]
     Mode,
-    #[error("the link has no credit")]
     Credit,
-    #[error("the message is too long")]
     TooLong,
-    #[error("the range of ids runs backwards")]
     BadRange,
-    #[error("out of memory")]
     NoMemory,
 }
 
@@ -45,28 +31,43 @@ impl ViolationKind {
     pub fn number(&self) -> u8
         ensures { result ≡ violation_number self.now }
     {
+        self.told().0
+    }
+
+    /// Its number, and what it says.
+    fn told(&self) -> (u8, &'static str)
+        ensures { result.0 ≡ violation_number self.now }
+    {
         match self {
-            ViolationKind::JournalFull => 1,
-            ViolationKind::OutOfSession => 2,
-            ViolationKind::BadHandle => 3,
-            ViolationKind::HandleTaken => 4,
-            ViolationKind::NameTaken => 5,
-            ViolationKind::CountAhead => 6,
-            ViolationKind::Window => 7,
-            ViolationKind::MissingField => 8,
-            ViolationKind::IdOrder => 9,
-            ViolationKind::TagHeld => 10,
-            ViolationKind::Mode => 11,
-            ViolationKind::Credit => 12,
-            ViolationKind::TooLong => 13,
-            ViolationKind::BadRange => 14,
-            ViolationKind::NoMemory => 15,
+            ViolationKind::JournalFull => (1, "the journal has as many steps as it may"),
+            ViolationKind::OutOfSession => (2, "the session does not await this frame"),
+            ViolationKind::BadHandle => (3, "no link has this handle"),
+            ViolationKind::HandleTaken => (4, "a link has this handle"),
+            ViolationKind::NameTaken => (5, "the peer has attached this link"),
+            ViolationKind::CountAhead => (6, "a count is ahead of what was sent"),
+            ViolationKind::Window => (7, "the window is used up"),
+            ViolationKind::MissingField => (8, "a field is missing"),
+            ViolationKind::IdOrder => (9, "the delivery id is out of order"),
+            ViolationKind::TagHeld => (10, "the tag is in use on the link"),
+            ViolationKind::Mode => (11, "the link's settle mode does not allow it"),
+            ViolationKind::Credit => (12, "the link has no credit"),
+            ViolationKind::TooLong => (13, "the message is too long"),
+            ViolationKind::BadRange => (14, "the range of ids runs backwards"),
+            ViolationKind::NoMemory => (15, "out of memory"),
         }
     }
 }
 
+impl fmt::Display for ViolationKind {
+    fn fmt<W: fmt::Write>(&self, f: &mut fmt::Formatter<W>) -> fmt::Result {
+        f.write_str(self.told().1)
+    }
+}
+
+impl Error for ViolationKind {}
+
 /// A frame that is not taken; it has changed nothing. `link` is the number of the link that broke its credit or its message size.
-#[derive(Clone, Copy, Debug, PartialEq, Eq, Error)]
+#[derive(Clone, Copy, Debug, PartialEq, Eq, thiserror::Error)]
 #[error("{kind}")]
 pub struct Violation {
     pub kind: ViolationKind,
