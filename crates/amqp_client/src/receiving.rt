@@ -3,14 +3,7 @@ use crate::end::{End, LINK};
 use crate::fault::ClientFault;
 use crate::sending::dispose;
 use crate::session::{Session, apply, perform};
-use amqp_conn::{Boxed, DeliveryState, Given, Left, Op, Refusal, Role, Tag, Taken, ops};
-
-fn taken_of(given: Given) -> Option<Boxed<Taken>> {
-    match given {
-        Given::Taken(taken) => Some(taken),
-        _ => None,
-    }
-}
+use amqp_conn::{Boxed, DeliveryState, Left, Op, Refusal, Role, Tag, Taken, ops};
 
 fn left_of(left: Left) -> Option<Boxed<Taken>> {
     match left {
@@ -26,7 +19,7 @@ impl End {
         let answer = self.conn.apply(&op);
         drop(op);
         match answer {
-            Ok(given) => Ok(taken_of(given)),
+            Ok(given) => Ok(given.into_taken()),
             Err(refusal) => Err(refusal),
         }
     }
@@ -137,7 +130,7 @@ fn take_once<S: Session>(session: &mut S) -> Result<Option<Boxed<Taken>>, Client
     let answer = apply(session, &op);
     drop(op);
     match answer {
-        Ok(given) => Ok(taken_of(given)),
+        Ok(given) => Ok(given.into_taken()),
         Err(fault) => match session.end_mut().take_last() {
             Ok(None) => Err(fault),
             left => left,

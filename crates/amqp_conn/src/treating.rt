@@ -372,7 +372,7 @@ impl Machine {
     }
 
     /// A frame of the session.
-    #[inline(always)]
+    #[inline(never)]
     fn hear_on(&mut self, used: usize, slot: &mut Frame) -> Result<Fed, ConnFault>
         requires { self.old.phase ≡ Phase.Running }
         ensures { TreatsAs (on_channel slot.old.channel (hearing self.old slot.old (heard_due self.old.log slot.old))) self.old slot.old used result self.new }

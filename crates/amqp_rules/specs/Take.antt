@@ -1,8 +1,9 @@
 -- Take: the first delivery that waits on a link on which we receive is given. Nothing is sent.
-use Rattle.std.specs.Prelude.{ℕ, ◌+◌, not, Result, Ok, Err, List, [], ◌∷◌, find, drop}
+use Rattle.std.specs.Prelude.{ℕ, ◌+◌, not, Option, Some, None, Result, Ok, Err, List, [], ◌∷◌, find, drop}
 use Rattle.amqp_performatives.specs.declared.bodies.Role.TheVariants.{Receiver}
 use Rattle.amqp_rules.specs.declared.reply.Reply.{Reply}
 use Rattle.amqp_rules.specs.declared.reply.Taken.{Taken}
+use Rattle.amqp_rules.specs.declared.reply.Given.{Given}
 use Rattle.amqp_rules.specs.declared.reply.Given.TheVariants as given
 use Rattle.amqp_rules.specs.declared.refusal.Refusal.{Refusal}
 use Rattle.amqp_rules.specs.declared.refusal.Refusal.TheVariants.{NoLink, WrongRole, Nothing}
@@ -32,3 +33,8 @@ taken_from l = record l { ready = drop 1 l.ready }
 
 abbrev pub next_take : View → ℕ → View
 next_take v link = record v { steps = v.steps + 1; links = change_first (has_number link) taken_from v.links }
+
+-- the delivery that is given, where one is
+abbrev pub taken_in : Given → Option Taken
+taken_in (given.Taken t) = Some t
+taken_in _ = None

@@ -1,5 +1,6 @@
 //! What a step gives: frames with their octets, deliveries that it ended, and what it tells.
 ghost use Rattle.std.specs.Prelude.{◌≡◌, IfOk};
+ghost use Rattle.amqp_rules.specs.Take.{taken_in};
 
 use crate::sliced::Sliced;
 use amqp_deliveries::Parts;
@@ -64,7 +65,7 @@ pub struct Resumed {
 }
 
 /// What a step tells the application. What is wide stands behind a pointer, since each entry of a journal has room for the widest.
-#[derive(Debug, PartialEq, Eq, Drop)]
+#[derive(Debug, PartialEq, Eq)]
 pub enum Given {
     Nothing,
     /// Our attach was sent on this link.
@@ -87,6 +88,42 @@ pub enum Given {
     Parted(u32, Boxed<Suspended>),
     /// A delivery that waited was resumed.
     Resumed(Boxed<Resumed>),
+}
+
+// By hand, so that a crate that owns one does not prove its parts' drops again.
+impl Drop for Given {
+    // It would be copied whole for a call.
+    #[inline(always)]
+    fn drop(self) {
+        match self {
+            Given::Taken(taken) => drop(taken),
+            Given::Learned(learned) => drop(learned),
+            Given::Suspended(aside) | Given::Parted(_, aside) => drop(aside),
+            Given::Resumed(resumed) => drop(resumed),
+            Given::Nothing
+            | Given::Link(_)
+            | Given::Offered(_)
+            | Given::Attached(_)
+            | Given::Gone(_)
+            | Given::Delivery(_)
+            | Given::Ready(_, _) => {}
+        }
+    }
+}
+
+impl Given {
+    /// The delivery, where one was taken.
+    pub fn into_taken(self) -> Option<Boxed<Taken>>
+        ensures { result ≡ taken_in self }
+    {
+        match self {
+            Given::Taken(taken) => Some(taken),
+            other => {
+                drop(other);
+                None
+            }
+        }
+    }
 }
 
 /// What a step gives: the frames to send, the deliveries that it ended by role and id, and what it tells.

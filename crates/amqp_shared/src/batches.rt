@@ -1,5 +1,7 @@
 //! Batches of deliveries: taken under one lock, consumed without it, and settled under one lock.
-ghost use Rattle.std.specs.Prelude.{suc, ◌≡◌, ◌<◌, ◌≤◌, ◌+◌, ◌-◌, ◌^◌, ◌++◌, ◌∷◌, ◌↔◌, [], ⊤, length, map, None, IfOk, IfNone, IfSome, IsTrue, IsFalse};
+ghost use Rattle.std.specs.Prelude.{suc, ◌≡◌, ◌≢◌, ◌<◌, ◌≤◌, ◌+◌, ◌-◌, ◌^◌, ◌++◌, ◌∷◌, ◌↔◌, [], ⊤, length, map, None, IfOk, IfNone, IfSome, IsTrue, IsFalse};
+ghost use Rattle.amqp_rules.specs.Take.{taken_in};
+ghost use Rattle.amqp_rules.specs.declared.reply.Given.TheVariants as given;
 ghost use Rattle.amqp_shared.specs.Batching.{TakesMore, TakesBatch, ConsumesAll, TellsSpan, GoesTo, TellsAll, SettlesAll, IsNext, alone, longer, passed};
 ghost use Rattle.amqp_shared.specs.Consuming.{Tells, Asks, granting, Grants};
 ghost use Rattle.amqp_shared.specs.Renewing.{credit_on, IsDue, IsNotDue, MayRest};
@@ -135,6 +137,17 @@ impl Batch {
     }
 }
 
+/// The delivery that a take has told.
+fn delivery_of(told: Given) -> Taken
+    requires { taken_in told ≢ None }
+    ensures { told ≡ given.Taken result }
+{
+    match told.into_taken() {
+        Some(item) => item.into_inner(),
+        None => unreachable!(),
+    }
+}
+
 /// Another delivery of the link, if one is ready.
 fn take_one<N: Name>(
     shared: &Shared<N>,
@@ -146,8 +159,7 @@ fn take_one<N: Name>(
     ensures none { IfNone result ((room : _) → TakesMore link [] (suc room) pass.old pass.new) }
 {
     match shared.call(guard, pass, &Op::Take { link }) {
-        Ok((_, Given::Taken(item))) => Some(item.into_inner()),
-        Ok(_) => unreachable!(),
+        Ok((_, told)) => Some(delivery_of(told)),
         Err(_) => None,
     }
 }
@@ -188,12 +200,11 @@ pub(crate) fn take_batch<N: Name, R: Wait>(
     batch.clear();
     let (mut guard, answer) = shared.call_wait(rt, shared.lock(rt), pass, &Op::Take { link });
     let taken = match answer {
-        Ok((_, Given::Taken(item))) => {
-            batch.put(item.into_inner());
+        Ok((_, told)) => {
+            batch.put(delivery_of(told));
             take_more(shared, &mut guard, pass, link, batch);
             Ok(())
         }
-        Ok(_) => unreachable!(),
         Err(refusal) => Err(refusal),
     };
     drop(guard);
