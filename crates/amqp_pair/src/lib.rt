@@ -4,7 +4,8 @@
 //! |---|---|
 //! | `pair` | `run_pair`: both ends, and what a run tells |
 //! | `options` | what a run is to do |
-//! | `sender`, `receiver` | the threads of each end |
+//! | `sender`, `receiver` | each end: what its threads do, and what it tells |
+//! | `threads` | the threads of an end: its reader, the one that writes for it, and its work |
 //! | `end` | what the threads of one end share |
 //! | `reading`, `writing` | the thread that reads an end's socket, and by what all threads write it |
 //! | `inbox` | the octets that were read, cut into whole frames |
@@ -40,6 +41,7 @@ mod reading;
 mod receiver;
 mod sender;
 mod sending;
+mod threads;
 mod writing;
 
 pub use fault::PairFault;

@@ -3,19 +3,16 @@ ghost use Rattle.std.specs.Prelude.{◌≡◌};
 ghost use Rattle.amqp_shared.specs.Passes.{IsNamed};
 
 use crate::beginning::seed;
-use crate::beside::beside;
 use crate::consuming::{ConsumeOutcome, Counts, consume_all};
 use crate::end::{End, Means};
-use crate::ending::{give_up, left_of, put, take_apart};
+use crate::ending::{left_of, put, take_apart};
 use crate::fault::PairFault;
-use crate::gate::Gate;
 use crate::options::Options;
-use crate::reading::{Beginning, ReadFault, ReadOutcome, Reader, read_end};
-use crate::writing::write_end;
+use crate::reading::Beginning;
+use crate::threads::{Ran, outcome, run_threads};
 use amqp_frames::Role;
 use amqp_shared::{Closed, Name, Pass, Seed, open_shared};
 use std::alloc::Global;
-use std::io;
 use std::marker::Brand;
 use std::net::TcpStream;
 use std::sync::Wait;
@@ -67,9 +64,6 @@ where
     }
 }
 
-/// What the threads of the end gave, its reader and its consumers; and whether the system made all of them.
-type Ran<N> = (ReadOutcome<N>, ConsumeOutcome<N>, bool);
-
 /// Runs the end over its socket.
 fn receive_by<N, R>(
     rt: &R,
@@ -92,7 +86,9 @@ where
     match split_off(alloc, &mut reading, options.consumers) {
         Ok(passes) => {
             let (end, reader, gate) = means.into_end(alloc, shared, reading, writer, beginning);
-            let ran = run_threads(rt, &end, reader, passes, options.credit, &gate);
+            let (lent, shut) = (&end, &gate);
+            let work = move || consume_all(rt, alloc, lent, passes, options.credit, shut);
+            let ran = run_threads(rt, lent, reader, shut, work);
             drop(gate);
             finish(end, ran)
         }
@@ -107,7 +103,7 @@ where
 }
 
 /// What the end has done, once its threads have ended.
-fn finish<N: Name>(end: End<N>, ran: Ran<N>) -> Result<Received, PairFault> {
+fn finish<N: Name>(end: End<N>, ran: Ran<N, ConsumeOutcome<N>>) -> Result<Received, PairFault> {
     let (shared, (writer, written)) = end.into_parts();
     let ((reading, read), consumed, is_made) = ran;
     match outcome(is_made, read, written, consumed) {
@@ -140,21 +136,6 @@ fn received_by(closed: Result<Closed, PairFault>, counts: Counts) -> Result<Rece
     }
 }
 
-/// What the consumers came to, unless the reader or the writer failed, or was not made.
-fn outcome<N: Name>(
-    is_made: bool,
-    read: Result<(), ReadFault>,
-    written: io::Result<()>,
-    consumed: ConsumeOutcome<N>,
-) -> ConsumeOutcome<N> {
-    if !is_made {
-        return Err(PairFault::Thread);
-    }
-    read.map_err(PairFault::Read)?;
-    written.map_err(PairFault::Write)?;
-    consumed
-}
-
 /// The passes, with the reader's behind them.
 fn with_reader<N: Name>(passes: Vec<Pass<N>>, reading: Pass<N>) -> Result<Vec<Pass<N>>, PairFault> {
     let mut passes = passes;
@@ -165,59 +146,6 @@ fn with_reader<N: Name>(passes: Vec<Pass<N>>, reading: Pass<N>) -> Result<Vec<Pa
             Err(fault)
         }
     }
-}
-
-/// The reader, beside the thread that writes for it and the consumers. With no thread for it the end is given up, and it reads to the end behind the others.
-fn run_threads<N, R>(
-    rt: &R,
-    end: &End<N>,
-    reader: Reader<N>,
-    passes: Vec<Pass<N>>,
-    credit: u32,
-    gate: &Gate,
-) -> Ran<N>
-where
-    N: Name + Send + Sync,
-    R: Threads + Wait + Sync,
-{
-    let alloc = reader.alloc;
-    let (read, (done, is_written), is_read) = beside(
-        rt,
-        move || read_end(rt, end, reader),
-        move |is_read| {
-            if !is_read {
-                give_up(rt, end, gate);
-            }
-            write_and_consume(rt, alloc, end, passes, credit, gate)
-        },
-    );
-    (read, done, is_read && is_written)
-}
-
-/// The thread that writes for the reader, beside the consumers, and whether it was made. With none the end is given up, and it writes behind them.
-fn write_and_consume<N, R>(
-    rt: &R,
-    alloc: Global,
-    end: &End<N>,
-    passes: Vec<Pass<N>>,
-    credit: u32,
-    gate: &Gate,
-) -> (ConsumeOutcome<N>, bool)
-where
-    N: Name + Send + Sync,
-    R: Threads + Wait + Sync,
-{
-    let ((), done, is_written) = beside(
-        rt,
-        move || write_end(rt, end),
-        move |is_written| {
-            if !is_written {
-                give_up(rt, end, gate);
-            }
-            consume_all(rt, alloc, end, passes, credit, gate)
-        },
-    );
-    (done, is_written)
 }
 
 /// A pass for each consumer.

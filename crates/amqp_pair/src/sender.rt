@@ -3,20 +3,16 @@ ghost use Rattle.std.specs.Prelude.{◌≡◌};
 ghost use Rattle.amqp_shared.specs.Passes.{IsNamed};
 
 use crate::beginning::seed;
-use crate::beside::beside;
 use crate::end::{End, Means};
-use crate::ending::{give_up, left_of, take_apart};
+use crate::ending::{left_of, take_apart};
 use crate::fault::PairFault;
-use crate::gate::Gate;
 use crate::options::Options;
-use crate::reading::{Beginning, ReadFault, ReadOutcome, Reader, read_end};
+use crate::reading::Beginning;
 use crate::sending::{Done, Hand, Messages, SendOutcome, send_all};
-use crate::writing::write_end;
+use crate::threads::{Ran, outcome, run_threads};
 use amqp_frames::Role;
-use amqp_rules::refusal::Refusal;
 use amqp_shared::{Closed, Name, Pass, Receipt, Seed, open_shared};
 use std::alloc::Global;
-use std::io;
 use std::marker::Brand;
 use std::net::TcpStream;
 use std::sync::Wait;
@@ -68,9 +64,6 @@ where
     }
 }
 
-/// What the threads of the end gave, its reader and its messages; and whether the system made all of them.
-type Ran<N> = (ReadOutcome<N>, SendOutcome<N>, bool);
-
 /// Runs the end over its socket.
 fn send_by<N, R>(
     rt: &R,
@@ -101,7 +94,9 @@ where
         receipts: messages.receipts(alloc),
     };
     let (end, reader, gate) = means.into_end(alloc, shared, reading, writer, beginning);
-    let ran = run_threads(rt, &end, reader, hand, messages, &gate);
+    let (lent, shut) = (&end, &gate);
+    let work = move || send_all(rt, lent, hand, messages, shut);
+    let ran = run_threads(rt, lent, reader, shut, work);
     drop(gate);
     finish(alloc, end, messages, ran)
 }
@@ -111,13 +106,13 @@ fn finish<N: Name>(
     alloc: Global,
     end: End<N>,
     messages: &Messages,
-    ran: Ran<N>,
+    ran: Ran<N, SendOutcome<N>>,
 ) -> Result<Sent, PairFault> {
     let (shared, (writer, written)) = end.into_parts();
     let ((reading, read), (hand, sent), is_made) = ran;
     let Hand { pass, receipts } = hand;
     let closed = take_apart(shared, both(alloc, reading, pass), writer);
-    match outcome(is_made, read, written, sent) {
+    match outcome(is_made, read, written, sent.map_err(PairFault::Send)) {
         Ok(done) => sent_by(messages, closed, receipts, done),
         Err(fault) => {
             drop(closed);
@@ -125,21 +120,6 @@ fn finish<N: Name>(
             Err(fault)
         }
     }
-}
-
-/// What the messages came to, unless a thread failed, or was not made.
-fn outcome(
-    is_made: bool,
-    read: Result<(), ReadFault>,
-    written: io::Result<()>,
-    sent: Result<Done, Refusal>,
-) -> Result<Done, PairFault> {
-    if !is_made {
-        return Err(PairFault::Thread);
-    }
-    read.map_err(PairFault::Read)?;
-    written.map_err(PairFault::Write)?;
-    sent.map_err(PairFault::Send)
 }
 
 /// What is told of the end, where it was taken apart.
@@ -178,57 +158,6 @@ fn sent_of(
         accepted: done.accepted,
         left: left_of(closed),
     })
-}
-
-/// The reader, beside the thread that writes for it and the messages. With no thread for it the end is given up, and it reads to the end behind the others.
-fn run_threads<N, R>(
-    rt: &R,
-    end: &End<N>,
-    reader: Reader<N>,
-    hand: Hand<N>,
-    messages: &Messages,
-    gate: &Gate,
-) -> Ran<N>
-where
-    N: Name + Send + Sync,
-    R: Threads + Wait + Sync,
-{
-    let (read, (done, is_written), is_read) = beside(
-        rt,
-        move || read_end(rt, end, reader),
-        move |is_read| {
-            if !is_read {
-                give_up(rt, end, gate);
-            }
-            write_and_send(rt, end, hand, messages, gate)
-        },
-    );
-    (read, done, is_read && is_written)
-}
-
-/// The thread that writes for the reader, beside the messages, and whether it was made. With none the end is given up, and it writes behind them.
-fn write_and_send<N, R>(
-    rt: &R,
-    end: &End<N>,
-    hand: Hand<N>,
-    messages: &Messages,
-    gate: &Gate,
-) -> (SendOutcome<N>, bool)
-where
-    N: Name + Send + Sync,
-    R: Threads + Wait + Sync,
-{
-    let ((), done, is_written) = beside(
-        rt,
-        move || write_end(rt, end),
-        move |is_written| {
-            if !is_written {
-                give_up(rt, end, gate);
-            }
-            send_all(rt, end, hand, messages, gate)
-        },
-    );
-    (done, is_written)
 }
 
 /// The two passes of the end.

@@ -2,7 +2,7 @@ use denote.Param.{param}
 use denote.Param.Send.{sendable}
 use Rattle.std.proofs.Crossing.{crosses}
 use Rattle.amqp_pair.proofs.Crossing.{end_sync}
-use Rattle.amqp_pair.proofs.sender.write_and_send.Goals as goal
+use Rattle.amqp_pair.proofs.threads.write_and_work.Goals as goal
 
 -- what the writer takes along
 pub beside-done-requires-send-F : goal.beside-done-requires-send-F

@@ -3,7 +3,7 @@ use denote.Param.Send.{sendable}
 use Rattle.std.proofs.Crossing.{crosses}
 use Rattle.amqp_pair.proofs.Crossing.{end_sync}
 use Rattle.amqp_pair.proofs.reading.Reader.TheSendSync as reader
-use Rattle.amqp_pair.proofs.receiver.run_threads.Goals as goal
+use Rattle.amqp_pair.proofs.threads.run_threads.Goals as goal
 
 -- what the reader takes along
 pub beside-read-requires-send-F : goal.beside-read-requires-send-F
