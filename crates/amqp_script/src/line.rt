@@ -86,9 +86,6 @@ impl Line {
             b"hear" => read_hear(alloc, words),
             b"start" => read_start(alloc, words),
             b"carry" => read_carry(alloc, words),
-            b"abort" => read_abort(words),
-            b"take" => read_take(words),
-            b"learn" => read_learn(words),
             b"dispose" => read_dispose(words),
             b"windows" => ended(words, Line::Ask(Question::Windows)),
             b"link" => read_link(words),
@@ -107,16 +104,28 @@ fn read_session(alloc: Global, first: &[u8], words: Words<'_>) -> Result<Line, L
         b"attach" => read_attach(alloc, words),
         b"grant" => read_grant(words),
         b"offer" => read_offer(words),
-        b"drained" => read_drained(words),
         b"refresh" => read_refresh(words),
-        b"detach" => read_detach(words),
-        b"suspend" => read_suspend(words),
         b"rejoin" => read_rejoin(alloc, words),
         b"resume" => read_resume(words),
         b"end" => ended(words, Line::Own(Op::End { error: None })),
         b"beat" => ended(words, Line::Own(Op::Beat)),
-        _ => Err(LineFault::Bad),
+        word => read_of_link(word, words),
     }
+}
+
+/// `LINK`, of an operation that says no more.
+fn read_of_link(first: &[u8], mut words: Words<'_>) -> Result<Line, LineFault> {
+    let link = words.number()?;
+    let op = match first {
+        b"abort" => Op::Abort { link },
+        b"take" => Op::Take { link },
+        b"learn" => Op::Learn { link },
+        b"drained" => Op::Drained { link },
+        b"detach" => Op::Detach { link, error: None },
+        b"suspend" => Op::Suspend { link },
+        _ => return Err(LineFault::Bad),
+    };
+    ended(words, Line::Own(op))
 }
 
 /// The line, where no word is left.
@@ -192,12 +201,6 @@ fn read_carry(alloc: Global, mut words: Words<'_>) -> Result<Line, LineFault> {
     )
 }
 
-/// `LINK`
-fn read_abort(mut words: Words<'_>) -> Result<Line, LineFault> {
-    let link = words.number()?;
-    ended(words, Line::Own(Op::Abort { link }))
-}
-
 /// `LINK CREDIT DRAIN ECHO`
 fn read_grant(mut words: Words<'_>) -> Result<Line, LineFault> {
     let link = words.number()?;
@@ -222,12 +225,6 @@ fn read_offer(mut words: Words<'_>) -> Result<Line, LineFault> {
     ended(words, Line::Own(Op::Offer { link, available }))
 }
 
-/// `LINK`
-fn read_drained(mut words: Words<'_>) -> Result<Line, LineFault> {
-    let link = words.number()?;
-    ended(words, Line::Own(Op::Drained { link }))
-}
-
 /// `ECHO`
 fn read_refresh(mut words: Words<'_>) -> Result<Line, LineFault> {
     let echo = words.truth()?;
@@ -249,30 +246,6 @@ fn read_dispose(mut words: Words<'_>) -> Result<Line, LineFault> {
         state,
     };
     ended(words, Line::Own(op))
-}
-
-/// `LINK`
-fn read_take(mut words: Words<'_>) -> Result<Line, LineFault> {
-    let link = words.number()?;
-    ended(words, Line::Own(Op::Take { link }))
-}
-
-/// `LINK`
-fn read_learn(mut words: Words<'_>) -> Result<Line, LineFault> {
-    let link = words.number()?;
-    ended(words, Line::Own(Op::Learn { link }))
-}
-
-/// `LINK`
-fn read_detach(mut words: Words<'_>) -> Result<Line, LineFault> {
-    let link = words.number()?;
-    ended(words, Line::Own(Op::Detach { link, error: None }))
-}
-
-/// `LINK`
-fn read_suspend(mut words: Words<'_>) -> Result<Line, LineFault> {
-    let link = words.number()?;
-    ended(words, Line::Own(Op::Suspend { link }))
 }
 
 /// `ROLE NAME SND RCV COUNT MAX ITEMS`, without source and target
