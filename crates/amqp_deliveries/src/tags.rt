@@ -60,7 +60,7 @@ impl Hash for Key {
     }
 }
 
-/// A tag of at most eight octets on its link: shorter to keep, and hashed as one number.
+/// A tag of at most eight octets on its link: shorter to keep, its octets hashed as one number.
 #[derive(Clone, Copy, PartialEq, Eq)]
 struct Brief {
     link: u32,

@@ -1,5 +1,5 @@
 //! The bodies of the nine performatives (part 2, 2.7): their fields in order, an option where a field is not mandatory; no default is filled in.
-//! They are dropped by hand, so that a crate that owns one does not prove its parts' drops again.
+//! All but an open's are dropped by hand, so that a crate that owns one does not prove its parts' drops again.
 ghost use Rattle.std.specs.Prelude.{◌≡◌};
 ghost use Rattle.amqp_performatives.specs.Bare.{bare_open, bare_begin, bare_attach, bare_flow, bare_transfer, bare_disposition, bare_detach, bare_end, bare_close};
 
