@@ -117,10 +117,10 @@ pub ahead-agrees : (role : Role) (name : List ℕ) (v : View) (l : LinkView) (n 
     → Agreed role l n m k → Agreed role l n m' (k + distance m.credit.passed m'.credit.passed)
 ahead-agrees role name v l n m m' k sent (rests c s r aside) stays few a =
     rests-agreed role l n m m' k (λ h. ap (λ (c : CreditView). c.first_count) c) (same-passed m m' c) (ap (λ (c : CreditView). c.credit) c) r a
-ahead-agrees role name v l n m m' k sent (tells j f p own' s r told) stays few a = own-agreed role l n m m' k j f p own' r few a
+ahead-agrees role name v l n m m' k sent (tells j f p own' dr s r told) stays few a = own-agreed role l n m m' k j f p own' r few a
 ahead-agrees role name v l n m m' k sent (leaving left' b c mute) stays few a = absurd (cc (left', stays))
 ahead-agrees role name v l n m m' k sent (sending is c some r told) stays few a = sent-agreed role l n m m' k is (is_some m.sending) c some a
-ahead-agrees role name v l n m m' k sent (hearing j h f p numbers s theirs early told) stays few a = absurd (cc (h))
+ahead-agrees role name v l n m m' k sent (hearing j h f p numbers dr s theirs early told) stays few a = absurd (cc (h))
 
 -- the credit of a sender is that of the receiver, or less
 pub small-there : (l : LinkView) (n : ℕ) (m : LinkView) (k : ℕ) → Agreed Receiver l n m k → Behind Receiver l n m k → l.credit.credit ≤ 2147483647 → m.credit.credit < 2 ^ 32

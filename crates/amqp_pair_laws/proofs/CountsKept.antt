@@ -92,10 +92,10 @@ kept-quiet ca cb n e a b w silent k lives role name l' m fl fm ours stays stays'
         → Agreed role l' (tally (role, name) ca a + distance l.credit.passed l'.credit.passed) m K
     on l found u x (rests c s r aside) =
         rests-agrees role l l' (tally (role, name) ca a) m K (λ h. ap (λ (c : CreditView). c.first_count) c) (ap (λ (c : CreditView). c.passed) c) (ap (λ (c : CreditView). c.credit) c) s u x
-    on l found u x (tells j f p own' s r told) = let y = told.is_sent in absurd (cc (y, silent))
+    on l found u x (tells j f p own' dr s r told) = let y = told.is_sent in absurd (cc (y, silent))
     on l found u x (leaving left' both c mute) = absurd (cc (left', stays))
     on l found u x (sending is c some r told) = let y = told.is_sent in absurd (cc (y, silent))
-    on l found u x (hearing j h f p numbers s theirs early told) =
+    on l found u x (hearing j h f p numbers dr s theirs early told) =
         hearing-agrees role l l' (tally (role, name) ca a) m K j f p numbers s u (small-of (role, name) ca a l (fair-both ca cb (suc n) (e ∷ a) b w).0.0 found) x
 
     by : Turn role name (at ca a) (at ca (e ∷ a)) (body_heard e.step) (sends e) → Agreed role l' (tally (role, name) ca (e ∷ a)) m K

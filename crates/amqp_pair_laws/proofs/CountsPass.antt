@@ -93,14 +93,14 @@ flow-met ca cb n e a b role name l l' w known world t sb la lb fl to attached st
       };
     }
 
-left-kept : (w : FlowBody) (m : LinkView) → (flow_link w m).left ≡ m.left
+pub left-kept : (w : FlowBody) (m : LinkView) → (flow_link w m).left ≡ m.left
 left-kept w m = by m.left
   where
     by : (b : Bool) → (cond b m (flowed w m)).left ≡ m.left
     by true = refl
     by false = refl
 
-flow-open : (w : FlowBody) (m : LinkView) → m.left ≡ false → flow_link w m ≡ flowed w m
+pub flow-open : (w : FlowBody) (m : LinkView) → m.left ≡ false → flow_link w m ≡ flowed w m
 flow-open w m h = by m.left h
   where
     by : (b : Bool) → b ≡ false → cond b m (flowed w m) ≡ flowed w m
@@ -115,7 +115,7 @@ transfer-open t payload m h = by m.left h
     by false h = refl
 
 -- the flow is heard
-flow-heard : (role' : Role) (name : List ℕ) (v : View) (w : FlowBody) (h : ℕ) (payload : List ℕ) (m' : LinkView) (x : IsMet role' name v h) → w.handle ≡ Some h
+pub flow-heard : (role' : Role) (name : List ℕ) (v : View) (w : FlowBody) (h : ℕ) (payload : List ℕ) (m' : LinkView) (x : IsMet role' name v h) → w.handle ≡ Some h
     → find (has_name role' name) (next_body v (Some (heard.Flow w)) payload).links ≡ Some m' → flow_link w x.link ≡ m'
 flow-heard role' name v w h payload m' x is to =
     let handled : flow_links w w.handle v.links ≡ change_first (has_peer_handle h) (flow_link w) v.links = ap (λ h. flow_links w h v.links) is in
@@ -209,11 +209,11 @@ module _ (ca cb : Config) (n : ℕ) (e : Entry) (a : List Entry) (e' : Entry) (b
       by : Goes role name (at ca a) (is_some (body_heard e.step)) l l' (sends e) → Grows role l N l' (N + distance l.credit.passed l'.credit.passed) → Now
       by (rests c s r aside) grows =
           pass-aside aside (λ m x. rests-agrees role l l' N m K (λ h. ap (λ (c : CreditView). c.first_count) c) (ap (λ (c : CreditView). c.passed) c) (ap (λ (c : CreditView). c.credit) c) s same-ours x)
-      by (tells j first p own' s r told) grows = pass-flow told s grows
+      by (tells j first p own' dr s r told) grows = pass-flow told s grows
       by (leaving gone both c mute) grows = absurd (cc (gone, stays))
       by (sending is c some r told) grows = pass-transfer told is c
-      by (hearing j h first p numbers s theirs early (inl aside)) grows = pass-aside aside (λ m x. hearing-agrees role l l' N m K j first p numbers s same-ours y.small x)
-      by (hearing j h first p numbers s theirs early (inr told)) grows = pass-flow told s grows
+      by (hearing j h first p numbers dr s theirs early (inl aside)) grows = pass-aside aside (λ m x. hearing-agrees role l l' N m K j first p numbers s same-ours y.small x)
+      by (hearing j h first p numbers dr s theirs early (inr told)) grows = pass-flow told s grows
 
 pub kept-left-none : (left' : Bool) (o : Option EndView) → o ≡ None → cond left' None o ≡ None
 kept-left-none true o h = refl

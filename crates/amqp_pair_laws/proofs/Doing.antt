@@ -22,7 +22,7 @@ use Rattle.amqp_rules.specs.Sending.{frame_of, reply_ending, sends_ending}
 use Rattle.amqp_rules.specs.Deliveries.{ended_by}
 use Rattle.amqp_rules.specs.Attach.{Wanted, attach_answer, attach_refusals, attach_sent, attached_by_peer, attached_by_us, end_of, next_attach, number_met}
 use Rattle.amqp_rules.specs.PeerAttach.{attach_heard_answer, attach_heard_reply, attach_violations, next_attach_heard}
-use Rattle.amqp_rules.specs.Detach.{detach_answer, detach_body, detach_refusals, left_by_us, next_detach}
+use Rattle.amqp_rules.specs.Detach.{detach_body, detach_refusals, left_by_us, next_detach}
 use Rattle.amqp_rules.specs.PeerDetach.{detach_heard_answer, detach_reply, next_detach_heard, parting}
 use Rattle.amqp_rules.specs.Answer.{body_answer, is_dropped, next_body, next_own}
 use Rattle.amqp_rules.specs.Sound.{IsSound, has_end, keys}

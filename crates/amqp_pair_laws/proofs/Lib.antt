@@ -27,6 +27,7 @@ pub mod Counts
 pub mod CountsKnown
 pub mod CountsKept
 pub mod CountsPass
+pub mod DrainsKnown
 pub mod Expected
 -- The next frame is taken, kind by kind.
 pub mod FrameKinds
@@ -60,6 +61,7 @@ pub mod TakenKnown
 pub mod TakenPass
 -- What was heard of deliveries was said of them.
 pub mod SaidKnown
+pub mod SettledKnown
 pub mod OwnStates
 pub mod OnSent
 -- What was taken was sent, also on links that are left or gone.
@@ -67,6 +69,20 @@ pub mod TakenEver
 pub mod SameSource
 pub mod TakenFront
 -- What was sent and is held is held by both.
+pub mod Settles
 pub mod MetKnown
 -- What was learnt was said.
 pub mod LearntSaid
+-- Where nothing is on its way.
+pub mod Answered
+pub mod Unanswered
+pub mod HearingEnds
+pub mod OnReceived
+pub mod Ordered
+pub mod Serials
+pub mod StatesKnown
+pub mod Ended
+pub mod Resting
+pub mod Granted
+pub mod Reopens
+pub mod Unsettled

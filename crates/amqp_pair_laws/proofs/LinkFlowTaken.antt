@@ -105,14 +105,14 @@ on-slot ca e past f w h l fair sent body handle found attached is = by (turn-of 
 
     on : (m : LinkView) → link (l.role, l.name) ca (e ∷ past) ≡ Some m → m.ours ≡ l.ours → Goes l.role l.name (at ca past) (is_some (body_heard e.step)) l m (sends e) → Goes l.role l.name (at ca past) (is_some (body_heard e.step)) l m (sends e) → SentOn ca e past w
     on m to o g (rests c s r aside) = absurd (none aside)
-    on m to o g (tells j first p own' s r t) = told m to t s o g
+    on m to o g (tells j first p own' dr s r t) = told m to t s o g
     on m to o g (leaving gone both c mute) = absurd (no-flow (sends e) f w sent body mute)
     on m to o g (sending role-is c some r t) =
         let one = same-some (sends e) t.frame f t.is_sent sent in
         let x : f.body ≡ Some (heard.Transfer t.transfer) = ap (λ (f : Frame). f.body) (sym one) ∙ t.body in
         absurd (cc (x, body))
-    on m to o g (hearing j h' first p numbers s theirs early (inl aside)) = absurd (none aside)
-    on m to o g (hearing j h' first p numbers s theirs early (inr t)) = told m to t s o g
+    on m to o g (hearing j h' first p numbers dr s theirs early (inl aside)) = absurd (none aside)
+    on m to o g (hearing j h' first p numbers dr s theirs early (inr t)) = told m to t s o g
 
     by : Turn l.role l.name (at ca past) (at ca (e ∷ past)) (body_heard e.step) (sends e) → SentOn ca e past w
     by (away gone (inl before)) = let none = before.0 in absurd (cc (none, found))
@@ -153,14 +153,14 @@ held ca e past f w h fair sent body handle = by (turn-of (Sender, []) ca e past 
 
     on : (l m : LinkView) → link (Sender, []) ca past ≡ Some l → Goes Sender [] (at ca past) (is_some (body_heard e.step)) l m (sends e) → Held ca past h
     on l m found (rests c s' r x) = aside x
-    on l m found (tells j first p own' s' r t) = told l m found t
+    on l m found (tells j first p own' dr s' r t) = told l m found t
     on l m found (leaving gone both c mute) = absurd (no-flow (sends e) f w sent body mute)
     on l m found (sending role-is c some r t) =
         let one = same-some (sends e) t.frame f t.is_sent sent in
         let x : f.body ≡ Some (heard.Transfer t.transfer) = ap (λ (f : Frame). f.body) (sym one) ∙ t.body in
         absurd (cc (x, body))
-    on l m found (hearing j h' first p numbers s' theirs early (inl x)) = aside x
-    on l m found (hearing j h' first p numbers s' theirs early (inr t)) = told l m found t
+    on l m found (hearing j h' first p numbers dr s' theirs early (inl x)) = aside x
+    on l m found (hearing j h' first p numbers dr s' theirs early (inr t)) = told l m found t
 
     by : Turn Sender [] (at ca past) (at ca (e ∷ past)) (body_heard e.step) (sends e) → Held ca past h
     by (away gone (inl x)) = aside x.1

@@ -1,5 +1,5 @@
--- What an end still holds of what it sent is held by the other end, too, which has heard of it, unless that end told its outcome or has left the link.
-use Rattle.std.proofs.Common.{suc, ◌≡◌, ◌⊎◌, inl, inr, ℕ, ◌==◌, ◌||◌, Bool, true, false, cond, Option, Some, None, Ok, List, [], ◌∷◌, refl, sym, ap, ◌∙◌, subst, find, is_some, option_map, unwrap_or}
+-- What an end still holds of what it sent is held by the other end, too, which has heard of it, unless that end settled it or has left the link.
+use Rattle.std.proofs.Common.{suc, ◌≡◌, ◌⊎◌, inl, inr, ℕ, ◌==◌, ◌||◌, Bool, true, false, cond, Option, Some, None, List, [], ◌∷◌, refl, sym, ap, ◌∙◌, subst, find, is_some, option_map, unwrap_or}
 use Rattle.std.proofs.lemmas.Bool.{eq-eqb, eqb-true}
 use Rattle.amqp_flow.specs.Serial.{is_inside}
 use Rattle.amqp_performatives.specs.declared.bodies.Role.{Role}
@@ -38,7 +38,7 @@ use Rattle.amqp_laws.proofs.Twice.{and-both}
 use Rattle.amqp_pair_laws.proofs.Plain.{OwnAnswers, due, no-start, start-starts}
 use Rattle.amqp_pair_laws.specs.Moves.{count}
 use Rattle.amqp_pair_laws.specs.World.{IsFair, Moves, Tight, World, frame_among, frame_in, hears, sends}
-use Rattle.amqp_pair_laws.specs.Learns.{tells_by, was_told}
+use Rattle.amqp_pair_laws.proofs.Settles.{settles_by, was_settled}
 use Rattle.amqp_pair_laws.proofs.Lag as lag
 use Rattle.amqp_pair_laws.proofs.Slots.{kept}
 use Rattle.amqp_pair_laws.proofs.SlotOf.{shape}
@@ -134,13 +134,13 @@ pub record Holds (v : View) (y : LinkView) (i : Item) : Type 0 where
 abbrev pub MetAgree : Config → Config → List Entry → List Entry → Type 0
 MetAgree ca cb a b =
     Lives b → (name : List ℕ) (x y : LinkView) (u : SentItem) → link (Sender, name) ca a ≡ Some x → In u (at ca a).sent → u.item.link ≡ x.number → link (Receiver, name) cb b ≡ Some y → y.left ≡ false
-    → was_told u.item.id b ≡ false → Holds (at cb b) y u.item
+    → was_settled u.item.id b ≡ false → Holds (at cb b) y u.item
 
 holds-same : (v : View) (y : LinkView) (i j : Item) → j.id ≡ i.id → j.tag ≡ i.tag → Holds v y i → Holds v y j
 holds-same v y i j id tag q = record { item = q.item; there = q.there; id = q.id ∙ sym id; tag = q.tag ∙ sym tag; on = q.on }
 
-untold-as : (i j : ℕ) (b : List Entry) → j ≡ i → was_told j b ≡ false → was_told i b ≡ false
-untold-as i j b same h = ap (λ id. was_told id b) (sym same) ∙ h
+untold-as : (i j : ℕ) (b : List Entry) → j ≡ i → was_settled j b ≡ false → was_settled i b ≡ false
+untold-as i j b same h = ap (λ id. was_settled id b) (sym same) ∙ h
 
 -- the sender's link before the step
 record OursWas (ca : Config) (a : List Entry) (name : List ℕ) (i : Item) : Type 0 where
@@ -230,8 +230,8 @@ met-ahead ca cb n e a b w t m deaf k lives name x y' u fx there on fy unleft' un
     z : OtherWas cb b name y'
     z = other-was ca cb n a e b name x y' t lb fb fx p.0 p.1.1 fy unleft'
 
-    both : (tells_by e.step u.item.id ≡ false) × (was_told u.item.id b ≡ false)
-    both = or-none (tells_by e.step u.item.id) (was_told u.item.id b) untold
+    both : (settles_by e.step u.item.id ≡ false) × (was_settled u.item.id b ≡ false)
+    both = or-none (settles_by e.step u.item.id) (was_settled u.item.id b) untold
 
     q : Holds (at cb b) z.link' u.item
     q = k lb name x z.link' u fx there on z.found (unleft-before cb e b name z.link' y' fb lb z.found fy z.number unleft') both.1
@@ -239,7 +239,7 @@ met-ahead ca cb n e a b w t m deaf k lives name x y' u fx there on fy unleft' un
     none : Stop (at cb b) e.step q.item → ⊥
     none (says first last state is inside) =
         let yes : is_inside u.item.id first last ≡ true = ap (λ n. is_inside n first last) (sym q.id) ∙ inside in
-        let told : tells_by e.step u.item.id ≡ true = ap (λ s. tells_by s u.item.id) is ∙ (rw yes refl) in
+        let told : settles_by e.step u.item.id ≡ true = ap (λ s. settles_by s u.item.id) is ∙ (rw yes refl) in
         let no = both.0 in
         absurd (cc (no, told))
     none (hears' f d is body role settled inside) = let some = ap frame_in is in absurd (cc (some, deaf))
@@ -437,7 +437,7 @@ met-pass ca cb n e a e' b f world t m m' sent heard'' k lives name x' y' u fx th
         let p = ours-was ca e a name x' u fa la' fx there on w in
         let ends' = attached-ends p.link' p.attached in
         let z = other-was ca cb n a e' b name p.link' y' t lb fb p.found ends'.0 ends'.1.1 fy unleft' in
-        let untold' = untold-as i.id u.item.id b w.same.id (or-none (tells_by e'.step u.item.id) (was_told u.item.id b) untold).1 in
+        let untold' = untold-as i.id u.item.id b w.same.id (or-none (settles_by e'.step u.item.id) (was_settled u.item.id b) untold).1 in
         let q = k lb name p.link' z.link' w.before p.found w.there p.on z.found (unleft-before cb e' b name z.link' y' fb lb z.found fy z.number unleft') untold' in
         holds-same (at cb (e' ∷ b)) y' i u.item w.same.id w.same.tag
         (holds-goes cb e' b name z.link' y' i fb lb z.found fy unleft' q (stays-there ca cb n e a e' b f t m sent heard'' lb fa fb name i z.link' q w.stays))

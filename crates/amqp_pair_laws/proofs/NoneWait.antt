@@ -1,5 +1,5 @@
 -- In a world no delivery waits to be resumed: nothing is brought in.
-use Rattle.std.proofs.Common.{◌≡◌, ℕ, ◌+◌, Bool, true, false, cond, Option, Some, None, Ok, List, [], ◌∷◌, ◌++◌, map, find, is_some, refl, sym, ap, ◌∙◌, subst}
+use Rattle.std.proofs.Common.{◌≡◌, ℕ, ◌+◌, Bool, true, false, cond, Option, Some, None, List, [], ◌∷◌, ◌++◌, map, find, is_some, refl, sym, ap, ◌∙◌, subst}
 use Rattle.amqp_performatives.specs.declared.bodies.AttachBody.{AttachBody}
 use Rattle.amqp_performatives.specs.declared.bodies.FlowBody.{FlowBody}
 use Rattle.amqp_performatives.specs.declared.bodies.TransferBody.{TransferBody}
@@ -18,7 +18,7 @@ use Rattle.amqp_rules.specs.declared.op.Op.{Op}
 use Rattle.amqp_rules.specs.declared.op.Op.TheVariants.{Begin, Attach, Start, Carry, Abort, Dispose, Learn, Grant, Offer, Drained, Refresh, Take, Detach, Suspend, Rejoin, Resume, End, Beat}
 use Rattle.amqp_rules.specs.declared.reply.Reply.{Reply}
 use Rattle.amqp_rules.specs.View.{EndView, LinkView, View, change_first, has_number, has_peer_handle, is_asked_as, is_offered_as, new_link, opposite, rcv_mode}
-use Rattle.amqp_rules.specs.Answer.{is_dropped, next_body, next_heard, next_own}
+use Rattle.amqp_rules.specs.Answer.{is_dropped, next_body, next_own}
 use Rattle.amqp_rules.specs.Attach.{attach_sent, attached_by_peer, attached_by_us, join_link, met_where}
 use Rattle.amqp_rules.specs.Flow.{flow_link, flow_links, flowed}
 use Rattle.amqp_rules.specs.PeerTransfer.{heard_on, received_on, waiting_after}
@@ -31,7 +31,6 @@ use Rattle.amqp_laws.specs.declared.entry.Step.{Step}
 use Rattle.amqp_laws.specs.declared.entry.Step.TheVariants.{Opened, Own, Heard}
 use Rattle.amqp_laws.specs.At.{at}
 use Rattle.amqp_laws.specs.Lawful.{next}
-use Rattle.amqp_laws.proofs.Sound.{at-first}
 use Rattle.amqp_pair_laws.proofs.Plain.{Answers, OwnAnswers, due}
 use Rattle.amqp_pair_laws.proofs.SlotActs.{AllFair, one-more}
 

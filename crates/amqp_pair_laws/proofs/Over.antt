@@ -34,7 +34,7 @@ use Rattle.amqp_laws.proofs.Sound.{law}
 use Rattle.amqp_pair_laws.proofs.Plain.{Answers, OwnAnswers, due}
 use Rattle.amqp_pair_laws.specs.Moves as moves
 use Rattle.amqp_pair_laws.specs.Moves.{count, said_as, IsTail}
-use Rattle.amqp_pair_laws.specs.World.{IsFair, Moves, Tight, frame_among, frame_in, hears, sends}
+use Rattle.amqp_pair_laws.specs.World.{IsFair, Moves, Tight, World, frame_among, frame_in, hears, sends}
 use Rattle.amqp_pair_laws.proofs.Lag as lag
 use Rattle.amqp_pair_laws.proofs.Sends.{Sending, begins as begins', flows, others, silent, step-sending, transfers}
 use Rattle.amqp_pair_laws.proofs.Opens.{body-of, good, heard-body}
@@ -47,7 +47,7 @@ own-end-sends v (own.End error) reply f h is sent =
     ap is_end body
 own-end-sends v _ reply f h is sent = absurd (cc (is))
 
-own-end-loud : (v : View) (op : Op) (reply : Reply) → OwnAnswers v op reply → is_own_end (Some op) ≡ true → frame_among reply.sent ≡ None → ⊥
+pub own-end-loud : (v : View) (op : Op) (reply : Reply) → OwnAnswers v op reply → is_own_end (Some op) ≡ true → frame_among reply.sent ≡ None → ⊥
 own-end-loud v (own.End error) reply h is none =
     let s = sends-ending-ok v.max_frame ((not (is_mapped v.session), refusal.NotMapped) ∷ []) (end_body error) (ended_by Over Over v) given.Nothing reply h in
     let one : reply.sent ≡ sent_of (end_body error) [] ∷ [] = ap (λ (r : Reply). r.sent) (sym s.replies) in
@@ -69,7 +69,7 @@ body-end-sends v (Some (heard.End b)) payload reply f h is sent =
 body-end-sends v _ payload reply f h is sent = absurd (cc (is))
 
 -- an entry that is our end, or the peer's, sends an end if it sends a frame
-last-sends : (v : View) (step : Step) (reply : Reply) (f : Frame) → Answers v step reply → is_own_end (own_in step) || is_end (body_heard step) ≡ true → frame_among reply.sent ≡ Some f → is_end f.body ≡ true
+pub last-sends : (v : View) (step : Step) (reply : Reply) (f : Frame) → Answers v step reply → is_own_end (own_in step) || is_end (body_heard step) ≡ true → frame_among reply.sent ≡ Some f → is_end f.body ≡ true
 last-sends v (Opened told) reply f h is sent = absurd (cc (is))
 last-sends v (Own op) reply f h is sent = own-end-sends v op reply f h (by (is_own_end (Some op)) is) sent
   where
@@ -86,7 +86,7 @@ last-sends v (Heard g) reply f h is sent =
     and-none' false = refl
 
 -- what makes a session over
-newly : (e : Entry) (past : List Entry) → is_over (session_at (live (e ∷ past))) ≡ true → (is_over (session_at (live past)) ≡ true) ⊎ (ends e || hears_end e ≡ true)
+pub newly : (e : Entry) (past : List Entry) → is_over (session_at (live (e ∷ past))) ≡ true → (is_over (session_at (live past)) ≡ true) ⊎ (ends e || hears_end e ≡ true)
 newly e past h = by (some_entry ends (live past) && hears_no_end e.step) h
   where
     parts : (a b c d : Bool) → (a || b) || (c || d) ≡ true → (b || d ≡ true) ⊎ (a || c ≡ true)
@@ -114,7 +114,7 @@ heard-over e past is kept = by (some_entry ends (live past)) (and-none' (some_en
     by : (sent : Bool) → some_entry ends (live past) && hears_no_end e.step ≡ false → is_over (session_at (live (e ∷ past))) ≡ true
     by sent open' = rw (open', is) (some (ends e || some_entry ends (live past)))
 
-end-kept : (step : Step) → is_end (body_heard step) ≡ true → hears_no_end step ≡ false
+pub end-kept : (step : Step) → is_end (body_heard step) ≡ true → hears_no_end step ≡ false
 end-kept (Opened told) h = absurd (cc (h))
 end-kept (Own op) h = absurd (cc (h))
 end-kept (Heard g) h = rw h refl
@@ -138,6 +138,19 @@ sender-over c past e f (others p payload t w beside one) l sent is =
     let b = ap is_end (body-of e.reply.sent p payload f one sent) in
     ap (λ (v : View). is_over v.session) l ∙ beside.ends (sym b ∙ is)
 
+-- where a hears an end that b sent, b's session is over
+pub over-there : (ca cb : Config) (n : ℕ) (e : Entry) (a b : List Entry) → World ca cb n a b → Moves ca e a b → (g : Frame) → e.step ≡ Heard g → is_end g.body ≡ true → is_over (session_at (live b)) ≡ true
+over-there ca cb n e a b w m g same is =
+    let heard-it : hears e ≡ Some g = ap frame_in same in
+    let next' : said_as sends (count hears a) b ≡ Some g = subst (λ (o : Option Frame). moves.IsNext sends hears IsFair o a b) heard-it m.next in
+    let back = lag.swapped sends hears IsFair ca cb n a b w in
+    let x = lag.waits sends hears IsFair cb ca n b a g back next' in
+    let f = lag.all-fair sends hears IsFair cb ca (suc x.moves) (x.entry ∷ x.before) a x.world in
+    let gx = good cb ca (suc x.moves) (x.entry ∷ x.before) a x.world in
+    let fewer : length x.before ≤ 2 ^ 30 = (let few : length (x.entry ∷ x.before) ≤ 2 ^ 30 = gx.few in let k : length x.before + 1 ≤ 2 ^ 30 = rw (← add-one (length x.before)) at few in omega (arith, k)) in
+    let l = law cb x.before x.entry gx.replayed.0 fewer f.1.answers in
+    over-later (x.entry ∷ x.before) b x.is_tail (sender-over cb x.before x.entry g (step-sending (at cb x.before) x.entry.step x.entry.reply (due f.1)) l x.sent is)
+
 over-quiet : (ca cb : Config) (n : ℕ) (e : Entry) (a b : List Entry) → Tight ca cb n a b → Moves ca e a b → sends e ≡ None → (ends e || hears_end e ≡ true) → is_over (session_at (live b)) ≡ true
 over-quiet ca cb n e a b t m quiet is = by e.step refl (due m.fair) is
   where
@@ -148,16 +161,7 @@ over-quiet ca cb n e a b t m quiet is = by e.step refl (due m.fair) is
         or-none' : (b : Bool) → b || false ≡ true → b ≡ true
         or-none' true h = refl
         or-none' false h = h
-    by (Heard g) same h is =
-        let heard-it : hears e ≡ Some g = ap frame_in same in
-        let next' : said_as sends (count hears a) b ≡ Some g = subst (λ (o : Option Frame). moves.IsNext sends hears IsFair o a b) heard-it m.next in
-        let back = lag.swapped sends hears IsFair ca cb n a b t.world in
-        let x = lag.waits sends hears IsFair cb ca n b a g back next' in
-        let f = lag.all-fair sends hears IsFair cb ca (suc x.moves) (x.entry ∷ x.before) a x.world in
-        let gx = good cb ca (suc x.moves) (x.entry ∷ x.before) a x.world in
-        let fewer : length x.before ≤ 2 ^ 30 = (let few : length (x.entry ∷ x.before) ≤ 2 ^ 30 = gx.few in let k : length x.before + 1 ≤ 2 ^ 30 = rw (← add-one (length x.before)) at few in omega (arith, k)) in
-        let l = law cb x.before x.entry gx.replayed.0 fewer f.1.answers in
-        over-later (x.entry ∷ x.before) b x.is_tail (sender-over cb x.before x.entry g (step-sending (at cb x.before) x.entry.step x.entry.reply (due f.1)) l x.sent is)
+    by (Heard g) same h is = over-there ca cb n e a b t.world m g same is
 
 over-pass : (ca cb : Config) (e : Entry) (a : List Entry) (e' : Entry) (b : List Entry) (f : Frame) → Answers (at ca a) e.step e.reply → frame_among e.reply.sent ≡ Some f → hears e' ≡ Some f
     → (ends e || hears_end e ≡ true) → is_over (session_at (live (e' ∷ b))) ≡ true

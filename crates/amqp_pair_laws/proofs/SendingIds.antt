@@ -187,10 +187,10 @@ ours-step c e past fair lives k name x d found stays is = by (turn-of (Sender, n
 
     on : (l : LinkView) → link i c past ≡ Some l → l.left ≡ false → Goes Sender name (at c past) (is_some (body_heard e.step)) l x (sends e) → IsOurs c (e ∷ past) x d
     on l was unleft (rests c' s r aside) = same l was unleft (sym s ∙ is)
-    on l was unleft (tells j first p own' s r t) = same l was unleft (sym s ∙ is)
+    on l was unleft (tells j first p own' dr s r t) = same l was unleft (sym s ∙ is)
     on l was unleft (leaving gone both c' mute) = absurd (cc (gone, stays))
     on l was unleft (sending role-is c' some r t) = transfer l was unleft t l.sending refl
-    on l was unleft (hearing j h first p numbers s theirs early t) = same l was unleft (sym s ∙ is)
+    on l was unleft (hearing j h first p numbers dr s theirs early t) = same l was unleft (sym s ∙ is)
 
     by : Turn Sender name (at c past) (at c (e ∷ past)) (body_heard e.step) (sends e) → IsOurs c (e ∷ past) x d
     by (away gone why) = absurd (cc (gone, found))

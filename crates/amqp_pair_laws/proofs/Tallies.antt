@@ -8,7 +8,7 @@ use Rattle.amqp_performatives.specs.declared.bodies.AttachBody.{AttachBody}
 use Rattle.amqp_frames.specs.declared.frame.Frame.{Frame}
 use Rattle.amqp_rules.specs.declared.config.Config.{Config}
 use Rattle.amqp_rules.specs.View.{EndView, LinkView, View, has_name, is_attached, is_sender, new_link}
-use Rattle.amqp_rules.specs.Attach.{attached_by_peer, attached_by_us, count_of, end_of}
+use Rattle.amqp_rules.specs.Attach.{attached_by_peer, attached_by_us, count_of}
 use Rattle.amqp_laws.specs.declared.entry.Entry.{Entry}
 use Rattle.amqp_laws.specs.Said.{body_heard}
 use Rattle.amqp_laws.specs.At.{at}
@@ -192,10 +192,10 @@ goes-tallied role name v hears l m sent n (rests c s r aside) o t k =
       idle' = idle-same role l m (ap (λ (c : CreditView). c.credit) c) (λ h. ap (λ (e : Option EndView). is_some e) (sym t) ∙ h) (λ h. sym both ∙ h) k.idle';
       small = small-same role l m (ap (λ (c : CreditView). c.credit) c) k.small;
     }
-goes-tallied role name v hears l m sent n (tells j f p own' s r told') o t k = attached-tallied role l m n (attached-parts l told'.attached).1.1 o t (own-small role j l m own') k
+goes-tallied role name v hears l m sent n (tells j f p own' dr s r told') o t k = attached-tallied role l m n (attached-parts l told'.attached).1.1 o t (own-small role j l m own') k
 goes-tallied role name v hears l m sent n (leaving left' b c mute) o t k = attached-tallied role l m n b o t (small-same role l m (ap (λ (c : CreditView). c.credit) c) k.small) k
 goes-tallied role name v hears l m sent n (sending is c some r told') o t k = attached-tallied role l m n (attached-parts l told'.attached).1.1 o t (sender-small role m is) k
-goes-tallied role name v hears l m sent n (hearing j h f p numbers s theirs early told') o t k =
+goes-tallied role name v hears l m sent n (hearing j h f p numbers dr s theirs early told') o t k =
     let both = apart-both l m o t in
     let there : is_some m.theirs ≡ true = ap (λ (e : Option EndView). is_some e) t ∙ theirs in
     record {
@@ -317,10 +317,10 @@ sent-grows Sender l m n d b is c = (by b c, more-or-same n d)
 pub goes-grows : (role : Role) (name : List ℕ) (v : View) (hears : Bool) (l m : LinkView) (sent : Option Frame) (n : ℕ) → Goes role name v hears l m sent → Tallied role l n
     → Grows role l n m (n + distance l.credit.passed m.credit.passed)
 goes-grows role name v hears l m sent n (rests c s r aside) k = rest-grows role l m n (distance l.credit.passed m.credit.passed) (ap (λ (c : CreditView). c.first_count) c) (ap (λ (c : CreditView). c.credit) c)
-goes-grows role name v hears l m sent n (tells j f p own' s r told') k = own-grows role l m n (distance l.credit.passed m.credit.passed) j f own'
+goes-grows role name v hears l m sent n (tells j f p own' dr s r told') k = own-grows role l m n (distance l.credit.passed m.credit.passed) j f own'
 goes-grows role name v hears l m sent n (leaving left' b c mute) k = rest-grows role l m n (distance l.credit.passed m.credit.passed) (ap (λ (c : CreditView). c.first_count) c) (ap (λ (c : CreditView). c.credit) c)
 goes-grows role name v hears l m sent n (sending is c some r told') k = sent-grows role l m n (distance l.credit.passed m.credit.passed) (is_some l.sending) is c
-goes-grows role name v hears l m sent n (hearing j h f p numbers s theirs early told') k = heard-grows role l m n j f p numbers k.small
+goes-grows role name v hears l m sent n (hearing j h f p numbers dr s theirs early told') k = heard-grows role l m n j f p numbers k.small
 
 -- the peer's attach is met: the count of a sender is its own
 met-grows : (role : Role) (b : AttachBody) (l : LinkView) (n d : ℕ) → l.role ≡ role → Grows role l n (attached_by_peer b l) (n + d)

@@ -91,11 +91,11 @@ on-slot ca e past f t l fair sent body found attached is = by (turn-of (l.role, 
 
     on : (m : LinkView) → Goes l.role l.name (at ca past) (is_some (body_heard e.step)) l m (sends e) → SentOn ca past t f.payload
     on m (rests c s r aside) = absurd (none aside)
-    on m (tells j first p own' s r x) = absurd (no-told l m (sends e) f t sent body x)
+    on m (tells j first p own' dr s r x) = absurd (no-told l m (sends e) f t sent body x)
     on m (leaving gone both c mute) = absurd (uncounted (sends e) f t sent body mute)
     on m (sending role-is c some r x) = record { link' = l; found = found; attached = attached; handle = is; role-is = role-is; credit = some; says = says-by (next_delivery (at ca past)) l m (sends e) f t sent body x }
-    on m (hearing j h first p numbers s theirs early (inl aside)) = absurd (none aside)
-    on m (hearing j h first p numbers s theirs early (inr x)) = absurd (no-told l m (sends e) f t sent body x)
+    on m (hearing j h first p numbers dr s theirs early (inl aside)) = absurd (none aside)
+    on m (hearing j h first p numbers dr s theirs early (inr x)) = absurd (no-told l m (sends e) f t sent body x)
 
     by : Turn l.role l.name (at ca past) (at ca (e ∷ past)) (body_heard e.step) (sends e) → SentOn ca past t f.payload
     by (away gone (inl before)) = let x = before.0 in absurd (cc (x, found))
@@ -123,15 +123,15 @@ sent-on ca e past f t fair sent body = by (turn-of (Sender, []) ca e past fair)
 
     on : (l m : LinkView) → link (Sender, []) ca past ≡ Some l → Goes Sender [] (at ca past) (is_some (body_heard e.step)) l m (sends e) → SentOn ca past t f.payload
     on l m found (rests c s' r x) = aside x
-    on l m found (tells j first p own' s' r x) = absurd (no-told l m (sends e) f t sent body x)
+    on l m found (tells j first p own' dr s' r x) = absurd (no-told l m (sends e) f t sent body x)
     on l m found (leaving gone both c mute) = absurd (uncounted (sends e) f t sent body mute)
     on l m found (sending role-is c some r x) =
         let one = same-some (sends e) x.frame f x.is_sent sent in
         let y : ◌≡◌ {A = Option Performative} (Some (heard.Transfer x.transfer)) (Some (heard.Transfer t)) = sym x.body ∙ ap (λ (f : Frame). f.body) one ∙ body in
         let z : x.transfer ≡ t = cc y in
         here (has_name Sender []) l found x.attached (ap (λ (t : TransferBody). t.handle) (sym z) ∙ x.handle)
-    on l m found (hearing j h first p numbers s' theirs early (inl x)) = aside x
-    on l m found (hearing j h first p numbers s' theirs early (inr x)) = absurd (no-told l m (sends e) f t sent body x)
+    on l m found (hearing j h first p numbers dr s' theirs early (inl x)) = aside x
+    on l m found (hearing j h first p numbers dr s' theirs early (inr x)) = absurd (no-told l m (sends e) f t sent body x)
 
     by : Turn Sender [] (at ca past) (at ca (e ∷ past)) (body_heard e.step) (sends e) → SentOn ca past t f.payload
     by (away gone (inl x)) = aside x.1

@@ -26,7 +26,7 @@ use Rattle.amqp_rules.specs.View.{LinkView, View, change_first, handle_of, has_n
 use Rattle.amqp_rules.specs.Refusing.{answered, first_refusal, if_there, unlinked}
 use Rattle.amqp_rules.specs.Opened.{no_reply}
 use Rattle.amqp_rules.specs.Sending.{frame_of, reply_ending}
-use Rattle.amqp_rules.specs.Telling.{session_flow, standing_flow}
+use Rattle.amqp_rules.specs.Telling.{flag, session_flow, standing_flow}
 use Rattle.amqp_rules.specs.Deliveries.{disposition_of, ended_by, sent_by_body}
 use Rattle.amqp_rules.specs.PeerBegin.{begin_violations}
 use Rattle.amqp_rules.specs.PeerAttach.{attach_heard_answer, attach_heard_reply, attach_violations, next_attach_heard}
@@ -50,7 +50,7 @@ use Rattle.amqp_pair_laws.proofs.Plain.{Answers}
 use Rattle.amqp_pair_laws.specs.World.{frame_among}
 use Rattle.amqp_pair_laws.proofs.Doing.{detach-sends, free-theirs, met-joins-at, peer-keeps, theirs-there}
 use Rattle.amqp_pair_laws.proofs.Named.{KeepsName, found-passes, joined-other, named-is, removed-other, removed-there, role-same, texts-same}
-use Rattle.amqp_pair_laws.proofs.Turns.{Goes, HeardNumbers, IsAside, IsUncounted, TellsFlow, Turn, attached-stays, away, both_ends, goes, hearing, is_counted, meets, rest-turn, rests}
+use Rattle.amqp_pair_laws.proofs.Turns.{Goes, HeardDrain, HeardNumbers, IsAside, IsUncounted, TellsFlow, Turn, attached-stays, away, both_ends, goes, hearing, is_counted, meets, rest-turn, rests}
 use Rattle.amqp_pair_laws.proofs.TurnOwn.{KeepsEnds, other-on, own-turn, plain, turn-on}
 
 abbrev BodyTurn : Role → List ℕ → View → Option Performative → List ℕ → Option Frame → Type 0
@@ -143,6 +143,11 @@ flow-numbers Receiver true b c = by (jump b.delivery_count c) c.credit (jump-few
     by j n h = omega (arith, h)
 flow-numbers Receiver false b c = omega arith
 
+flow-drain : (role : Role) (ours : Bool) (b : FlowBody) (c : CreditView) → HeardDrain role c (credit_heard role ours b c)
+flow-drain Sender ours b c = tt
+flow-drain Receiver true b c = refl
+flow-drain Receiver false b c = refl
+
 flow-early : (role : Role) (ours : Bool) (b : FlowBody) (c : CreditView) → ours ≡ false → flow_jump role ours b c ≡ 0
 flow-early Sender ours b c h = refl
 flow-early Receiver true b c h = absurd (cc (h))
@@ -165,15 +170,15 @@ echo-tells : (role : Role) (name : List ℕ) (v : View) (w : WindowsView) (l m :
     → IsAside role name v (Some (frame_of (Some (heard.Flow (echo_body w (Some m)))) [])) ⊎ TellsFlow l m (Some (frame_of (Some (heard.Flow (echo_body w (Some m)))) []))
 echo-tells role name v w l m same at' = by (is_attached m) refl
   where
-    of : (r : Role) → is_attached m ≡ true → TellsFlow l m (Some (frame_of (Some (heard.Flow (standing_flow w m r))) []))
-    of Sender a = record { frame = frame_of (Some (heard.Flow (standing_flow w m Sender))) []; flow = standing_flow w m Sender; attached = sym at' ∙ a; stays = attached-stays m a; is_sent = refl; body = refl; handle = ap (λ o. Some (handle_of o)) same; count = refl; credit = refl }
-    of Receiver a = record { frame = frame_of (Some (heard.Flow (standing_flow w m Receiver))) []; flow = standing_flow w m Receiver; attached = sym at' ∙ a; stays = attached-stays m a; is_sent = refl; body = refl; handle = ap (λ o. Some (handle_of o)) same; count = refl; credit = refl }
+    of : (r : Role) → m.role ≡ r → is_attached m ≡ true → TellsFlow l m (Some (frame_of (Some (heard.Flow (standing_flow w m r))) []))
+    of Sender is a = record { frame = frame_of (Some (heard.Flow (standing_flow w m Sender))) []; flow = standing_flow w m Sender; attached = sym at' ∙ a; stays = attached-stays m a; is_sent = refl; body = refl; handle = ap (λ o. Some (handle_of o)) same; count = refl; credit = refl; drains = λ r o. absurd (cc (is, r)) }
+    of Receiver is a = record { frame = frame_of (Some (heard.Flow (standing_flow w m Receiver))) []; flow = standing_flow w m Receiver; attached = sym at' ∙ a; stays = attached-stays m a; is_sent = refl; body = refl; handle = ap (λ o. Some (handle_of o)) same; count = refl; credit = refl; drains = λ r o. ap flag o }
 
     by : (attached : Bool) → is_attached m ≡ attached → IsAside role name v (Some (frame_of (Some (heard.Flow (cond attached (standing_flow w m m.role) (session_flow w)))) [])) ⊎ TellsFlow l m (Some (frame_of (Some (heard.Flow (cond attached (standing_flow w m m.role) (session_flow w)))) []))
-    by true e = inr (of m.role e)
+    by true e = inr (of m.role refl e)
     by false e = inl tt
 
-reply-sent : (echo : Bool) (w : WindowsView) (o : Option LinkView) → frame_among (flow_reply echo w o).sent ≡ cond echo (Some (frame_of (Some (heard.Flow (echo_body w o))) [])) None
+pub reply-sent : (echo : Bool) (w : WindowsView) (o : Option LinkView) → frame_among (flow_reply echo w o).sent ≡ cond echo (Some (frame_of (Some (heard.Flow (echo_body w o))) [])) None
 reply-sent true w o = refl
 reply-sent false w o = refl
 
@@ -203,6 +208,7 @@ flow-here role name v b h w echo l found n = by l.left refl
     by false e =
         hearing (flow_jump l.role (is_some l.ours) b l.credit) refl (flow-first l.role (is_some l.ours) b l.credit) (flow-passed l.role (is_some l.ours) b l.credit)
         (let r = (named-is role name l n).role_is in subst (λ (x : Role). HeardNumbers x (flow_jump l.role (is_some l.ours) b l.credit) l.credit.credit (credit_heard l.role (is_some l.ours) b l.credit).credit) (sym r) (flow-numbers l.role (is_some l.ours) b l.credit))
+        (let r = (named-is role name l n).role_is in subst (λ (x : Role). HeardDrain x l.credit (credit_heard l.role (is_some l.ours) b l.credit)) (sym r) (flow-drain l.role (is_some l.ours) b l.credit))
         refl theirs (λ u. (flow-early l.role (is_some l.ours) b l.credit u, refl))
         (by-echo (λ o. IsAside role name v o ⊎ TellsFlow l (flowed b l) o) echo (frame_of (Some (heard.Flow (echo_body w (Some (flowed b l))))) []) (echo-tells role name v w l (flowed b l) refl refl) (inl tt))
 
@@ -268,6 +274,10 @@ begun-credit None c some = by c.credit (some refl)
     by n h = grind (arith, h)
 begun-credit (Some d) c some = omega arith
 
+begun-drain : (d : Option Delivery) (c : CreditView) → (credit_used d c).drain ≡ c.drain
+begun-drain None c = refl
+begun-drain (Some d) c = refl
+
 receiver-is : (r : Role) → not (is_sender r) ≡ true → r ≡ Receiver
 receiver-is Sender h = absurd (cc (h))
 receiver-is Receiver h = refl
@@ -317,6 +327,7 @@ transfer-here role name v b payload reply a n = by a.on.left refl
         let some = a.ours in
         hearing (one_if a.on.receiving) refl (begun-first a.on.receiving a.on.credit) (begun-passed a.on.receiving a.on.credit)
         (subst (λ (x : Role). HeardNumbers x (one_if a.on.receiving) a.on.credit.credit (credit_used a.on.receiving a.on.credit).credit) (sym r) (begun-credit a.on.receiving a.on.credit (a.credit e)))
+        (subst (λ (x : Role). HeardDrain x a.on.credit (credit_used a.on.receiving a.on.credit)) (sym r) (begun-drain a.on.receiving a.on.credit))
         refl (theirs-there b.handle a.on (found-passes (has_peer_handle b.handle) v.links a.on a.found)) (λ u. absurd (cc (u, some))) (inl tt)
 
 transfer-turn : (role : Role) (name : List ℕ) (v : View) (b : TransferBody) (payload : List ℕ) (reply : Reply) → transfer_answer v b payload ≡ Ok reply → IsSound v

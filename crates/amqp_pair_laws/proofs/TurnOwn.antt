@@ -3,6 +3,8 @@ use Rattle.std.proofs.Common.{unwrap_or, ◌||◌, ◌≡◌, ◌≤◌, inr, �
 use Rattle.std.proofs.lemmas.List.{length-append}
 use Rattle.std.specs.Cmp.Lexicographic.{pointwise}
 use Rattle.amqp_flow.specs.Serial.{wire}
+use Rattle.amqp_flow.specs.Receiver.{granted}
+use Rattle.amqp_flow.specs.Sender.{sender_drained}
 use Rattle.amqp_performatives.specs.declared.bodies.Role.{Role}
 use Rattle.amqp_performatives.specs.declared.bodies.Role.TheVariants.{Sender, Receiver}
 use Rattle.amqp_performatives.specs.declared.bodies.TransferBody.{TransferBody}
@@ -50,7 +52,7 @@ use Rattle.amqp_pair_laws.specs.World.{frame_among}
 use Rattle.amqp_pair_laws.proofs.Doing.{IsOther, attach-joins-at, free-ours, us-keeps}
 use Rattle.amqp_pair_laws.proofs.Named.{KeepsName, changed-other, changed-there, joined-other, named-found, named-is, role-same, texts-same}
 use Rattle.amqp_pair_laws.proofs.Sends.{learn-silent, take-silent}
-use Rattle.amqp_pair_laws.proofs.Turns.{Carries, Fits, Goes, IsAside, IsUncounted, OwnNumbers, Turn, asks, attached-stays, away, both_ends, by_handle, goes, leaving, rest-turn, rests, sending, tells}
+use Rattle.amqp_pair_laws.proofs.Turns.{Carries, Fits, Goes, IsAside, IsUncounted, OwnDrain, OwnNumbers, Turn, asks, attached-stays, away, both_ends, by_handle, goes, leaving, rest-turn, rests, sending, tells}
 use Rattle.amqp_rules.specs.Suspend.{put_aside}
 use Rattle.amqp_rules.specs.declared.reply.Given.{Given}
 
@@ -289,6 +291,10 @@ abort-turn role name v link reply h s =
 
 -- # Flows
 
+no-receiver : (r : Role) → not (same_role Sender r) ≡ false → r ≡ Receiver → ⊥
+no-receiver Sender h is = absurd (cc (is))
+no-receiver Receiver h is = absurd (cc (h))
+
 same-wire : (p : ℕ) → wire p ≡ wire (p + 0)
 same-wire p = omega arith
 
@@ -307,8 +313,9 @@ grant-turn role name v link credit drain echo reply h s =
     (turn-on role name v (next_own v (own.Grant link credit drain echo)) None (Some f) (has_number link) (granted_on credit drain) l
     (plain _ (λ l. refl) (λ l. refl) (λ l. refl) (λ l. refl) (λ l h. h)) s o.found refl
     (λ n. tells 0 refl (same-wire l.credit.passed)
-    (subst (λ (r : Role). OwnNumbers r 0 l.credit.credit credit) (sym (role-of role name l n Receiver k.none_holds.1.0)) (refl, (not-over credit l.credit.credit keeps, not-over 2147483647 credit below))) refl refl
-    (record { frame = f; flow = grant_flow v.windows (granted_on credit drain l) drain echo; attached = attached; stays = attached-stays l attached; is_sent = refl; body = refl; handle = refl; count = refl; credit = refl }))
+    (subst (λ (r : Role). OwnNumbers r 0 l.credit.credit credit) (sym (role-of role name l n Receiver k.none_holds.1.0)) (refl, (not-over credit l.credit.credit keeps, not-over 2147483647 credit below)))
+    (subst (λ (r : Role). OwnDrain r l.credit (granted credit drain l.credit)) (sym (role-of role name l n Receiver k.none_holds.1.0)) tt) refl refl
+    (record { frame = f; flow = grant_flow v.windows (granted_on credit drain l) drain echo; attached = attached; stays = attached-stays l attached; is_sent = refl; body = refl; handle = refl; count = refl; credit = refl; drains = λ r o. ap flag (and-both drain (nat_lt 0 credit) o).0 }))
     (λ n. other-on role name v (has_number link) l o.found attached n))
   where
     not-over : (a b : ℕ) → nat_lt a b ≡ false → b ≤ a
@@ -327,8 +334,9 @@ offer-turn role name v link available reply h s =
     (turn-on role name v (next_own v (own.Offer link available)) None (Some f) (has_number link) (offered available) l
     (plain _ (λ l. refl) (λ l. refl) (λ l. refl) (λ l. refl) (λ l h. h)) s o.found refl
     (λ n. tells 0 refl (same-wire l.credit.passed)
-    (subst (λ (r : Role). OwnNumbers r 0 l.credit.credit l.credit.credit) (sym (role-of role name l n Sender k.none_holds.1.0)) (none-passed l.credit.credit)) refl refl
-    (record { frame = f; flow = sender_flow v.windows (offered available l) (flag l.credit.drain); attached = attached; stays = attached-stays l attached; is_sent = refl; body = refl; handle = refl; count = refl; credit = refl }))
+    (subst (λ (r : Role). OwnNumbers r 0 l.credit.credit l.credit.credit) (sym (role-of role name l n Sender k.none_holds.1.0)) (none-passed l.credit.credit))
+    (subst (λ (r : Role). OwnDrain r l.credit l.credit) (sym (role-of role name l n Sender k.none_holds.1.0)) (λ h. refl)) refl refl
+    (record { frame = f; flow = sender_flow v.windows (offered available l) (flag l.credit.drain); attached = attached; stays = attached-stays l attached; is_sent = refl; body = refl; handle = refl; count = refl; credit = refl; drains = λ r o. absurd (no-receiver l.role k.none_holds.1.0 r) }))
     (λ n. other-on role name v (has_number link) l o.found attached n))
   where
     none-passed : (c : ℕ) → c ≡ c + 0
@@ -347,8 +355,9 @@ drained-turn role name v link reply h s =
     (turn-on role name v (next_own v (own.Drained link)) None (Some f) (has_number link) drained l
     (plain _ (λ l. refl) (λ l. refl) (λ l. refl) (λ l. refl) (λ l h. h)) s o.found refl
     (λ n. tells l.credit.credit refl (twice-wire (l.credit.passed + l.credit.credit))
-    (subst (λ (r : Role). OwnNumbers r l.credit.credit l.credit.credit 0) (sym (role-of role name l n Sender k.none_holds.1.0)) (all-passed l.credit.credit)) refl refl
-    (record { frame = f; flow = sender_flow v.windows (drained l) (Some true); attached = attached; stays = attached-stays l attached; is_sent = refl; body = refl; handle = refl; count = refl; credit = refl }))
+    (subst (λ (r : Role). OwnNumbers r l.credit.credit l.credit.credit 0) (sym (role-of role name l n Sender k.none_holds.1.0)) (all-passed l.credit.credit))
+    (subst (λ (r : Role). OwnDrain r l.credit (sender_drained l.credit)) (sym (role-of role name l n Sender k.none_holds.1.0)) (λ h. absurd (omega (arith, h)))) refl refl
+    (record { frame = f; flow = sender_flow v.windows (drained l) (Some true); attached = attached; stays = attached-stays l attached; is_sent = refl; body = refl; handle = refl; count = refl; credit = refl; drains = λ r o. absurd (no-receiver l.role k.none_holds.1.0 r) }))
     (λ n. other-on role name v (has_number link) l o.found attached n))
   where
     twice-wire : (n : ℕ) → wire (wire n) ≡ wire n

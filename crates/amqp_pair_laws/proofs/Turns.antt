@@ -1,8 +1,9 @@
 -- What one accepted step does to the counts of the link of a role and a name, and what of it the other end is told.
-use Rattle.std.proofs.Common.{length, unwrap_or, ◌≡◌, ◌≤◌, ◌⊎◌, inl, ℕ, ◌+◌, ◌==◌, ◌&&◌, Bool, true, false, not, cond, Option, Some, None, List, refl, ◌∙◌, find, is_some, nat_eq, option_map, []}
+use Rattle.std.proofs.Common.{length, unwrap_or, ◌≡◌, ◌≤◌, ◌<◌, ◌⊎◌, inl, ℕ, ◌+◌, ◌==◌, ◌&&◌, Bool, true, false, not, cond, Option, Some, None, List, refl, ◌∙◌, find, is_some, nat_eq, option_map, []}
 use Rattle.std.specs.Cmp.Lexicographic.{pointwise}
 use Rattle.amqp_flow.specs.Serial.{wire}
-use Rattle.amqp_flow.specs.Credit.{delivery_begun, delivery_count}
+use Rattle.amqp_flow.specs.Credit.{CreditView, delivery_begun, delivery_count}
+use Rattle.amqp_flow.specs.Receiver.{has_open_drain}
 use Rattle.amqp_performatives.specs.declared.bodies.Role.{Role}
 use Rattle.amqp_performatives.specs.declared.bodies.Role.TheVariants.{Sender, Receiver}
 use Rattle.amqp_performatives.specs.declared.bodies.AttachBody.{AttachBody}
@@ -69,6 +70,8 @@ pub record TellsFlow (l m : LinkView) (sent : Option Frame) : Type 0 where
   pub handle : flow.handle ≡ Some (handle_of l.ours)
   pub count : flow.delivery_count ≡ Some (delivery_count m.credit)
   pub credit : flow.link_credit ≡ Some m.credit.credit
+  -- of a receiver, it asks to drain where a drain is open
+  pub drains : m.role ≡ Receiver → has_open_drain m.credit ≡ true → flow.drain ≡ Some true
 
 -- the mode of the sender's attach allows what an unfinished delivery says of being settled, and it was not brought in
 abbrev pub Fits : Option EndView → Option Delivery → Type 0
@@ -111,16 +114,28 @@ abbrev pub HeardNumbers : Role → ℕ → ℕ → ℕ → Type 0
 HeardNumbers Sender j c c' = j ≡ 0
 HeardNumbers Receiver j c c' = c ≡ c' + j
 
+-- # What becomes of a drain: c before the step, c' after it
+
+-- a sender that has credit left still wishes what it wished
+abbrev pub OwnDrain : Role → CreditView → CreditView → Type 0
+OwnDrain Sender c c' = 0 < c'.credit → c'.drain ≡ c.drain
+OwnDrain Receiver c c' = Unit {0}
+
+-- a receiver still asks what its last grant asked
+abbrev pub HeardDrain : Role → CreditView → CreditView → Type 0
+HeardDrain Sender c c' = Unit {0}
+HeardDrain Receiver c c' = c'.drain ≡ c.drain
+
 -- the link is l before the step, and m after it
 pub data Goes (role : Role) (name : List ℕ) (v : View) (hears : Bool) (l m : LinkView) (sent : Option Frame) : Type 0 where
   rests : m.credit ≡ l.credit → m.sending ≡ l.sending → m.receiving ≡ l.receiving → IsAside role name v sent → Goes role name v hears l m sent
   -- as rests, with a flow
-  tells : (j : ℕ) → m.credit.first_count ≡ l.credit.first_count → wire m.credit.passed ≡ wire (l.credit.passed + j) → OwnNumbers role j l.credit.credit m.credit.credit
+  tells : (j : ℕ) → m.credit.first_count ≡ l.credit.first_count → wire m.credit.passed ≡ wire (l.credit.passed + j) → OwnNumbers role j l.credit.credit m.credit.credit → OwnDrain role l.credit m.credit
       → m.sending ≡ l.sending → m.receiving ≡ l.receiving → TellsFlow l m sent → Goes role name v hears l m sent
   leaving : m.left ≡ true → both_ends l ≡ true → m.credit ≡ l.credit → IsUncounted sent → Goes role name v hears l m sent
   sending : role ≡ Sender → m.credit ≡ cond (is_some l.sending) l.credit (delivery_begun l.credit) → (is_some l.sending ≡ false → (l.credit.credit == 0) ≡ false) → m.receiving ≡ l.receiving
       → TellsTransfer (next_delivery v) l m sent → Goes role name v hears l m sent
-  hearing : (j : ℕ) → hears ≡ true → m.credit.first_count ≡ l.credit.first_count → wire m.credit.passed ≡ wire (l.credit.passed + j) → HeardNumbers role j l.credit.credit m.credit.credit
+  hearing : (j : ℕ) → hears ≡ true → m.credit.first_count ≡ l.credit.first_count → wire m.credit.passed ≡ wire (l.credit.passed + j) → HeardNumbers role j l.credit.credit m.credit.credit → HeardDrain role l.credit m.credit
       → m.sending ≡ l.sending → is_some l.theirs ≡ true → (is_some l.ours ≡ false → (j ≡ 0) × (m.receiving ≡ l.receiving)) → IsAside role name v sent ⊎ TellsFlow l m sent → Goes role name v hears l m sent
 
 pub data Turn (role : Role) (name : List ℕ) (v after : View) (hears : Option Performative) (sent : Option Frame) : Type 0 where

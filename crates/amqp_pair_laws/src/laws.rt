@@ -14,6 +14,7 @@ ghost use Rattle.amqp_pair_laws.specs.World.{World, Tight};
 ghost use Rattle.amqp_pair_laws.specs.States.{HasWhatItSaid, HearsWhatWasSaid};
 ghost use Rattle.amqp_pair_laws.specs.Learns.{LearnsWhatWasSaid};
 ghost use Rattle.amqp_pair_laws.specs.Taken.{IsNext, NextIsTaken};
+ghost use Rattle.amqp_pair_laws.specs.Agreeing.{CountsAgree, CreditIsKept, DrainsAgree, HearingEnds, LinksAgree, SessionsAgree, UnsettledAgree, WindowReopens, WindowsAgree};
 ghost use Rattle.amqp_pair_laws.specs.Takes.{TakesAll, TakesEver, TakesOnAttached, TakesWhatWasSent};
 
 /// The laws of worlds; the crate's root says each in a sentence.
@@ -36,4 +37,13 @@ pub fn laws()
     ensures lives { (ca cb : Config) (n : ℕ) (a b : List Entry) → Tight ca cb n a b → is_over (at cb b).session ≡ false → is_over (at ca a).session ≡ false }
     ensures ids { (ca cb : Config) (n : ℕ) (a b : List Entry) → Tight ca cb n a b → is_over (at cb b).session ≡ false → ids_heard (live b) ≡ ids_sent (live a) }
     ensures expected { (ca cb : Config) (n : ℕ) (a b : List Entry) (id : ℕ) → Tight ca cb n a b → is_over (at cb b).session ≡ false → (at cb b).expected ≡ Some id → id ≡ next_delivery (at ca a) }
+    ensures sessions { SessionsAgree }
+    ensures windows { WindowsAgree }
+    ensures links { LinksAgree }
+    ensures counts { CountsAgree }
+    ensures unsettled { UnsettledAgree }
+    ensures drains { DrainsAgree }
+    ensures granted { CreditIsKept }
+    ensures reopens { WindowReopens }
+    ensures ends { HearingEnds }
 {}

@@ -20,6 +20,21 @@
 //! | `lives` | and where its session is not over, the other's is not over |
 //! | `ids` | and then it has heard first transfers of the same ids as the other sent, in the same order |
 //! | `expected` | and the id that it expects next, if any, is that of the other's next delivery |
+//!
+//! When each end has heard all that the other sent, the two agree (`specs/Agreeing`); but for `sessions`, this is said while their sessions are mapped:
+//!
+//! | clause | law |
+//! |---|---|
+//! | `sessions` | each has heard the other's begin exactly if it was sent; both have heard an end, or neither; neither waits for the answer to its end |
+//! | `links` | each link of one end is a link of the other's, with both attaches crosswise, and neither end has left it |
+//! | `counts` | both ends of an attached link have the same delivery-count, credit and unfinished delivery |
+//! | `drains` | a drain that is open at the receiver is wished at the sender |
+//! | `windows` | the next transfer of one end is the one that the other awaits, and it may send as many as the other still takes |
+//! | `unsettled` | both ends hold the same unsettled deliveries in the same order; the state that is local at one end is remote at the other |
+//! | `granted` | the sender may begin as many deliveries as the receiver's journal granted, less those that the receiver has seen begun or given up |
+//! | `reopens` | after a refresh that was heard, as long as no transfer was heard since, the other end may send as many transfers as the window has |
+//!
+//! From any state, two ends that only hear, in any order, hear at most twice as many frames as were in flight (`ends`): no answer is answered.
 #![tactic(auto)]
 
 pub mod laws;

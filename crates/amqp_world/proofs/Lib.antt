@@ -10,3 +10,5 @@ pub mod Meeting
 pub mod Promising
 pub mod Sending
 pub mod Finding
+-- Two ends that hear each other until nothing waits.
+pub mod HeardMore

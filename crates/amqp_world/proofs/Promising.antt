@@ -1,5 +1,5 @@
 -- What holds of every two ends, by the laws of worlds; and two ends that have not begun.
-use Rattle.std.proofs.Common.{ℕ, ◌≡◌, ◌≤◌, ◌<◌, None, Some, List, [], false, true, find, option_map, inl, inr, arith, refl}
+use Rattle.std.proofs.Common.{ℕ, ◌≡◌, ◌≤◌, ◌<◌, ◌+◌, ◌*◌, None, Some, List, [], false, true, find, option_map, inl, inr, arith, refl, subst}
 use Rattle.amqp_performatives.specs.declared.bodies.TransferBody.{TransferBody}
 use Rattle.amqp_performatives.specs.declared.performative.Performative.TheVariants.{Transfer}
 use Rattle.amqp_frames.specs.declared.frame.Frame.{Frame}
@@ -20,12 +20,14 @@ use Rattle.amqp_pair_laws.specs.Taken.{IsNext, NextIsTaken}
 use Rattle.amqp_pair_laws.specs.Takes as takes
 use Rattle.amqp_pair_laws.specs.States as states
 use Rattle.amqp_pair_laws.specs.Learns as learns
+use Rattle.amqp_pair_laws.specs.Agreeing.{AtRest, CountsAgree, CreditIsKept, DrainsAgree, LinksAgree, SessionsAgree, UnsettledAgree, WindowReopens, WindowsAgree, on_way}
+use Rattle.amqp_pair_laws.specs.Agreeing as pairs
 use Rattle.amqp_world.specs.declared.heard.Hearing.{Hearing}
 use Rattle.amqp_world.specs.declared.side.Side.{Side}
 use Rattle.amqp_world.specs.declared.side.Side.TheVariants.{A, B}
 use Rattle.amqp_world.specs.Sides.{Sides, of, opened, other}
 use Rattle.amqp_world.specs.Knowing.{Meets, IsPair, unheard}
-use Rattle.amqp_world.specs.Promises.{AreReached, HasHeardAll, HasWhatItSaid, HearsWhatWasSaid, KnowsTheOther, LearnsWhatWasSaid, TakesAll, TakesEver, TakesNext, TakesOnAttached, TakesWhatWasSent, TransferFindsRoom}
+use Rattle.amqp_world.specs.Promises.{AgreesAtRest, AreReached, HasHeardAll, HasWhatItSaid, HearingEnds, HearsWhatWasSaid, KnowsTheOther, LearnsWhatWasSaid, TakesAll, TakesEver, TakesNext, TakesOnAttached, TakesWhatWasSent, TransferFindsRoom}
 
 -- # The start
 
@@ -138,3 +140,59 @@ knows-other begun lives ids expected mine theirs m =
       ids = ids theirs.config mine.config m.meets.moves (past theirs.journal) (past mine.journal) t;
       expected = expected theirs.config mine.config m.meets.moves (past theirs.journal) (past mine.journal) t;
     }
+
+-- the laws of two ends at rest
+pub record AtRestLaws : Type 0 where
+  pub sessions : SessionsAgree
+  pub windows : WindowsAgree
+  pub links : LinksAgree
+  pub counts : CountsAgree
+  pub drains : DrainsAgree
+  pub unsettled : UnsettledAgree
+  pub granted : CreditIsKept
+  pub reopens : WindowReopens
+
+pub agrees : AtRestLaws → (mine theirs : Log) → Met mine theirs → AgreesAtRest mine theirs
+agrees laws mine theirs m all all' = (
+  laws.sessions ca cb n a b rest,
+  λ mapped. record {
+    windows = laws.windows ca cb n a b rest mapped;
+    links = λ role name x fx. laws.links ca cb n a b rest mapped role name x fx;
+    counts = λ name x y fx fy ax ay. laws.counts ca cb n a b rest mapped name x y fx fy ax ay;
+    drains = λ name x y fx fy ax ay open'. laws.drains ca cb n a b rest mapped name x y fx fy ax ay open';
+    unsettled = laws.unsettled ca cb n a b rest mapped;
+    granted = λ name x y fx fy ax ay. laws.granted ca cb n a b rest mapped name x y fx fy ax ay;
+    reopens = λ refreshed. laws.reopens ca cb n a b rest mapped refreshed;
+  },
+)
+  where
+    ca : Config
+    ca = theirs.config
+
+    cb : Config
+    cb = mine.config
+
+    n : ℕ
+    n = m.meets.moves
+
+    a : List Entry
+    a = past theirs.journal
+
+    b : List Entry
+    b = past mine.journal
+
+    rest : AtRest ca cb n a b
+    rest = record { world = m.meets.world; heard = all; answered = all' }
+
+pub hearing-ends : pairs.HearingEnds → (mine theirs : Log) → Met mine theirs → HearingEnds mine theirs
+hearing-ends law mine theirs m =
+    λ k k' mine' theirs' reached' heard heard'.
+    let late : World theirs'.config mine'.config reached'.0 (past theirs'.journal) (past mine'.journal) = reached'.1 in
+    let late' : World theirs.config mine.config reached'.0 (past theirs'.journal) (past mine'.journal) =
+    subst (λ (c : Config). World theirs.config c reached'.0 (past theirs'.journal) (past mine'.journal)) heard.config
+    (subst (λ (c : Config). World c mine'.config reached'.0 (past theirs'.journal) (past mine'.journal)) heard'.config late) in
+    let bound = law theirs.config mine.config m.meets.moves reached'.0 (past theirs.journal) (past mine.journal) (past theirs'.journal) (past mine'.journal) k' k m.meets.world late' heard'.hears heard.hears in
+    turned (past mine.journal) (past theirs.journal) k k' bound
+  where
+    turned : (a b : List Entry) (k k' : ℕ) → k' + k ≤ 2 * on_way b a → k + k' ≤ 2 * on_way a b
+    turned a b k k' h = omega (arith, h)

@@ -6,5 +6,7 @@ pub mod Sides
 pub mod Calls
 -- what holds of every two ends
 pub mod Promises
+-- two ends that hear each other until nothing waits
+pub mod AtRest
 -- what the code keeps beside the journals
 pub mod Knowing

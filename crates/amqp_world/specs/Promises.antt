@@ -1,6 +1,6 @@
 -- What holds of every two ends that speak with each other, said of one that hears the other. `amqp_pair_laws` has these for journals; here they are of the
 -- journals of a World.
-use Rattle.std.specs.Prelude.{ℕ, ◌≡◌, ◌<◌, ◌⊎◌, true, false, None, Some, List, [], ◌++◌, IsOk, find, is_some, map, option_map}
+use Rattle.std.specs.Prelude.{ℕ, ◌≡◌, ◌≤◌, ◌<◌, ◌⊎◌, ◌+◌, ◌*◌, true, false, None, Some, List, [], ◌++◌, IsOk, find, is_some, map, option_map}
 use Rattle.amqp_performatives.specs.declared.bodies.Role.TheVariants.{Sender, Receiver}
 use Rattle.amqp_performatives.specs.declared.bodies.TransferBody.{TransferBody}
 use Rattle.amqp_performatives.specs.declared.performative.Performative.TheVariants.{Transfer}
@@ -8,7 +8,7 @@ use Rattle.amqp_frames.specs.declared.frame.Frame.{Frame}
 use Rattle.amqp_rules.specs.Answer.{heard_answer}
 use Rattle.amqp_rules.specs.Sound.{Every}
 use Rattle.amqp_rules.specs.PeerTransfer.{receives}
-use Rattle.amqp_rules.specs.View.{View, LinkView, has_name, has_peer_handle, is_attached, is_over, next_delivery}
+use Rattle.amqp_rules.specs.View.{View, LinkView, has_name, has_peer_handle, is_attached, is_mapped, is_over, next_delivery}
 use Rattle.amqp_laws.specs.declared.entry.Entry.{Entry}
 use Rattle.amqp_laws.specs.Past.{past}
 use Rattle.amqp_laws.specs.Live.{live}
@@ -21,6 +21,7 @@ use Rattle.amqp_pair_laws.specs.Passing.{content_of, passed_on, taken_on}
 use Rattle.amqp_pair_laws.specs.Takes.{IsFront, Source, WasAttached}
 use Rattle.amqp_pair_laws.specs.States.{said_state}
 use Rattle.amqp_pair_laws.specs.Learns.{WasSaid, all_learnt}
+use Rattle.amqp_pair_laws.specs.Agreeing.{AllLinksMeet, AllMeet, CountsMeet, DrainsMeet, EachAttached, HasRefreshed, HearsOn, IsGranted, SessionsMeet, WindowsMeet, on_way}
 use Rattle.amqp_world.specs.Calls.{waiting}
 
 -- the two journals are reached by moves: operations of an end, and the hearing of the other's next frame
@@ -98,3 +99,36 @@ HasWhatItSaid mine = is_over (view mine).session ≡ false → Every (λ i. i.lo
 -- all that was learnt the other had said: by the first of its operations that settled that delivery or gave it an outcome
 abbrev pub LearnsWhatWasSaid : Log → Log → Type 0
 LearnsWhatWasSaid mine theirs = Every (WasSaid theirs.config (past theirs.journal)) (all_learnt (past mine.journal))
+
+-- theirs sends and mine receives: they agree on windows, links, what is counted on them, drains, and unsettled deliveries
+pub record Agree (theirs mine : Log) : Type 0 where
+  pub windows : WindowsMeet (view theirs).windows (view mine).windows
+  pub links : AllLinksMeet (view theirs) (view mine)
+  pub counts : EachAttached CountsMeet (view theirs) (view mine)
+  pub drains : EachAttached DrainsMeet (view theirs) (view mine)
+  pub unsettled : AllMeet (view theirs).sent (view mine).received
+  -- no credit was lost: theirs may begin as many deliveries as mine granted and has not seen begun or given up
+  pub granted : EachAttached (IsGranted (past mine.journal)) (view theirs) (view mine)
+  -- no window is shut for good
+  pub reopens : HasRefreshed (past mine.journal) → (view theirs).windows.remote_incoming ≡ mine.config.window
+
+-- their sessions are in one phase, or have begun one after the other; and where they are mapped they agree
+abbrev pub IsAgreed : Log → Log → Type 0
+IsAgreed mine theirs = SessionsMeet (view theirs).session (view mine).session × (is_mapped (view theirs).session ≡ true → Agree theirs mine)
+
+-- so they are where each has heard all that the other sent
+abbrev pub AgreesAtRest : Log → Log → Type 0
+AgreesAtRest mine theirs = HasHeardAll mine theirs → HasHeardAll theirs mine → IsAgreed mine theirs
+
+-- # Hearing alone
+
+-- an end has heard so many frames more, and done nothing else
+pub record HasHeardMore (k : ℕ) (old new : Log) : Type 0 where
+  pub config : new.config ≡ old.config
+  pub hears : HearsOn k (past new.journal) (past old.journal)
+
+-- by hearing alone, in any order, at most twice as many frames are heard as are on their way
+abbrev pub HearingEnds : Log → Log → Type 0
+HearingEnds mine theirs =
+    (k k' : ℕ) (mine' theirs' : Log) → AreReached mine' theirs' → HasHeardMore k mine mine' → HasHeardMore k' theirs theirs'
+    → k + k' ≤ 2 * on_way (past mine.journal) (past theirs.journal)

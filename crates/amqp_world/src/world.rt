@@ -1,17 +1,18 @@
 //! Two ends that speak with each other.
-ghost use Rattle.std.specs.Prelude.{ℕ, ◌≡◌, IfOk, IfErr, OnErr, length, true, false, Some, IsOk};
+ghost use Rattle.std.specs.Prelude.{ℕ, ◌≡◌, ◌≤◌, ◌↔◌, IfOk, IfErr, OnErr, OnOk, IsTrue, is_none, length, take, true, false, Some, IsOk};
 ghost use Rattle.amqp_frames.specs.declared.frame.Frame.{Frame};
 ghost use Rattle.amqp_rules.specs.Limits.{IsWithinLimits};
 ghost use Rattle.amqp_laws.specs.Past.{past};
 ghost use Rattle.amqp_laws.specs.Live.{live};
 ghost use Rattle.amqp_journal.specs.Log.{Log};
-ghost use Rattle.amqp_pair_laws.specs.Moves.{count};
-ghost use Rattle.amqp_pair_laws.specs.World.{hears, World};
+ghost use Rattle.amqp_pair_laws.specs.Moves.{count, said_as};
+ghost use Rattle.amqp_pair_laws.specs.World.{hears, sends, World};
 ghost use Rattle.amqp_pair_laws.specs.Premise.{ids_heard};
 ghost use Rattle.amqp_world.specs.Sides.{of, other, opened};
 ghost use Rattle.amqp_world.specs.declared.side.Side.{Side};
-ghost use Rattle.amqp_world.specs.Promises.{AreReached, KnowsTheOther, TakesNext, TransferFindsRoom, TakesWhatWasSent, TakesEver, TakesOnAttached, TakesAll, HearsWhatWasSaid, HasWhatItSaid, LearnsWhatWasSaid};
+ghost use Rattle.amqp_world.specs.Promises.{AgreesAtRest, AreReached, HearingEnds, IsAgreed, KnowsTheOther, TakesNext, TransferFindsRoom, TakesWhatWasSent, TakesEver, TakesOnAttached, TakesAll, HearsWhatWasSaid, HasWhatItSaid, LearnsWhatWasSaid};
 ghost use Rattle.amqp_world.specs.Calls.{Does, IsRefused, Hears, IsUnheard};
+ghost use Rattle.amqp_world.specs.AtRest.{HaveHeard, IsAtRest, IsBounded, IsStopped, Turned, how_far};
 ghost use Rattle.amqp_world.specs.Knowing.{Knows, Meets};
 ghost use Rattle.amqp_world.specs.declared.heard.Hearing.{Hearing};
 
@@ -21,6 +22,7 @@ use crate::next::{next_frame, whole};
 use crate::refusal::{HearRefusal, WorldRefusal};
 use crate::resuming::resumes;
 use crate::settings::Settings;
+use crate::settling::{Settled, Turn, Unsettled};
 use crate::side::Side;
 use amqp_journal::logged::Logged;
 use amqp_pair_laws::laws::laws;
@@ -146,6 +148,9 @@ impl World {
     /// of a delivery the other had said of it, as its own, when it settled it or gave it an outcome first (`learnt`). Where all frames were heard, an
     /// end knows whether the other has begun its session, and, as long as its own is not over, that the other's is not, the ids of all its deliveries and
     /// the next one (`knows`).
+    ///
+    /// When each end has heard all that the other sent, they agree on their sessions, and while these are mapped on windows, links, counts, credit, drains
+    /// and unsettled deliveries (`agree`). Two ends that only hear, in any order, hear at most twice as many frames as were in flight (`ends`).
     pub fn laws(&self)
         ensures reached { (side : Side) → AreReached (of side self.now) (of (other side) self.now) }
         ensures next { (side : Side) → TakesNext (of side self.now) (of (other side) self.now) }
@@ -158,9 +163,81 @@ impl World {
         ensures own { (side : Side) → HasWhatItSaid (of side self.now) }
         ensures knows { (side : Side) → KnowsTheOther (of side self.now) (of (other side) self.now) }
         ensures learnt { (side : Side) → LearnsWhatWasSaid (of side self.now) (of (other side) self.now) }
+        ensures agree { (side : Side) → AgreesAtRest (of side self.now) (of (other side) self.now) }
+        ensures ends { (side : Side) → HearingEnds (of side self.now) (of (other side) self.now) }
     {
         let _ = &self.a;
         laws();
+    }
+
+    /// Returns whether nothing is on its way: each end has heard all frames with a body that the other sent.
+    ///
+    /// Looks at the entries behind the last frame that each end heard.
+    pub fn at_rest(&self) -> bool
+        ensures { IsTrue result ↔ IsAtRest self.now }
+    {
+        has_heard_all(&self.b, self.a_hears.place) && has_heard_all(&self.a, self.b_hears.place)
+    }
+
+    /// Hears at both ends until nothing waits, and returns how many frames each end heard.
+    ///
+    /// These are at most twice as many as were on their way (`bounded`), since no answer is answered. Then the two ends agree (`agree`): their sessions are
+    /// in one phase, and while these are mapped they have the same links, counts, credit, windows and unsettled deliveries. An end does nothing but
+    /// hear (`heard`), also before an error.
+    ///
+    /// # Errors
+    ///
+    /// [`Unsettled`] with `JournalFull` or `NoMemory` if an end cannot hear what waits for it. It says how far both came, and the frame still waits.
+    pub fn settle(&mut self) -> Result<Settled, Unsettled>
+        ensures heard { HaveHeard (how_far result) self.old self.new }
+        ensures bounded { IsBounded (how_far result) self.old }
+        ensures rest { OnOk result (IsAtRest self.new) }
+        ensures agree { OnOk result ((side : Side) → IsAgreed (of side self.new) (of (other side) self.new)) }
+        ensures stops { IfErr result (λ stop. IsStopped stop.side stop.refusal self.new) }
+    {
+        let mut heard = Settled { a: 0, b: 0 };
+        self.laws();
+        loop {
+            match self.hear_any() {
+                Turn::Heard(Side::A) => heard.a += 1,
+                Turn::Heard(Side::B) => heard.b += 1,
+                Turn::Rests => {
+                    self.laws();
+                    return Ok(heard);
+                }
+                Turn::Stops(side, refusal) => {
+                    return Err(Unsettled {
+                        side,
+                        refusal,
+                        heard,
+                    });
+                }
+            }
+        }
+    }
+
+    /// Hears the next frame at the first end for which one waits.
+    fn hear_any(&mut self) -> Turn
+        ensures { Turned result self.old self.new }
+    {
+        match self.hear(Side::A) {
+            Ok(_) => {
+                self.laws();
+                return Turn::Heard(Side::A);
+            }
+            Err(HearRefusal::Empty) => {}
+            Err(refusal) => return Turn::Stops(Side::A, refusal),
+        }
+        match self.hear(Side::B) {
+            Ok(_) => {
+                self.laws();
+                return Turn::Heard(Side::B);
+            }
+            Err(HearRefusal::Empty) => {}
+            Err(refusal) => return Turn::Stops(Side::B, refusal),
+        }
+        self.laws();
+        Turn::Rests
     }
 
     /// How much one end heard of the other.
@@ -177,6 +254,16 @@ impl World {
             firsts: hearing.firsts,
         }
     }
+}
+
+/// Nothing was sent at this place in the other's journal, or behind it.
+fn has_heard_all(theirs: &Logged, place: usize) -> bool
+    requires whole { theirs.now.forgotten ≡ 0 }
+    requires within { place ≤ length theirs.now.journal }
+    ensures { result ≡ is_none (said_as sends (count sends (past (take place theirs.now.journal))) (past theirs.now.journal)) }
+{
+    let mut place = place;
+    next_frame(whole(theirs), &mut place).is_none()
 }
 
 /// A session that was told the longest frame that the other takes.

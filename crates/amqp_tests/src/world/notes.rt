@@ -3,6 +3,8 @@
 use super::calls::{EMPTY, LINK, OFFERED, Said, hear, is_done, own};
 use super::dice::Dice;
 use crate::acts::Act;
+use amqp_journal::entry::Entry;
+use amqp_rules::reply::Given;
 use amqp_world::side::Side;
 use amqp_world::world::World;
 use std::alloc::Global;
@@ -95,6 +97,12 @@ impl Notes {
         }
     }
 
+    /// Looks up the newest link of either end in its journal.
+    pub fn look(&mut self, world: &World) {
+        self.newest_a = newest_in(world.side(Side::A).journal());
+        self.newest_b = newest_in(world.side(Side::B).journal());
+    }
+
     /// Notes the link that was made, if any: links are numbered in their order.
     fn note(&mut self, side: Side, said: Said) {
         if let Some((LINK | OFFERED, link)) = said {
@@ -104,6 +112,17 @@ impl Notes {
             }
         }
     }
+}
+
+/// The newest link that the entries made; 0 where they made none.
+fn newest_in(entries: &[Entry]) -> u32 {
+    let mut newest = 0u32;
+    for entry in entries {
+        if let Given::Link(link) | Given::Offered(link) = &entry.reply.given {
+            newest = (*link).max(newest);
+        }
+    }
+    newest
 }
 
 /// Does the operation, if it may.

@@ -1,8 +1,9 @@
 //! Two ends that do what the dice say, and hear each other when the dice say so.
 
+use super::agreeing::{settle, settle_over};
 use super::choosing::{FIRST, accept_all, turn};
 use super::lists::{complete, count, count_taken, judge, source};
-use super::notes::{Notes, Tally, does, hears};
+use super::notes::{Notes, Tally, does};
 use crate::acts::Act;
 use amqp_rules::config::Config;
 use amqp_rules::status::LinkPhase;
@@ -54,27 +55,28 @@ fn play(notes: Notes) -> Tally {
 }
 
 /// Both begin, and take turns; then both hear and take all, and learn what the other says of it. One ends its session, of which the other may hear
-/// while it goes on.
+/// while it goes on; then both hear all again. Each time that nothing is on its way they agree.
 fn play_with(world: &mut World, notes: &mut Notes) {
     does(world, notes, Side::A, Act::Begin);
     does(world, notes, Side::B, Act::Begin);
     turns(world, notes, TURNS);
     judge_both(world, notes);
-    settle(world, notes);
+    finish(world, notes);
     let side = notes.side();
     does(world, notes, side, Act::End);
     turns(world, notes, LAST);
+    settle_over(world, notes);
     judge_both(world, notes);
     count(&mut notes.tally, world.side(Side::A).journal());
     count(&mut notes.tally, world.side(Side::B).journal());
 }
 
 /// Both hear and take all, and learn what the other says of it.
-fn settle(world: &mut World, notes: &mut Notes) {
-    hear_all(world, notes);
+fn finish(world: &mut World, notes: &mut Notes) {
+    settle(world, notes);
     take_all(world, notes, Side::A);
     take_all(world, notes, Side::B);
-    hear_all(world, notes);
+    settle(world, notes);
     learn_all(world, notes, Side::A);
     learn_all(world, notes, Side::B);
 }
@@ -89,17 +91,6 @@ fn judge_both(world: &World, notes: &mut Notes) {
     let (a, b) = (world.side(Side::A).journal(), world.side(Side::B).journal());
     judge(&mut notes.tally, a, b);
     judge(&mut notes.tally, b, a);
-}
-
-/// Both hear, until neither has anything to hear. Hearing sends little, so there is an end.
-fn hear_all(world: &mut World, notes: &mut Notes) {
-    for _ in 0..u32::MAX {
-        let a = hears(world, notes, Side::A);
-        let b = hears(world, notes, Side::B);
-        if !a && !b {
-            return;
-        }
-    }
 }
 
 /// The end takes all that waits on each of its links, and accepts it; then all was taken that the other sent complete.
@@ -149,7 +140,8 @@ fn is_attached(world: &World, side: Side, link: u32) -> bool {
     }
 }
 
-/// No frame is a violation, what is taken is what was sent, and what is learnt is what was said; and all that is looked for came about.
+/// No frame is a violation, what is taken is what was sent, what is learnt is what was said, and both agree once nothing is on its way; and all that is looked
+/// for came about.
 #[test]
 fn whatever_both_do(rt: HostRuntime) {
     assert!(rt; play_all(rt.alloc()).is_right());

@@ -9,6 +9,12 @@ use Rattle.amqp_pair_laws.proofs.Over.{behind-lives}
 use Rattle.amqp_pair_laws.proofs.Ids.{ids-known}
 use Rattle.amqp_pair_laws.proofs.TransferMet.{credit-there, link-there}
 use Rattle.amqp_pair_laws.proofs.Expected.{expected-known}
+use Rattle.amqp_pair_laws.proofs.Resting.{counts-agree, drains-agree, links-agree, windows-agree}
+use Rattle.amqp_pair_laws.proofs.Granted.{credit-is-kept}
+use Rattle.amqp_pair_laws.proofs.Reopens.{window-reopens}
+use Rattle.amqp_pair_laws.proofs.HearingEnds.{hearing-ends}
+use Rattle.amqp_pair_laws.proofs.Unsettled.{unsettled-agree}
+use Rattle.amqp_pair_laws.proofs.Ended.{sessions-agree}
 use Rattle.amqp_pair_laws.proofs.laws.laws.Goals as goal
 
 pub returns-clause-taken : goal.returns-clause-taken
@@ -55,3 +61,30 @@ returns-clause-expected t = λ ca cb n a b id w lives is. expected-known ca cb n
 
 pub returns-clause-link : goal.returns-clause-link
 returns-clause-link t = λ ca cb n a b f b' w waits is lives. link-there ca cb n a b f b' w waits is lives
+
+pub returns-clause-sessions : goal.returns-clause-sessions
+returns-clause-sessions t = λ ca cb n a b r. sessions-agree ca cb n a b r
+
+pub returns-clause-windows : goal.returns-clause-windows
+returns-clause-windows t = λ ca cb n a b r mapped. windows-agree ca cb n a b r mapped
+
+pub returns-clause-links : goal.returns-clause-links
+returns-clause-links t = λ ca cb n a b r mapped role name x fx. links-agree ca cb n a b r mapped role name x fx
+
+pub returns-clause-counts : goal.returns-clause-counts
+returns-clause-counts t = λ ca cb n a b r mapped name x y fx fy ax ay. counts-agree ca cb n a b r mapped name x y fx fy ax ay
+
+pub returns-clause-unsettled : goal.returns-clause-unsettled
+returns-clause-unsettled t = λ ca cb n a b r mapped. unsettled-agree ca cb n a b r mapped
+
+pub returns-clause-drains : goal.returns-clause-drains
+returns-clause-drains t = λ ca cb n a b r mapped name x y fx fy ax ay open'. drains-agree ca cb n a b r mapped name x y fx fy ax ay open'
+
+pub returns-clause-granted : goal.returns-clause-granted
+returns-clause-granted t = λ ca cb n a b r mapped name x y fx fy ax ay. credit-is-kept ca cb n a b r mapped name x y fx fy ax ay
+
+pub returns-clause-reopens : goal.returns-clause-reopens
+returns-clause-reopens t = λ ca cb n a b r mapped refreshed. window-reopens ca cb n a b r mapped refreshed
+
+pub returns-clause-ends : goal.returns-clause-ends
+returns-clause-ends t = λ ca cb n n' a b late late' k k' w w' on on'. hearing-ends ca cb n n' a b late late' k k' w w' on on'

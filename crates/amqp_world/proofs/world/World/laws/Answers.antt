@@ -1,7 +1,7 @@
 use Rattle.std.proofs.Common.{subst}
 use Rattle.amqp_world.specs.Sides.{Sides, of, other}
 use Rattle.amqp_world.specs.Knowing.{IsPair}
-use Rattle.amqp_world.proofs.Promising.{either, finds-room, has-said, hears-said, knows-other, learns-said, reached, takes-all, takes-ever, takes-next, takes-on-attached, takes-sent}
+use Rattle.amqp_world.proofs.Promising.{agrees, either, finds-room, has-said, hearing-ends, hears-said, knows-other, learns-said, reached, takes-all, takes-ever, takes-next, takes-on-attached, takes-sent}
 use Rattle.amqp_world.proofs.world.World.laws.Goals as goal
 
 pub returns-clause-reached : goal.returns-clause-reached
@@ -73,4 +73,27 @@ returns-clause-knows c =
     knows-other c.laws.ensures.begun c.laws.ensures.lives c.laws.ensures.ids
     (λ ca cb n a b t id lives is. c.laws.ensures.expected ca cb n a b id t lives is)
     (of side c.args.self.now) (of (other side) c.args.self.now)
+    (either c.self.inside.a_hears c.self.inside.b_hears c.args.self.now (subst (λ (w : Sides). IsPair c.self.inside.a_hears c.self.inside.b_hears w.a w.b) c.self.view_is c.self.invariant) side)
+
+pub returns-clause-agree : goal.returns-clause-agree
+returns-clause-agree c =
+    λ side.
+    agrees
+    (record {
+      sessions = c.laws.ensures.sessions;
+      windows = c.laws.ensures.windows;
+      links = c.laws.ensures.links;
+      counts = c.laws.ensures.counts;
+      drains = c.laws.ensures.drains;
+      unsettled = c.laws.ensures.unsettled;
+      granted = c.laws.ensures.granted;
+      reopens = c.laws.ensures.reopens;
+    })
+    (of side c.args.self.now) (of (other side) c.args.self.now)
+    (either c.self.inside.a_hears c.self.inside.b_hears c.args.self.now (subst (λ (w : Sides). IsPair c.self.inside.a_hears c.self.inside.b_hears w.a w.b) c.self.view_is c.self.invariant) side)
+
+pub returns-clause-ends : goal.returns-clause-ends
+returns-clause-ends c =
+    λ side.
+    hearing-ends c.laws.ensures.ends (of side c.args.self.now) (of (other side) c.args.self.now)
     (either c.self.inside.a_hears c.self.inside.b_hears c.args.self.now (subst (λ (w : Sides). IsPair c.self.inside.a_hears c.self.inside.b_hears w.a w.b) c.self.view_is c.self.invariant) side)
