@@ -6,6 +6,7 @@ use amqp_conn::{
     Bytes, CloseRefusal, Conn, DeliveryState, Given, Op, Phase, Refusal, Role, Tag, Text,
 };
 use amqp_endpoint::status::LinkPhase;
+use amqp_policy::{has_more, part};
 use amqp_ready::{ANSWERS, Handler, Lent, Next};
 use std::alloc::Global;
 
@@ -252,23 +253,22 @@ impl Hand {
             return Err(Refusal::NotWritable);
         };
         let length = self.payload.len();
-        let payload = self.part(0, length.min(PART))?;
+        let payload = self.part(0)?;
         conn.perform(Op::Start {
             link: LINK,
             tag,
             format: 0,
             settled: self.messages.settled,
             payload,
-            more: length > PART,
+            more: has_more(length, 0, PART),
         })?;
         self.counts.begun = self.counts.begun.saturating_add(1);
         self.make_room(conn);
         self.carry_all(conn, length)
     }
 
-    fn part(&self, from: usize, to: usize) -> Result<Bytes, Refusal> {
-        let to = to.min(self.payload.len());
-        match self.payload.slice(from.min(to)..to) {
+    fn part(&self, from: usize) -> Result<Bytes, Refusal> {
+        match part(&self.payload, from, PART) {
             Ok(part) => Ok(part),
             Err(_) => Err(Refusal::NoMemory),
         }
@@ -283,14 +283,13 @@ impl Hand {
             if from >= length {
                 break;
             }
-            let to = length.min(from.saturating_add(PART));
-            let payload = self.part(from, to)?;
+            let payload = self.part(from)?;
             conn.perform(Op::Carry {
                 link: LINK,
                 payload,
-                more: to < length,
+                more: has_more(length, from, PART),
             })?;
-            from = to;
+            from = from.saturating_add(PART);
         }
         Ok(())
     }

@@ -5,6 +5,7 @@ use crate::inbox::Inbox;
 use crate::keeping::make_room;
 use amqp_conn::{ConnFault, Octets, Phase};
 use amqp_frames::Role;
+use amqp_policy::is_window_due;
 use amqp_rules::op::Op;
 use amqp_rules::refusal::Refusal;
 use amqp_rules::status::LinkPhase;
@@ -259,7 +260,7 @@ impl<'a, N: Name> Reading<'a, N> {
             self.stage = Stage::Runs;
         }
         if self.stage == Stage::Runs
-            && guard.conn().logged().endpoint().windows().incoming <= WINDOW / 2
+            && is_window_due(guard.conn().logged().endpoint().windows().incoming, WINDOW)
         {
             self.does(guard, &Op::Refresh { echo: false })?;
         }

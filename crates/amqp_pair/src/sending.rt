@@ -11,6 +11,7 @@ use crate::reading::LINK;
 use amqp_frames::DeliveryState;
 use amqp_journal::logged::Logged;
 use amqp_journal::receipt::Receipt;
+use amqp_policy::{has_more, part};
 use amqp_rules::op::Op;
 use amqp_rules::refusal::Refusal;
 use amqp_rules::reply::Given;
@@ -192,7 +193,7 @@ impl Messages {
             format: 0,
             settled: self.settled,
             payload: self.part(0)?,
-            more: MAX_PAYLOAD < self.payload.len(),
+            more: has_more(self.payload.len(), 0, MAX_PAYLOAD),
         })
     }
 
@@ -201,16 +202,13 @@ impl Messages {
         Ok(Op::Carry {
             link: LINK,
             payload: self.part(from)?,
-            more: from.saturating_add(MAX_PAYLOAD) < self.payload.len(),
+            more: has_more(self.payload.len(), from, MAX_PAYLOAD),
         })
     }
 
     /// What one transfer takes of the payload from this place on. It shares the payload's octets.
     fn part(&self, from: usize) -> Result<Bytes, Refusal> {
-        let size = self.payload.len();
-        let from = from.min(size);
-        let end = from.saturating_add(MAX_PAYLOAD).min(size);
-        match self.payload.slice(from..end) {
+        match part(&self.payload, from, MAX_PAYLOAD) {
             Ok(part) => Ok(part),
             Err(_) => Err(Refusal::NoMemory),
         }
