@@ -7,12 +7,12 @@ use std::alloc::Global;
 /// One end of a connection, and what stands of it: what it does without waiting for its peer.
 #[derive(Drop)]
 pub struct End {
-    pub(crate) alloc: Global,
-    pub(crate) conn: Conn,
-    pub(crate) partings: Partings,
-    pub(crate) waits: Waits,
+    pub alloc: Global,
+    pub conn: Conn,
+    pub partings: Partings,
+    pub waits: Waits,
     /// Our attach went out: from here on a session that is not mapped is one that the peer has ended.
-    pub(crate) is_opened: bool,
+    pub is_opened: bool,
     /// Half of the incoming window, in transfers.
     half_window: u32,
     /// Nothing more is sent: credit that the peer wants back is given up.
@@ -20,11 +20,11 @@ pub struct End {
 }
 
 /// The number of the one link.
-pub(crate) const LINK: u32 = 0;
+pub const LINK: u32 = 0;
 
 /// Hears how the link ends.
 #[derive(Clone, Copy)]
-pub(crate) struct Partings {
+pub struct Partings {
     /// It was detached for good (part 2, 2.6.6): neither end keeps anything of it.
     is_for_good: bool,
 }
@@ -47,7 +47,7 @@ impl Hears for Partings {
 
 /// What the peer does next, and is waited for.
 #[derive(Clone, Copy)]
-pub(crate) enum Awaited {
+pub enum Awaited {
     /// It begins its session.
     Begin,
     /// It offers a link.
@@ -64,11 +64,7 @@ impl End {
     /// # Errors
     ///
     /// `Start` where a setting is out of its limits, or memory is refused.
-    pub(crate) fn new(
-        alloc: Global,
-        config: Config,
-        patience: Option<u32>,
-    ) -> Result<End, ClientFault> {
+    pub fn new(alloc: Global, config: Config, patience: Option<u32>) -> Result<End, ClientFault> {
         let half_window = config.window / 2;
         match Conn::new(alloc, config) {
             Ok(conn) => Ok(End {
@@ -90,7 +86,7 @@ impl End {
     }
 
     /// A turn is over: a beat is put out where one is due, the window is renewed, and credit is given up where it is wanted back.
-    pub(crate) fn keep_up(&mut self) {
+    pub fn keep_up(&mut self) {
         self.beat_if_due();
         // Half of the window is used (part 2, 2.5.6), maybe while a message is on its way.
         if self.conn.logged().endpoint().windows().incoming <= self.half_window {
@@ -129,7 +125,7 @@ impl End {
     }
 
     /// What the peer says may change it.
-    pub(crate) fn is_early(&self, refusal: Refusal) -> bool {
+    pub fn is_early(&self, refusal: Refusal) -> bool {
         match refusal {
             Refusal::NotMapped => !self.is_opened,
             Refusal::NotRunning
@@ -142,7 +138,7 @@ impl End {
     }
 
     /// The peer has done it, or will not do it any more.
-    pub(crate) fn is_over(&self, awaited: Awaited) -> bool {
+    pub fn is_over(&self, awaited: Awaited) -> bool {
         match awaited {
             Awaited::Begin => self.conn.logged().endpoint().windows().next_in.is_some(),
             Awaited::Offer => self.has_link(),
@@ -155,12 +151,12 @@ impl End {
     }
 
     /// The one link, where it was not left.
-    pub(crate) fn link(&self) -> Option<&Link> {
+    pub fn link(&self) -> Option<&Link> {
         self.conn.logged().endpoint().link_of(LINK)
     }
 
     /// The link was not left. It stays where the connection alone has ended.
-    pub(crate) fn has_link(&self) -> bool {
+    pub fn has_link(&self) -> bool {
         self.link().is_some()
     }
 
@@ -170,7 +166,7 @@ impl End {
     }
 
     /// The link was detached for good once both ends had it: what is in doubt on it is over.
-    pub(crate) fn is_gone_for_good(&self) -> bool {
+    pub fn is_gone_for_good(&self) -> bool {
         self.is_opened && self.partings.is_for_good
     }
 
@@ -179,7 +175,7 @@ impl End {
     /// # Errors
     ///
     /// `Refused` where the peer has put it aside, or has ended the session.
-    pub(crate) fn unless_aside(&self) -> Result<(), ClientFault> {
+    pub fn unless_aside(&self) -> Result<(), ClientFault> {
         if self.has_link() || self.partings.is_for_good {
             Ok(())
         } else {

@@ -47,7 +47,7 @@ impl End {
     }
 
     /// Closes the connection of a peer that is silent, which is told so. False where that cannot be put out.
-    pub(crate) fn close_silent(&mut self) -> bool {
+    pub fn close_silent(&mut self) -> bool {
         match silence(self.alloc) {
             Ok(error) => self.conn.close(Some(error)).is_ok(),
             Err(_) => false,

@@ -145,7 +145,7 @@ pub fn open<S: Session>(session: &mut S, wanted: Wanted<'_>) -> Result<(), Clien
 }
 
 /// As `open`, with a link that brings in deliveries of these tags (part 2, 2.6.13).
-pub(crate) fn open_again<S: Session>(
+pub fn open_again<S: Session>(
     session: &mut S,
     wanted: Wanted<'_>,
     tags: &[Tag],
@@ -175,13 +175,13 @@ pub fn answer<S: Session>(session: &mut S, role: Role) -> Result<(), ClientFault
 }
 
 /// Answers the link that the peer offers, which brings in deliveries of these tags.
-pub(crate) fn answer_again<S: Session>(session: &mut S, tags: &[Tag]) -> Result<(), ClientFault> {
+pub fn answer_again<S: Session>(session: &mut S, tags: &[Tag]) -> Result<(), ClientFault> {
     let attach = session.end().answer_with(tags);
     perform_attach(session, attach)
 }
 
 /// Waits until the peer has begun its session, which is answered, and offers a link, which is to be for this role of ours: the link's name.
-pub(crate) fn await_link<S: Session>(session: &mut S, role: Role) -> Result<Text, ClientFault> {
+pub fn await_link<S: Session>(session: &mut S, role: Role) -> Result<Text, ClientFault> {
     wait_for(session, Awaited::Begin)?;
     perform(session, Op::Begin)?;
     wait_for(session, Awaited::Offer)?;
@@ -189,7 +189,7 @@ pub(crate) fn await_link<S: Session>(session: &mut S, role: Role) -> Result<Text
 }
 
 /// Waits until the peer has attached our link, too.
-pub(crate) fn await_attached<S: Session>(session: &mut S) -> Result<(), ClientFault> {
+pub fn await_attached<S: Session>(session: &mut S) -> Result<(), ClientFault> {
     wait_for(session, Awaited::Attach)?;
     match session.end().link() {
         Some(_) => Ok(()),

@@ -25,7 +25,7 @@ impl End {
     }
 
     /// The next message that is there; none where there is none, or the link is gone.
-    pub(crate) fn take_ready(&mut self) -> Result<Option<Boxed<Taken>>, ClientFault> {
+    pub fn take_ready(&mut self) -> Result<Option<Boxed<Taken>>, ClientFault> {
         match self.take_now() {
             Ok(taken) => Ok(taken),
             Err(Refusal::NoMemory) => Err(ClientFault::NoMemory),
@@ -34,7 +34,7 @@ impl End {
     }
 
     /// What the link left, which is gone (part 2, 2.6.6); none where it left nothing more.
-    pub(crate) fn take_last(&mut self) -> Result<Option<Boxed<Taken>>, ClientFault> {
+    pub fn take_last(&mut self) -> Result<Option<Boxed<Taken>>, ClientFault> {
         match self.conn.pop_left_by(Role::Receiver, LINK) {
             Ok(Some(left)) => Ok(left_of(left)),
             Ok(None) => Ok(None),
@@ -51,7 +51,7 @@ impl End {
     }
 
     /// The delivery with this tag waits to be resumed by the sender.
-    pub(crate) fn waits(&self, tag: &Tag) -> bool {
+    pub fn waits(&self, tag: &Tag) -> bool {
         match self.link() {
             Some(link) => link.waits(tag),
             None => false,
@@ -59,7 +59,7 @@ impl End {
     }
 
     /// The id of the delivery with this tag, where it is unsettled. O(n) for n of them.
-    pub(crate) fn held(&self, tag: &Tag) -> Option<u32> {
+    pub fn held(&self, tag: &Tag) -> Option<u32> {
         let endpoint = self.conn.logged().endpoint();
         for place in 0..endpoint.unsettled_len(Role::Receiver) {
             match endpoint.unsettled_at(Role::Receiver, place) {
@@ -71,7 +71,7 @@ impl End {
     }
 
     /// How many deliveries wait to be resumed by the sender. O(n) for n of them.
-    pub(crate) fn waiting_len(&self) -> u32 {
+    pub fn waiting_len(&self) -> u32 {
         let endpoint = self.conn.logged().endpoint();
         for place in 0..u32::MAX {
             if endpoint.waiting_at(LINK, place as usize).is_none() {

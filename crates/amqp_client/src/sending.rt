@@ -35,7 +35,7 @@ pub struct Told {
 
 impl Told {
     /// The peer is done with the message.
-    pub(crate) fn is_last(&self) -> bool {
+    pub fn is_last(&self) -> bool {
         self.settled || !matches!(self.outcome, Outcome::Unknown)
     }
 }
@@ -103,7 +103,7 @@ fn told_of(learned: &Learned) -> Told {
 }
 
 /// The number that `send` put into the tag.
-pub(crate) fn number_of(tag: &Tag) -> u32 {
+pub fn number_of(tag: &Tag) -> u32 {
     match tag.octets() {
         [a, b, c, d, ..] => u32::from_be_bytes([*a, *b, *c, *d]),
         _ => 0,
@@ -154,17 +154,17 @@ impl End {
     }
 
     /// A message may begin: there is credit, and room in the window.
-    pub(crate) fn has_room(&self) -> bool {
+    pub fn has_room(&self) -> bool {
         self.credit() > 0 && self.conn.logged().endpoint().windows().remote_in > 0
     }
 
     /// The message goes in one transfer.
-    pub(crate) fn is_short(&self, message: &Bytes) -> bool {
+    pub fn is_short(&self, message: &Bytes) -> bool {
         message.len() <= self.in_a_transfer()
     }
 
     /// The first delivery that waits to be resumed, by its tag, and what becomes of it.
-    pub(crate) fn waiting(&self) -> Option<(Tag, Verdict)> {
+    pub fn waiting(&self) -> Option<(Tag, Verdict)> {
         match self.conn.logged().endpoint().waiting_at(LINK, 0) {
             Some((tag, verdict)) => Some((*tag, verdict)),
             None => None,
@@ -172,7 +172,7 @@ impl End {
     }
 
     /// What the peer has told of a message, by the link, or by what it left where it is gone; none where it has told nothing more.
-    pub(crate) fn told(&mut self) -> Result<Option<Told>, ClientFault> {
+    pub fn told(&mut self) -> Result<Option<Told>, ClientFault> {
         let op = ops::learn(LINK);
         let answer = self.conn.apply(&op);
         drop(op);
@@ -281,7 +281,7 @@ fn learn_once<S: Session>(session: &mut S) -> Result<Option<Told>, ClientFault> 
 }
 
 /// Resumes the delivery with this tag (part 2, 2.6.13), settled or not: the outcome that the peer told of it.
-pub(crate) fn resume<S: Session>(
+pub fn resume<S: Session>(
     session: &mut S,
     tag: Tag,
     settled: bool,
@@ -300,7 +300,7 @@ pub(crate) fn resume<S: Session>(
 }
 
 /// Settles the delivery, unless the peer has (part 2, 2.6.12), be it in a disposition that is not learnt yet.
-pub(crate) fn settle<S: Session>(session: &mut S, told: Told) -> Result<(), ClientFault> {
+pub fn settle<S: Session>(session: &mut S, told: Told) -> Result<(), ClientFault> {
     if told.settled {
         return Ok(());
     }
@@ -311,7 +311,7 @@ pub(crate) fn settle<S: Session>(session: &mut S, told: Told) -> Result<(), Clie
 }
 
 /// Settles the delivery with this id, on which we have this role.
-pub(crate) fn dispose<S: Session>(
+pub fn dispose<S: Session>(
     session: &mut S,
     role: Role,
     id: u32,

@@ -5,7 +5,7 @@ pub const TICK: u32 = 250;
 
 /// Reads and turns, counted.
 #[derive(Clone, Copy)]
-pub(crate) struct Waits {
+pub struct Waits {
     /// So many reads in a row that ended in vain are too many; none: no number is.
     most: Option<u32>,
     /// Reads in a row that ended in vain.
@@ -18,7 +18,7 @@ pub(crate) struct Waits {
 
 impl Waits {
     /// The peer is waited for so many seconds; none: for good.
-    pub(crate) fn new(seconds: Option<u32>) -> Waits {
+    pub fn new(seconds: Option<u32>) -> Waits {
         let most = match seconds {
             Some(seconds) => Some(seconds.saturating_mul(1000 / TICK)),
             None => None,
@@ -32,12 +32,12 @@ impl Waits {
     }
 
     /// Octets came.
-    pub(crate) fn hear(&mut self) {
+    pub fn hear(&mut self) {
         self.silent = 0;
     }
 
     /// A read ended in vain: whether that was one too many.
-    pub(crate) fn is_over(&mut self) -> bool {
+    pub fn is_over(&mut self) -> bool {
         self.silent = self.silent.saturating_add(1);
         match self.most {
             Some(most) => self.silent >= most,
@@ -47,7 +47,7 @@ impl Waits {
 
     /// A turn is over, and so many units were put out until now: whether a peer that tells this idle time-out, in milliseconds, is to be sent a beat. It is sent one
     /// each quarter of it, so also where it takes a turn more.
-    pub(crate) fn is_beat_due(&mut self, put_out: u64, idle_time_out: Option<u32>) -> bool {
+    pub fn is_beat_due(&mut self, put_out: u64, idle_time_out: Option<u32>) -> bool {
         if put_out != self.put_out {
             self.put_out = put_out;
             self.idle = 0;

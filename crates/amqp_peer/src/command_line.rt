@@ -10,8 +10,8 @@ use crate::options::{
 };
 use crate::tables;
 use amqp_bench::{Bench, Sockets};
-use amqp_client::exchange::Exchange;
 use amqp_endpoint::config::Config;
+use amqp_exchange::exchange::Exchange;
 use amqp_pair::Options;
 use amqp_script::explain::Explained;
 use amqp_serve::Serve;

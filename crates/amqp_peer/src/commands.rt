@@ -3,8 +3,8 @@ ghost use Rattle.amqp_peer.specs.Requests.{IsAllowed};
 
 use crate::command_line::Request;
 use amqp_bench::{run_bench, run_drivers};
-use amqp_client::exchange::{run_receive, run_send};
 use amqp_example::run_examples;
+use amqp_exchange::exchange::{run_receive, run_send};
 use amqp_pair::run_pair;
 use amqp_script::Outcome;
 use amqp_script::driven::run_conn;

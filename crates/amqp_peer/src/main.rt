@@ -16,7 +16,7 @@
 //! | `amqp_script::explain` | the command `explain`: numbers in words |
 //! | `amqp_script::script` | the command `script`: lines of text on one journal, one answer each |
 //! | `amqp_pair` | the command `pair`: two ends of a connection over the loopback |
-//! | `amqp_client` | the commands `send` and `receive`: messages to a peer, or from one, over TCP |
+//! | `amqp_exchange` | the commands `send` and `receive`: messages to a peer, or from one, over TCP |
 //! | `amqp_serve` | the command `serve`: messages in memory by address, for peers that connect |
 //! | `amqp_example` | the command `example`: how the crates are embedded |
 //! | `amqp_bench` | the command `bench`: how long frames and messages take |

@@ -1,8 +1,8 @@
 //! What is asked for by the options that were given.
 
 use amqp_bench::{Ends, Messages, Sockets};
-use amqp_client::exchange::{Exchange, Renewal};
-use amqp_client::{Labels, Printed};
+use amqp_exchange::exchange::{Exchange, Renewal};
+use amqp_exchange::{Labels, Printed};
 use amqp_pair::Options;
 use amqp_rules::config::{Config, MAX_JOURNAL_LIMIT};
 use amqp_script::explain::{Explained, find_fault, find_refusal, find_violation};

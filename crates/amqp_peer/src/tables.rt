@@ -2,7 +2,7 @@
 //! each function that names it; one of all commands would cost more than all of these functions.
 
 use crate::choice::{Choice, FLAG, NUMBER, TEXT, Value, choice, command};
-use amqp_client::MIN_MAX_FRAME;
+use amqp_exchange::MIN_MAX_FRAME;
 use amqp_pair::{MAX_CONSUMERS, MAX_COUNT, MAX_CREDIT, MAX_SIZE};
 use amqp_rules::config::{MAX_JOURNAL_LIMIT, MAX_WINDOW};
 use amqp_serve::MAX_THREADS;

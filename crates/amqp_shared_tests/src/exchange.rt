@@ -1,12 +1,13 @@
 //! Messages between two ends that each do one thing after the other, over a socket of the loopback: either of them begins. And what a peer says in one piece.
 
 use crate::octets::{DELIVERED, TOLD};
-use amqp_client::exchange::{
+use amqp_client::{Client, Outcomes};
+use amqp_conn::{Config, Text};
+use amqp_exchange::exchange::{
     Exchange, Received, Renewal, Sent, client_over, receive_all, send_all,
 };
-use amqp_client::journal::{read_line, whole_lines};
-use amqp_client::{Client, Labels, Outcomes, Printed, Unwatched};
-use amqp_conn::{Config, Text};
+use amqp_exchange::journal::{read_line, whole_lines};
+use amqp_exchange::{Labels, Printed, Unwatched};
 use amqp_pair::connected;
 use std::alloc::Global;
 use std::io::{Read, Sink, sink};

@@ -1,13 +1,10 @@
 //! The command `send` over one connection.
 use crate::bodies::{Bodies, Supply};
-use crate::ending::finish;
 use crate::exchange::{Exchange, ExchangeFault, Sent, begin};
-use crate::fault::ClientFault;
 use crate::meeting::{Runs, run_over};
 use crate::progress::Watch;
 use crate::report::Reports;
-use crate::sending::{Outcomes, learn, send};
-use crate::session::Session;
+use amqp_client::{ClientFault, Outcomes, Session, finish, learn, send};
 use amqp_conn::Role;
 use std::alloc::Global;
 use std::io::BufRead;

@@ -1,11 +1,9 @@
 //! A peer is met over TCP: it is connected to, or it connects.
 use crate::again::pause;
-use crate::client::Client;
 use crate::exchange::{Exchange, ExchangeFault};
 use crate::report::{Reports, tell_error};
-use crate::session::Session;
 use crate::traced::Traced;
-use crate::waits::TICK;
+use amqp_client::{Client, Session, TICK};
 use amqp_conn::{Config, Text};
 use amqp_trace::{Direction, Teller, Tracer};
 use std::alloc::Global;

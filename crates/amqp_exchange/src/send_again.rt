@@ -1,13 +1,11 @@
 //! The command `send` with a journal: each message goes once, over as many connections as it takes, in as many runs.
-use crate::again::{GoesOn, go_over_all, join, turn};
+use crate::again::{GoesOn, go_over_all, join, most_in_doubt, turn};
 use crate::bodies::{Bodies, Supply};
-use crate::ending::finish;
 use crate::exchange::{Exchange, ExchangeFault, Sent};
 use crate::journal::{Journal, Line, Notes};
 use crate::recalling::{Recalls, recall_journal};
 use crate::report::Reports;
-use crate::sending::{Outcome, Outcomes, number_of, resume, send, settle};
-use crate::session::Session;
+use amqp_client::{Outcome, Outcomes, Session, finish, number_of, resume, send, settle};
 use amqp_conn::{Bytes, Role, Tag, Verdict};
 use std::alloc::Global;
 use std::collections::VecDeque;
@@ -402,7 +400,7 @@ impl<N: Notes, B: Supply> Sends<'_, N, B> {
         session: &mut S,
         reports: &mut T,
     ) -> Result<(), ExchangeFault> {
-        let most = session.end().most_in_doubt();
+        let most = most_in_doubt(session.end());
         for _ in 0..u64::MAX {
             self.look()?;
             if self.is_over || self.known.next == u32::MAX {

@@ -2,7 +2,7 @@
 use crate::exchange::{ExchangeFault, Received, Sent};
 use crate::printing::{Printed, write_taken};
 use crate::progress::Watch;
-use crate::session::Session;
+use amqp_client::Session;
 use amqp_conn::{AmqpError, Boxed, Bytes, Conn, Tag, Taken, error_of};
 use std::alloc::Global;
 use std::fmt::{Display, Formatter};

@@ -1,12 +1,11 @@
 //! An exchange goes on over one connection after the other: when a peer is met once more, and how the link is rejoined.
-use crate::end::End;
 use crate::exchange::{Exchange, ExchangeFault};
-use crate::fault::ClientFault;
 use crate::journal::Notes;
 use crate::meeting::meet;
-use crate::opening::{answer_again, await_attached, await_link, open_again};
 use crate::report::{Reports, tell_error};
-use crate::session::Session;
+use amqp_client::{
+    ClientFault, End, Session, answer_again, await_attached, await_link, open_again,
+};
 use amqp_conn::{Phase, PumpFault, Refusal, Role, Tag};
 use std::net::{Net, TcpStream};
 use std::rt::Clock;
@@ -303,10 +302,8 @@ pub(crate) fn turn<S: Session, N: Notes>(
     session.turn().map_err(ExchangeFault::Client)
 }
 
-impl End {
-    /// So many deliveries may be in doubt at a time that an attach can tell of all of them.
-    pub(crate) fn most_in_doubt(&self) -> usize {
-        let frame = self.conn().logged().endpoint().max_frame();
-        (frame / 2 / ITEM).clamp(1, MOST) as usize
-    }
+/// So many deliveries may be in doubt at a time that an attach can tell of all of them.
+pub(crate) fn most_in_doubt(end: &End) -> usize {
+    let frame = end.conn().logged().endpoint().max_frame();
+    (frame / 2 / ITEM).clamp(1, MOST) as usize
 }

@@ -1,14 +1,10 @@
 //! The command `receive` with a journal: each message is written out once, over as many connections as it takes, in as many runs.
-use crate::again::{GoesOn, go_over_all, join, turn};
-use crate::end::End;
-use crate::ending::finish;
+use crate::again::{GoesOn, go_over_all, join, most_in_doubt, turn};
 use crate::exchange::{Exchange, ExchangeFault, Received};
-use crate::fault::ClientFault;
 use crate::journal::{Line, Notes};
 use crate::recalling::{Recalls, recall_journal};
-use crate::receiving::{grant, settle_as};
 use crate::report::{Reports, show_taken};
-use crate::session::Session;
+use amqp_client::{ClientFault, End, Session, finish, grant, settle_as};
 use amqp_conn::{
     Boxed, CloseRefusal, ConnFault, DeliveryState, PumpFault, Refusal, Role, Tag, Taken,
 };
@@ -427,7 +423,7 @@ impl<N: Notes> Receives<'_, N> {
     /// For so many messages there is to be credit.
     fn credit_wanted(&self, end: &End) -> u32 {
         // What came by the credit before is in doubt until something comes by this one.
-        let most = end.most_in_doubt().saturating_sub(self.known.brought.len()) / 2;
+        let most = most_in_doubt(end).saturating_sub(self.known.brought.len()) / 2;
         let wanted = u64::from(self.exchange.count).saturating_sub(self.known.count);
         let room = wanted
             .min(most.max(1) as u64)

@@ -1,12 +1,9 @@
 //! The command `receive` over one connection.
-use crate::ending::finish;
 use crate::exchange::{Exchange, ExchangeFault, Received, Renewal, begin};
-use crate::fault::ClientFault;
 use crate::meeting::{Runs, run_over};
 use crate::progress::Watch;
-use crate::receiving::{drain, grant, settle_as, take, take_drained};
 use crate::report::{Output, Reports, last_error, show_taken};
-use crate::session::Session;
+use amqp_client::{ClientFault, Session, drain, finish, grant, settle_as, take, take_drained};
 use amqp_conn::{Boxed, DeliveryState, Role, Taken};
 use std::alloc::Global;
 use std::io::Write;

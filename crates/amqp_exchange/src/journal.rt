@@ -1,6 +1,6 @@
 //! The journal of an exchange that goes on over one connection after the other: a file of lines, each of which stands before what depends on it goes out.
 use crate::exchange::ExchangeFault;
-use crate::sending::Outcome;
+use amqp_client::Outcome;
 use amqp_conn::{Role, Tag};
 use std::alloc::Global;
 use std::fmt::{Display, Formatter};

@@ -1,8 +1,6 @@
 //! The commands `send` and `receive`: messages to a peer, or from one, over TCP.
 use crate::bodies::Labels;
-use crate::fault::ClientFault;
 pub use crate::meeting::client_over;
-use crate::opening::{Wanted, answer, open};
 use crate::printing::Printed;
 use crate::progress::{Progress, Watch};
 use crate::receive_again::receive_again;
@@ -12,8 +10,7 @@ use crate::report::{Output, tell_received, tell_sent};
 use crate::send_again::send_again;
 pub use crate::send_once::send_all;
 use crate::send_once::send_once;
-use crate::sending::Outcomes;
-use crate::session::Session;
+use amqp_client::{ClientFault, Outcomes, Session, Wanted, answer, open};
 use amqp_conn::Role;
 use amqp_trace::Look;
 use std::alloc::{AllocError, Global};
