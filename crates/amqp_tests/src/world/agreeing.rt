@@ -15,18 +15,25 @@ use amqp_world::world::World;
 
 /// Both ends hear until nothing waits, and show the same then.
 pub fn settle(world: &mut World, notes: &mut Notes) {
-    let settled = world.settle().is_ok() && world.at_rest();
+    let is_settled = settles(world);
     notes.look(world);
-    notes.tally.judge(settled && agree(world, notes));
+    let is_right = is_settled && agree(world, notes);
+    notes.tally.judge(is_right);
 }
 
 /// The same once one has ended its session: neither has a link or an unsettled delivery.
 pub fn settle_over(world: &mut World, notes: &mut Notes) {
-    let settled = world.settle().is_ok() && world.at_rest();
+    let is_settled = settles(world);
     notes.look(world);
-    notes.tally.judge(
-        settled && has_none(world, notes, Side::A) && has_none(world, notes, Side::B),
-    );
+    let is_right = is_settled && has_none(world, notes, Side::A) && has_none(world, notes, Side::B);
+    notes.tally.judge(is_right);
+}
+
+/// Both ends have heard all, and nothing is on its way.
+fn settles(world: &mut World) -> bool {
+    let answer = world.settle();
+    let is_at_rest = world.at_rest();
+    answer.is_ok() && is_at_rest
 }
 
 fn agree(world: &World, notes: &Notes) -> bool {
