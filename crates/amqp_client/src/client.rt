@@ -1,20 +1,42 @@
 //! A connection with its devices.
+ghost use Rattle.std.specs.Prelude.{◌<◌, ◌-◌, ◌^◌};
+
+use crate::attaching::attach;
+use crate::cause::note_all;
 use crate::end::End;
+use crate::error::ClientError;
 use crate::fault::ClientFault;
 use crate::session::Session;
-use amqp_conn::{Config, FromStd, Pump, PumpEnd, PumpFault, Sink, Source};
+use amqp_conn::{Config, Failed, FromStd, Pump, PumpEnd, PumpFault, Role, Sink, Source, Unit};
 use std::alloc::Global;
+use std::io;
 use std::io::{ErrorKind, Read, Write};
 
-/// One end of a connection over a reader and a writer, for a program that does one thing after the other. Its journal's entries are let go as it goes on.
+/// One end of a connection over a reader and a writer, for a program that does one thing after the other.
 ///
-/// A read may end with `WouldBlock`, `TimedOut` or `Interrupted` where nothing came for a [`TICK`](crate::TICK): such reads are the clock by which a beat is sent (part 2,
-/// 2.4.5) and a silent peer is left.
+/// [`Client::connect`] makes one over TCP, [`Client::over`] one over any reader and writer. Links are opened by [`Client::sender`] and [`Client::receiver`], and named
+/// by the values that these return. Each call waits for the peer; none starts a thread. The journal's entries are forgotten as the connection goes on.
+///
+/// A read may end with `WouldBlock`, `TimedOut` or `Interrupted` if nothing came for a [`TICK`](crate::TICK): such reads are the clock by which a heartbeat is sent
+/// (part 2, 2.4.5) and a silent peer is given up. Heartbeats are sent by the calls that wait, so a program that does something else for long calls
+/// [`Session::turn`] now and then.
+///
+/// # Examples
+///
+/// ```text
+/// let mut client = Client::connect(&rt, rt.alloc(), ("localhost", 5672), &Options::new("my_sender"))?;
+/// let queue = client.sender("queue")?;
+/// let message = Message::text(rt.alloc(), "hello")?;
+/// println!(rt; "{:?}", client.send(queue, &message)?)?;
+/// client.close()?;
+/// ```
 pub struct Client<R, W> {
     end: End,
     pump: Pump,
     source: FromStd<R>,
     sink: FromStd<W>,
+    /// The error of the device that failed last.
+    failure: io::Error,
 }
 
 // By hand, so that a crate that owns one does not prove its parts' drops again.
@@ -25,6 +47,7 @@ impl<R: Drop, W: Drop> Drop for Client<R, W> {
             pump,
             source,
             sink,
+            failure: _,
         } = self;
         drop(end);
         drop(pump);
@@ -37,12 +60,12 @@ impl<R: Drop, W: Drop> Drop for Client<R, W> {
 const SASL: [u8; 5] = [0x41, 0x4d, 0x51, 0x50, 3];
 
 impl<R: Drop, W: Drop> Client<R, W> {
-    /// A connection of these settings over the devices. Nothing was written or read yet. A peer of which nothing comes for so many seconds is left; none: it is
-    /// waited for.
+    /// Returns a connection of these settings over the devices. Nothing was written or read yet. A peer from which nothing comes for `patience` seconds is given up;
+    /// `None`: it is waited for without a limit.
     ///
     /// # Errors
     ///
-    /// `Start` where a setting is out of its limits, or memory is refused.
+    /// `Start` if a setting is out of its limits, or memory runs out.
     pub fn new(
         alloc: Global,
         config: Config,
@@ -56,6 +79,7 @@ impl<R: Drop, W: Drop> Client<R, W> {
                 pump: Pump::new(),
                 source: FromStd::new(reader),
                 sink: FromStd::new(writer),
+                failure: io::Error::from(ErrorKind::Other),
             }),
             Err(fault) => Err(fault),
         }
@@ -99,17 +123,22 @@ impl<R: Read, W: Write> Client<R, W> {
             return Err(PumpFault::Write);
         }
         self.end.conn.forget();
-        self.pump.drive(
+        let driven = self.pump.drive(
             &mut self.source,
             &mut self.sink,
             &mut self.end.conn,
             &mut self.end.partings,
             1,
-        )
+        );
+        note_all(&mut self.end.links, self.end.conn.logged().journal());
+        driven
     }
 
-    /// A read that ended in vain is no fault, until there were too many.
+    /// A read that ended in vain is no fault, until there were too many in a row.
     fn wait_on(&mut self, fault: PumpFault) -> Result<(), ClientFault> {
+        if fault == PumpFault::Write {
+            self.note_failure();
+        }
         if fault != PumpFault::Read || !self.has_waited() {
             return Err(self.fault_of(fault));
         }
@@ -120,7 +149,7 @@ impl<R: Read, W: Write> Client<R, W> {
         Ok(())
     }
 
-    /// Where the connection fell by its header, what was read and not fed says whether that was the header of a SASL layer.
+    /// If the connection failed by the peer's header, what was read and not fed shows whether that was the header of a SASL layer.
     fn fault_of(&self, fault: PumpFault) -> ClientFault {
         if self.pump.rest().starts_with(&SASL) {
             ClientFault::Sasl
@@ -129,14 +158,13 @@ impl<R: Read, W: Write> Client<R, W> {
         }
     }
 
-    /// Whether the read that failed ended since nothing came, or the program had stood still.
+    /// Whether the read that failed ended because nothing came, or the process had been stopped.
     fn has_waited(&mut self) -> bool {
         match self.source.take_error() {
             Some(error) => {
-                let kind = error.kind();
-                drop(error);
+                self.failure = error;
                 matches!(
-                    kind,
+                    error.kind(),
                     ErrorKind::WouldBlock | ErrorKind::TimedOut | ErrorKind::Interrupted
                 )
             }
@@ -144,10 +172,91 @@ impl<R: Read, W: Write> Client<R, W> {
         }
     }
 
-    /// Closes the connection of a peer that is silent. It is told so where it still reads; its answer is not awaited.
+    /// Closes the connection of a silent peer, with an error if the peer still reads. Its answer is not awaited.
     fn leave(&mut self) {
         if self.end.close_silent() {
             self.write_out();
         }
+    }
+
+    /// Keeps the error of a write that failed.
+    fn note_failure(&mut self) {
+        if let Some(error) = self.sink.take_error() {
+            self.failure = error;
+        }
+    }
+
+    /// Writes what waits to go out behind what was done, and reads nothing.
+    pub(crate) fn flushed<T: Copy>(
+        &mut self,
+        done: Result<T, ClientFault>,
+    ) -> Result<T, ClientFault> {
+        match done {
+            Ok(value) => match self.flush() {
+                Ok(()) => Ok(value),
+                Err(fault) => Err(fault),
+            },
+            Err(fault) => Err(fault),
+        }
+    }
+
+    fn flush(&mut self) -> Result<(), ClientFault> {
+        for _ in 0..u64::MAX {
+            match self.end.conn.pop_unit() {
+                Some(unit) => self.write_unit(unit)?,
+                None => break,
+            }
+        }
+        Ok(())
+    }
+
+    fn write_unit(&mut self, unit: Unit) -> Result<(), ClientFault> {
+        let is_written = self.sink.failures() < u64::MAX
+            && write_slices(&mut self.sink, &unit).is_ok();
+        drop(unit);
+        if is_written {
+            return Ok(());
+        }
+        self.note_failure();
+        Err(ClientFault::Pump(PumpFault::Write))
+    }
+
+    /// Opens a link with this address at the peer, and returns its number.
+    pub(crate) fn open_link(&mut self, role: Role, address: &str) -> Result<u32, ClientError> {
+        let place = self.end.links.len();
+        match attach(self, role, address) {
+            Ok(link) => Ok(link),
+            Err(fault) => {
+                let link = self.end.links.number_at(place).unwrap_or(u32::MAX);
+                Err(self.error_on(link, fault))
+            }
+        }
+    }
+
+    /// Returns the error of a call on this link that was stopped by the fault.
+    pub(crate) fn error_on(&self, link: u32, fault: ClientFault) -> ClientError {
+        match fault {
+            ClientFault::Pump(PumpFault::Read) => ClientError::Read(self.failure),
+            ClientFault::Pump(PumpFault::Write) => ClientError::Write(self.failure),
+            fault => self.end.error_on(link, fault),
+        }
+    }
+}
+
+/// Writes a unit, slice by slice.
+fn write_slices<K: Sink>(sink: &mut K, unit: &Unit) -> Result<(), Failed>
+    requires { K.failed sink.old < 2 ^ 64 - 1 }
+{
+    let (head, rest) = unit.bytes.slices();
+    match sink.write_all(head) {
+        Ok(()) => {}
+        Err(failed) => return Err(failed),
+    }
+    if rest.is_empty() {
+        return Ok(());
+    }
+    match sink.write_all(rest) {
+        Ok(()) => Ok(()),
+        Err(failed) => Err(failed),
     }
 }

@@ -1,10 +1,11 @@
 //! One end of a connection, without the devices that it goes over.
 use crate::fault::ClientFault;
-use crate::waits::Waits;
+use crate::links::OpenLinks;
 use amqp_conn::{Config, Conn, Given, Hears, Link, Op, Phase, Refusal};
+use amqp_policy::{Waits, is_window_due};
 use std::alloc::Global;
 
-/// One end of a connection, and what stands of it: what it does without waiting for its peer.
+/// One end of a connection, and what it does without waiting for its peer.
 #[derive(Drop)]
 pub struct End {
     pub alloc: Global,
@@ -13,19 +14,21 @@ pub struct End {
     pub waits: Waits,
     /// Our attach went out: from here on a session that is not mapped is one that the peer has ended.
     pub is_opened: bool,
-    /// Half of the incoming window, in transfers.
-    half_window: u32,
+    /// The links that the program opened by name.
+    pub(crate) links: OpenLinks,
+    /// The incoming window, in transfers.
+    window: u32,
     /// Nothing more is sent: credit that the peer wants back is given up.
     has_sent: bool,
 }
 
-/// The number of the one link.
+/// The number of the link that the calls for one link use.
 pub const LINK: u32 = 0;
 
-/// Hears how the link ends.
+/// Notes how the link [`LINK`] ends.
 #[derive(Clone, Copy)]
 pub struct Partings {
-    /// It was detached for good (part 2, 2.6.6): neither end keeps anything of it.
+    /// It was detached for good (part 2, 2.6.6): neither end keeps its state.
     is_for_good: bool,
 }
 
@@ -45,27 +48,27 @@ impl Hears for Partings {
     }
 }
 
-/// What the peer does next, and is waited for.
+/// What a call waits for.
 #[derive(Clone, Copy)]
 pub enum Awaited {
-    /// It begins its session.
+    /// The peer begins its session.
     Begin,
-    /// It offers a link.
+    /// The peer offers a link.
     Offer,
-    /// It attaches our link, too.
+    /// The peer attaches our link, too.
     Attach,
     /// Either end has left the link, the session or the connection.
     Parting,
 }
 
 impl End {
-    /// An end of these settings. A peer of which nothing comes for so many seconds is left; none: it is waited for.
+    /// Returns an end of these settings. A peer from which nothing comes for `patience` seconds is given up; `None`: it is waited for without a limit.
     ///
     /// # Errors
     ///
-    /// `Start` where a setting is out of its limits, or memory is refused.
+    /// `Start` if a setting is out of its limits, or memory runs out.
     pub fn new(alloc: Global, config: Config, patience: Option<u32>) -> Result<End, ClientFault> {
-        let half_window = config.window / 2;
+        let window = config.window;
         match Conn::new(alloc, config) {
             Ok(conn) => Ok(End {
                 alloc,
@@ -73,31 +76,43 @@ impl End {
                 partings: Partings { is_for_good: false },
                 waits: Waits::new(patience),
                 is_opened: false,
-                half_window,
+                links: OpenLinks::new(alloc),
+                window,
                 has_sent: false,
             }),
             Err(fault) => Err(ClientFault::Start(fault)),
         }
     }
 
-    /// The connection, to be read.
+    /// Returns the connection, to be read.
     pub fn conn(&self) -> &Conn {
         &self.conn
     }
 
-    /// A turn is over: a beat is put out where one is due, the window is renewed, and credit is given up where it is wanted back.
+    /// Ends a turn: sends a heartbeat if one is due, announces the window again, and gives up credit that the peer wants back.
     pub fn keep_up(&mut self) {
         self.beat_if_due();
         // Half of the window is used (part 2, 2.5.6), maybe while a message is on its way.
-        if self.conn.logged().endpoint().windows().incoming <= self.half_window {
+        let incoming = self.conn.logged().endpoint().windows().incoming;
+        if is_window_due(incoming, self.window) {
             self.do_if_can(Op::Refresh { echo: false });
         }
         if self.has_sent {
             self.give_up();
         }
+        self.give_up_drained();
     }
 
-    /// Sends a beat where nothing of ours went out for long enough. One that is refused is tried again at the next turn.
+    /// Gives up the credit of the program's links whose receivers drain them: a message that is to be sent waits for new credit (part 2, 2.6.7).
+    fn give_up_drained(&mut self) {
+        for place in 0..self.links.len() {
+            if let Some(link) = self.links.sender_at(place) {
+                self.do_if_can(Op::Drained { link });
+            }
+        }
+    }
+
+    /// Sends a heartbeat if nothing of ours went out for long enough. One that is refused is tried again at the next turn.
     fn beat_if_due(&mut self) {
         let idle_time_out = match self.conn.peer() {
             Some(open) => open.idle_time_out,
@@ -109,14 +124,14 @@ impl End {
         }
     }
 
-    /// Nothing more is sent: where the peer drains, or will, the credit that is left is given up (part 2, 2.6.7).
+    /// Notes that nothing more is sent: when the peer drains the link, the credit that is left is given up (part 2, 2.6.7).
     pub fn give_up(&mut self) {
         self.has_sent = true;
         self.do_if_can(Op::Drained { link: LINK });
     }
 
-    /// Does the operation, unless it is refused: there may be nothing to be done, and else it is tried again at the next turn.
-    fn do_if_can(&mut self, op: Op) {
+    /// Does the operation unless it is refused: then there is nothing to do, or it is tried again at the next turn.
+    pub(crate) fn do_if_can(&mut self, op: Op) {
         match self.conn.apply(&op) {
             Ok(given) => drop(given),
             Err(_) => {}
@@ -124,7 +139,7 @@ impl End {
         drop(op);
     }
 
-    /// What the peer says may change it.
+    /// Returns whether the refusal may end by what the peer sends.
     pub fn is_early(&self, refusal: Refusal) -> bool {
         match refusal {
             Refusal::NotMapped => !self.is_opened,
@@ -137,7 +152,7 @@ impl End {
         }
     }
 
-    /// The peer has done it, or will not do it any more.
+    /// Returns whether the peer has done it, or will not do it any more.
     pub fn is_over(&self, awaited: Awaited) -> bool {
         match awaited {
             Awaited::Begin => self.conn.logged().endpoint().windows().next_in.is_some(),
@@ -150,31 +165,31 @@ impl End {
         }
     }
 
-    /// The one link, where it was not left.
+    /// Returns the link [`LINK`], unless either end has left it.
     pub fn link(&self) -> Option<&Link> {
         self.conn.logged().endpoint().link_of(LINK)
     }
 
-    /// The link was not left. It stays where the connection alone has ended.
+    /// Returns whether neither end has left the link. It stays if only the connection has ended.
     pub fn has_link(&self) -> bool {
         self.link().is_some()
     }
 
-    /// The link is not there, or nothing goes over it any more: either end has left it, the session or the connection.
+    /// Returns whether nothing goes over the link any more: either end has left the link, the session or the connection.
     pub fn is_gone(&self) -> bool {
         self.conn.phase() == Phase::Closed || !self.has_link()
     }
 
-    /// The link was detached for good once both ends had it: what is in doubt on it is over.
+    /// Returns whether the link was detached for good after we had attached it: nothing on it is in doubt any more.
     pub fn is_gone_for_good(&self) -> bool {
         self.is_opened && self.partings.is_for_good
     }
 
-    /// The link was not left, or for good: nobody asks any more for what was in doubt on it.
+    /// Checks that the link was not left, or was left for good: the peer will not ask for what was in doubt on it.
     ///
     /// # Errors
     ///
-    /// `Refused` where the peer has put it aside, or has ended the session.
+    /// `Refused` if the peer has suspended the link, or has ended the session.
     pub fn unless_aside(&self) -> Result<(), ClientFault> {
         if self.has_link() || self.partings.is_for_good {
             Ok(())
@@ -183,7 +198,7 @@ impl End {
         }
     }
 
-    /// How many messages the peer may still send, or we to it.
+    /// Returns how many messages the sender of the link may still send.
     pub fn credit(&self) -> u32 {
         match self.link() {
             Some(link) => link.credit(),

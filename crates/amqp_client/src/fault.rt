@@ -1,8 +1,8 @@
-//! Why a client stops.
+//! Why a call for one link fails.
 use amqp_conn::{CloseRefusal, PumpFault, Refusal, StartFault};
 use thiserror::Error;
 
-/// Why a client stops.
+/// Why a call for one link fails.
 #[derive(Clone, Copy, Debug, Error)]
 pub enum ClientFault {
     #[error("the connection cannot start: {0}")]

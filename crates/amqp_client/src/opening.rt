@@ -9,7 +9,7 @@ use amqp_performatives::copying::copy_value;
 use amqp_types::Items;
 use std::alloc::{AllocError, Global};
 
-/// A link that is to be opened: of this name, which it has from us, for this role of ours, with this address at the peer.
+/// A link that we ask for: its name, our role, and the address at the peer.
 #[derive(Clone, Copy)]
 pub struct Wanted<'a> {
     pub name: &'a str,
@@ -17,7 +17,7 @@ pub struct Wanted<'a> {
     pub address: &'a str,
 }
 
-/// What this end has of each delivery that it brings in: it sent them, and knows no more, or it has accepted them (part 2, 2.6.13).
+/// What this end knows of each delivery that it brings in: if it sent them, nothing more; if it received them, that it has accepted them (part 2, 2.6.13).
 fn brought(alloc: Global, role: Role, tags: &[Tag]) -> Result<Brought, AllocError> {
     let mut items = Items::new(alloc);
     for tag in tags {
@@ -30,7 +30,7 @@ fn brought(alloc: Global, role: Role, tags: &[Tag]) -> Result<Brought, AllocErro
     Brought::new(alloc, items)
 }
 
-/// An attach of a link of this name that has no ends yet, and brings in deliveries of these tags; without any it has no `unsettled`.
+/// An attach without a source and a target, which brings in deliveries of these tags.
 fn attach_of(alloc: Global, name: Text, role: Role, tags: &[Tag]) -> Result<Rejoin, AllocError> {
     match brought(alloc, role, tags) {
         Ok(items) => Ok(Rejoin {
@@ -51,7 +51,7 @@ fn attach_of(alloc: Global, name: Text, role: Role, tags: &[Tag]) -> Result<Rejo
     }
 }
 
-/// The operation of that attach, whose ends were set so.
+/// The operation of the attach, unless memory ran out as its source and target were set.
 fn attach_with(
     alloc: Global,
     rejoin: Rejoin,
@@ -67,7 +67,7 @@ fn attach_with(
 }
 
 /// An attach of a link that we ask for.
-fn asking(alloc: Global, wanted: Wanted<'_>, tags: &[Tag]) -> Result<Op, AllocError> {
+pub(crate) fn asking(alloc: Global, wanted: Wanted<'_>, tags: &[Tag]) -> Result<Op, AllocError> {
     let name = Text::new(alloc, wanted.name)?;
     let mut rejoin = attach_of(alloc, name, wanted.role, tags)?;
     let ended = match wanted.role {
@@ -96,7 +96,7 @@ fn answering(alloc: Global, link: &Link, tags: &[Tag]) -> Result<Op, AllocError>
     attach_with(alloc, rejoin, ended)
 }
 
-/// Between the ends that the peer told.
+/// Sets the source and the target of the peer's attach.
 fn set_as_theirs(rejoin: &mut Rejoin, link: &Link) -> Result<(), AllocError> {
     if let Some(theirs) = link.theirs() {
         rejoin.source = copy_value(&theirs.source)?;
@@ -106,7 +106,7 @@ fn set_as_theirs(rejoin: &mut Rejoin, link: &Link) -> Result<(), AllocError> {
 }
 
 impl End {
-    /// The attach that answers the one which the peer offers.
+    /// Returns the attach that answers the peer's.
     fn answer_with(&self, tags: &[Tag]) -> Result<Op, ClientFault> {
         match self.link() {
             Some(link) if link.theirs().is_some() => {
@@ -116,11 +116,11 @@ impl End {
         }
     }
 
-    /// The name of the link that the peer offers.
+    /// Returns the name of the link that the peer offers.
     ///
     /// # Errors
     ///
-    /// `Refused` where the peer has the same role, or offers none, and `NoMemory`.
+    /// `Refused` if the peer has the same role, or offers no link; `NoMemory`.
     fn offered_name(&self, role: Role) -> Result<Text, ClientFault> {
         match self.link() {
             Some(link) if link.role() == role => link.name().clone().map_err(unless_memory),
@@ -130,12 +130,12 @@ impl End {
     }
 }
 
-/// Want of memory is a fault like others.
+/// An allocation failure is a fault like others.
 fn unless_memory(_: AllocError) -> ClientFault {
     ClientFault::NoMemory
 }
 
-/// Begins the session, and attaches a link that is wanted.
+/// Begins the session, and attaches the wanted link.
 ///
 /// # Errors
 ///
@@ -168,7 +168,7 @@ fn perform_attach<S: Session>(
 ///
 /// # Errors
 ///
-/// `Refused` by `WrongRole` where the peer has the same role, those of `apply`, and `NoMemory`.
+/// `Refused` with `WrongRole` if the peer has the same role, those of `apply`, and `NoMemory`.
 pub fn answer<S: Session>(session: &mut S, role: Role) -> Result<(), ClientFault> {
     drop(await_link(session, role)?);
     answer_again(session, &[])
@@ -180,7 +180,7 @@ pub fn answer_again<S: Session>(session: &mut S, tags: &[Tag]) -> Result<(), Cli
     perform_attach(session, attach)
 }
 
-/// Waits until the peer has begun its session, which is answered, and offers a link, which is to be for this role of ours: the link's name.
+/// Waits until the peer has begun its session, which is answered, and offers a link for this role of ours. Returns the link's name.
 pub fn await_link<S: Session>(session: &mut S, role: Role) -> Result<Text, ClientFault> {
     wait_for(session, Awaited::Begin)?;
     perform(session, Op::Begin)?;

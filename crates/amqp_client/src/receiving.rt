@@ -1,4 +1,4 @@
-//! Messages are taken, and settled.
+//! Messages of one link are taken and settled.
 use crate::end::{End, LINK};
 use crate::fault::ClientFault;
 use crate::sending::dispose;
@@ -13,9 +13,14 @@ fn left_of(left: Left) -> Option<Boxed<Taken>> {
 }
 
 impl End {
-    /// Takes the message that is there.
+    /// Takes the first message that is ready.
     fn take_now(&mut self) -> Result<Option<Boxed<Taken>>, Refusal> {
-        let op = ops::take(LINK);
+        self.take_on(LINK)
+    }
+
+    /// Takes the first message of the link that is ready.
+    pub(crate) fn take_on(&mut self, link: u32) -> Result<Option<Boxed<Taken>>, Refusal> {
+        let op = ops::take(link);
         let answer = self.conn.apply(&op);
         drop(op);
         match answer {
@@ -24,7 +29,7 @@ impl End {
         }
     }
 
-    /// The next message that is there; none where there is none, or the link is gone.
+    /// Takes the first message that is ready; `None` if there is none, or the link is gone.
     pub fn take_ready(&mut self) -> Result<Option<Boxed<Taken>>, ClientFault> {
         match self.take_now() {
             Ok(taken) => Ok(taken),
@@ -33,16 +38,21 @@ impl End {
         }
     }
 
-    /// What the link left, which is gone (part 2, 2.6.6); none where it left nothing more.
+    /// Takes the next message that the link left when it ended (part 2, 2.6.6); `None` if it left no more.
     pub fn take_last(&mut self) -> Result<Option<Boxed<Taken>>, ClientFault> {
-        match self.conn.pop_left_by(Role::Receiver, LINK) {
+        self.take_left(LINK)
+    }
+
+    /// Takes the next message that the link with this number left when it ended.
+    pub(crate) fn take_left(&mut self, link: u32) -> Result<Option<Boxed<Taken>>, ClientFault> {
+        match self.conn.pop_left_by(Role::Receiver, link) {
             Ok(Some(left)) => Ok(left_of(left)),
             Ok(None) => Ok(None),
             Err(_) => Err(ClientFault::NoMemory),
         }
     }
 
-    /// No message may come any more, and none has begun.
+    /// Whether no message may come any more, and none has begun.
     fn is_drained(&self) -> bool {
         match self.conn.logged().endpoint().status(LINK) {
             Some(status) => status.credit == 0 && !status.mid,
@@ -50,7 +60,7 @@ impl End {
         }
     }
 
-    /// The delivery with this tag waits to be resumed by the sender.
+    /// Returns whether the delivery with this tag waits to be resumed by the sender.
     pub fn waits(&self, tag: &Tag) -> bool {
         match self.link() {
             Some(link) => link.waits(tag),
@@ -58,7 +68,7 @@ impl End {
         }
     }
 
-    /// The id of the delivery with this tag, where it is unsettled. O(n) for n of them.
+    /// Returns the id of the delivery with this tag, if it is unsettled. O(n) for n unsettled deliveries.
     pub fn held(&self, tag: &Tag) -> Option<u32> {
         let endpoint = self.conn.logged().endpoint();
         for place in 0..endpoint.unsettled_len(Role::Receiver) {
@@ -70,7 +80,7 @@ impl End {
         None
     }
 
-    /// How many deliveries wait to be resumed by the sender. O(n) for n of them.
+    /// Returns how many deliveries wait to be resumed by the sender. O(n) for n of them.
     pub fn waiting_len(&self) -> u32 {
         let endpoint = self.conn.logged().endpoint();
         for place in 0..u32::MAX {
@@ -82,7 +92,7 @@ impl End {
     }
 }
 
-/// Gives the peer credit for so many messages.
+/// Grants the peer credit for `credit` messages.
 ///
 /// # Errors
 ///
@@ -91,7 +101,7 @@ pub fn grant<S: Session>(session: &mut S, credit: u32) -> Result<(), ClientFault
     perform(session, ops::grant(LINK, credit))
 }
 
-/// Gives the peer credit for so many messages, which it is to use up or to give up (part 2, 2.6.7).
+/// Grants the peer credit for `credit` messages, which it uses up or gives up at once (part 2, 2.6.7).
 ///
 /// # Errors
 ///
@@ -108,7 +118,7 @@ pub fn drain<S: Session>(session: &mut S, credit: u32) -> Result<(), ClientFault
     )
 }
 
-/// Takes the next message, as soon as it is there; also one that came before an end of the link. It is to be settled by its id, unless it came settled.
+/// Waits for the next message and takes it, also one that came before the link ended. It is to be settled by its id, unless it came settled.
 ///
 /// # Errors
 ///
@@ -124,7 +134,7 @@ pub fn take<S: Session>(session: &mut S) -> Result<Boxed<Taken>, ClientFault> {
     Err(ClientFault::Closed)
 }
 
-/// What the link gives, or what it left where it is gone.
+/// What the link gives, or what it left if it is gone.
 fn take_once<S: Session>(session: &mut S) -> Result<Option<Boxed<Taken>>, ClientFault> {
     let op = ops::take(LINK);
     let answer = apply(session, &op);
@@ -138,7 +148,7 @@ fn take_once<S: Session>(session: &mut S) -> Result<Option<Boxed<Taken>>, Client
     }
 }
 
-/// Takes the next message of a link that is drained; none once the credit is used up or given up.
+/// Takes the next message of a link that is drained; `None` once the credit is used up or given up.
 ///
 /// # Errors
 ///
@@ -158,8 +168,8 @@ pub fn take_drained<S: Session>(session: &mut S) -> Result<Option<Boxed<Taken>>,
     Ok(None)
 }
 
-/// Tells the peer what becomes of the message with this id, and settles it (part 2, 2.6.12). False where the link is gone: nothing is told of it then, and
-/// the peer may send it again. Where the peer has settled it nothing more is told, and nothing is wanted.
+/// Settles the message with this id, with this state (part 2, 2.6.12). False if the link is gone: then the peer does not learn of it, and may send the message
+/// again. If the peer has settled the message, nothing is sent.
 ///
 /// # Errors
 ///

@@ -1,29 +1,13 @@
-//! Messages go out, and what became of each is learnt.
+//! Messages of one link are sent, and their outcomes learnt.
 ghost use Rattle.std.specs.Prelude.{◌<◌};
 
 use crate::end::{End, LINK};
 use crate::fault::ClientFault;
 use crate::session::{Session, apply, perform};
 use amqp_conn::{Bytes, DeliveryState, Given, Learned, Left, Op, Refusal, Role, Tag, Verdict, ops};
+use amqp_policy::{Outcome, has_more, outcome_of, part, room_in_frame};
 
-/// What a transfer takes of a frame beside its payload, in octets, and more.
-const HEAD: u32 = 128;
-
-/// The most octets of one transfer.
-const MOST: u32 = 65536;
-
-/// What became of messages.
-#[derive(Clone, Copy, PartialEq, Eq)]
-pub struct Outcomes {
-    pub accepted: u64,
-    pub rejected: u64,
-    pub released: u64,
-    pub modified: u64,
-    /// Settled without an outcome.
-    pub unknown: u64,
-}
-
-/// What was told of a message.
+/// What the peer has said of a message.
 #[derive(Clone, Copy)]
 pub struct Told {
     /// The message's number.
@@ -34,53 +18,9 @@ pub struct Told {
 }
 
 impl Told {
-    /// The peer is done with the message.
+    /// Returns whether the peer will say no more of the message.
     pub fn is_last(&self) -> bool {
         self.settled || !matches!(self.outcome, Outcome::Unknown)
-    }
-}
-
-/// What became of a message (part 3, 3.4).
-#[derive(Clone, Copy)]
-pub enum Outcome {
-    Accepted,
-    Rejected,
-    Released,
-    Modified,
-    /// It was settled without an outcome, or what was told is none.
-    Unknown,
-}
-
-impl Outcomes {
-    /// Of no message.
-    pub const NONE: Outcomes = Outcomes {
-        accepted: 0,
-        rejected: 0,
-        released: 0,
-        modified: 0,
-        unknown: 0,
-    };
-
-    /// One more.
-    pub fn count(&mut self, outcome: Outcome) {
-        let counted = match outcome {
-            Outcome::Accepted => &mut self.accepted,
-            Outcome::Rejected => &mut self.rejected,
-            Outcome::Released => &mut self.released,
-            Outcome::Modified => &mut self.modified,
-            Outcome::Unknown => &mut self.unknown,
-        };
-        *counted = counted.saturating_add(1);
-    }
-}
-
-fn outcome_of(state: &Option<DeliveryState>) -> Outcome {
-    match state {
-        Some(DeliveryState::Accepted) => Outcome::Accepted,
-        Some(DeliveryState::Rejected(_)) => Outcome::Rejected,
-        Some(DeliveryState::Released) => Outcome::Released,
-        Some(DeliveryState::Modified { .. }) => Outcome::Modified,
-        _ => Outcome::Unknown,
     }
 }
 
@@ -102,7 +42,7 @@ fn told_of(learned: &Learned) -> Told {
     }
 }
 
-/// The number that `send` put into the tag.
+/// Returns the number that `send` put into the tag.
 pub fn number_of(tag: &Tag) -> u32 {
     match tag.octets() {
         [a, b, c, d, ..] => u32::from_be_bytes([*a, *b, *c, *d]),
@@ -110,7 +50,7 @@ pub fn number_of(tag: &Tag) -> u32 {
     }
 }
 
-/// The outcome that the peer told of a delivery that was resumed.
+/// The outcome that the peer gave a delivery that was resumed.
 fn outcome_resumed(given: Given) -> Outcome {
     let outcome = match &given {
         Given::Resumed(resumed) => outcome_of(&resumed.get().state),
@@ -120,7 +60,7 @@ fn outcome_resumed(given: Given) -> Outcome {
     outcome
 }
 
-/// What a link that is gone left. Nothing is settled on it any more.
+/// What a link left when it ended. Nothing on it needs to be settled any more.
 fn told_last(left: &Left) -> Option<Told> {
     match left {
         Left::Outcome(_, learned) => {
@@ -134,36 +74,25 @@ fn told_last(left: &Left) -> Option<Told> {
     }
 }
 
-/// So many octets of the message from this place on; it shares them.
-fn part(message: &Bytes, from: usize, most: usize) -> Result<Bytes, ClientFault> {
-    let from = from.min(message.len());
-    let end = from.saturating_add(most).min(message.len());
-    match message.slice(from..end) {
-        Ok(part) => Ok(part),
-        Err(_) => Err(ClientFault::NoMemory),
-    }
-}
-
 impl End {
-    /// How many octets of a message one transfer takes: as the peer's frames have room.
+    /// How many octets of a message one transfer takes, by the peer's frame size.
     fn in_a_transfer(&self) -> usize
         ensures { 0 < result }
     {
-        let frame = self.conn.logged().endpoint().max_frame();
-        frame.min(MOST).saturating_sub(HEAD).max(1) as usize
+        room_in_frame(self.conn.logged().endpoint().max_frame())
     }
 
-    /// A message may begin: there is credit, and room in the window.
+    /// Returns whether a message may begin: there is credit, and room in the window.
     pub fn has_room(&self) -> bool {
         self.credit() > 0 && self.conn.logged().endpoint().windows().remote_in > 0
     }
 
-    /// The message goes in one transfer.
+    /// Returns whether the message goes in one transfer.
     pub fn is_short(&self, message: &Bytes) -> bool {
         message.len() <= self.in_a_transfer()
     }
 
-    /// The first delivery that waits to be resumed, by its tag, and what becomes of it.
+    /// Returns the tag of the first delivery that waits to be resumed, and what becomes of it.
     pub fn waiting(&self) -> Option<(Tag, Verdict)> {
         match self.conn.logged().endpoint().waiting_at(LINK, 0) {
             Some((tag, verdict)) => Some((*tag, verdict)),
@@ -171,7 +100,7 @@ impl End {
         }
     }
 
-    /// What the peer has told of a message, by the link, or by what it left where it is gone; none where it has told nothing more.
+    /// Returns what the peer has said of a message, also of a link that is gone; `None` if it has said nothing more.
     pub fn told(&mut self) -> Result<Option<Told>, ClientFault> {
         let op = ops::learn(LINK);
         let answer = self.conn.apply(&op);
@@ -179,13 +108,13 @@ impl End {
         match answer {
             Ok(given) => Ok(told_by(given)),
             Err(Refusal::NoMemory) => Err(ClientFault::NoMemory),
-            Err(_) => self.told_left(),
+            Err(_) => self.told_left(LINK),
         }
     }
 
-    /// What the link left, where it is gone (part 2, 2.6.6).
-    fn told_left(&mut self) -> Result<Option<Told>, ClientFault> {
-        match self.conn.pop_left_by(Role::Sender, LINK) {
+    /// What the link left when it ended (part 2, 2.6.6).
+    fn told_left(&mut self, link: u32) -> Result<Option<Told>, ClientFault> {
+        match self.conn.pop_left_by(Role::Sender, link) {
             Ok(Some(left)) => {
                 let told = told_last(&left);
                 drop(left);
@@ -197,38 +126,44 @@ impl End {
     }
 }
 
-/// The first transfer of a message, with so many octets of it at most.
-fn start_of(number: u32, message: &Bytes, most: usize, settled: bool) -> Result<Op, ClientFault> {
+/// The first transfer of a message on the link, with at most `most` octets.
+fn start_of(
+    link: u32,
+    number: u32,
+    message: &Bytes,
+    most: usize,
+    settled: bool,
+) -> Result<Op, ClientFault> {
     let Some(tag) = Tag::new(&number.to_be_bytes()) else {
         return Err(ClientFault::Refused(Refusal::NotWritable));
     };
     match part(message, 0, most) {
         Ok(payload) => Ok(Op::Start {
-            link: LINK,
+            link,
             tag,
             format: 0,
             settled,
             payload,
-            more: most < message.len(),
+            more: has_more(message.len(), 0, most),
         }),
-        Err(fault) => Err(fault),
+        Err(_) => Err(ClientFault::NoMemory),
     }
 }
 
-/// A transfer behind the first one.
-fn carry_of(message: &Bytes, from: usize, most: usize) -> Result<Op, ClientFault> {
+/// A later transfer of the message, with at most `most` octets behind the first `from`.
+fn carry_of(link: u32, message: &Bytes, from: usize, most: usize) -> Result<Op, ClientFault> {
     match part(message, from, most) {
         Ok(payload) => Ok(Op::Carry {
-            link: LINK,
+            link,
             payload,
-            more: from.saturating_add(most) < message.len(),
+            more: has_more(message.len(), from, most),
         }),
-        Err(fault) => Err(fault),
+        Err(_) => Err(ClientFault::NoMemory),
     }
 }
 
-/// Sends a message as one delivery, in as many transfers as the peer's frames ask for, as its credit and its window allow. Its tag is the number in four
-/// octets.
+/// Sends a message as one delivery, in as many transfers as the peer's frame size asks for, as soon as its credit and its window allow. The delivery's tag is the
+/// number in four octets.
 ///
 /// # Errors
 ///
@@ -239,23 +174,39 @@ pub fn send<S: Session>(
     message: &Bytes,
     settled: bool,
 ) -> Result<(), ClientFault> {
+    send_on(session, LINK, number, message, settled)
+}
+
+/// Sends a message on the link, as `send`.
+pub(crate) fn send_on<S: Session>(
+    session: &mut S,
+    link: u32,
+    number: u32,
+    message: &Bytes,
+    settled: bool,
+) -> Result<(), ClientFault> {
     let most = session.end().in_a_transfer();
-    perform(session, start_of(number, message, most, settled)?)?;
+    perform(session, start_of(link, number, message, most, settled)?)?;
     for from in (most..message.len()).step_by(most) {
-        perform(session, carry_of(message, from, most)?)?;
+        perform(session, carry_of(link, message, from, most)?)?;
     }
     Ok(())
 }
 
-/// Learns of which message the peer tells next that it is settled or what became of it, and settles it where the peer has not. A peer may tell the one
-/// behind the other: then both are learnt. What came before an end of the link is had, too.
+/// Waits until the peer gives a message an outcome or settles it, and settles it if the peer has not. A peer may do both one after the other: then this returns
+/// twice for the message. Outcomes that came before the link ended are returned, too.
 ///
 /// # Errors
 ///
 /// Those of `apply`.
 pub fn learn<S: Session>(session: &mut S) -> Result<Told, ClientFault> {
+    learn_on(session, LINK)
+}
+
+/// Learns of a message of the link, as `learn`.
+pub(crate) fn learn_on<S: Session>(session: &mut S, link: u32) -> Result<Told, ClientFault> {
     for _ in 0..u64::MAX {
-        match learn_once(session)? {
+        match learn_once(session, link)? {
             Some(told) if told.is_last() => {
                 settle(session, told)?;
                 return Ok(told);
@@ -266,21 +217,21 @@ pub fn learn<S: Session>(session: &mut S) -> Result<Told, ClientFault> {
     Err(ClientFault::Refused(Refusal::Nothing))
 }
 
-/// What is told next: by the link, or by what it left where it is gone.
-fn learn_once<S: Session>(session: &mut S) -> Result<Option<Told>, ClientFault> {
-    let op = ops::learn(LINK);
+/// What the peer says next of a message, or what the link left if it is gone.
+fn learn_once<S: Session>(session: &mut S, link: u32) -> Result<Option<Told>, ClientFault> {
+    let op = ops::learn(link);
     let answer = apply(session, &op);
     drop(op);
     match answer {
         Ok(given) => Ok(told_by(given)),
-        Err(fault) => match session.end_mut().told_left() {
+        Err(fault) => match session.end_mut().told_left(link) {
             Ok(None) => Err(fault),
             left => left,
         },
     }
 }
 
-/// Resumes the delivery with this tag (part 2, 2.6.13), settled or not: the outcome that the peer told of it.
+/// Resumes the delivery with this tag (part 2, 2.6.13), settled or not, and returns the outcome that the peer gave it.
 pub fn resume<S: Session>(
     session: &mut S,
     tag: Tag,
@@ -299,7 +250,7 @@ pub fn resume<S: Session>(
     }
 }
 
-/// Settles the delivery, unless the peer has (part 2, 2.6.12), be it in a disposition that is not learnt yet.
+/// Settles the delivery, unless the peer has (part 2, 2.6.12), also by a disposition that is not learnt yet.
 pub fn settle<S: Session>(session: &mut S, told: Told) -> Result<(), ClientFault> {
     if told.settled {
         return Ok(());

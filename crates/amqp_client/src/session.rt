@@ -3,31 +3,31 @@ use crate::end::{Awaited, End};
 use crate::fault::ClientFault;
 use amqp_conn::{Given, Op, Refusal};
 
-/// One end of a connection with what it goes over: a [`Client`](crate::Client).
+/// One end of a connection with its devices: a [`Client`](crate::Client).
 pub trait Session {
-    /// The end, to be read.
+    /// Returns the end, to be read.
     fn end(&self) -> &End;
 
-    /// The end, for what waits for nothing.
+    /// Returns the end, for what waits for nothing.
     fn end_mut(&mut self) -> &mut End;
 
-    /// What was put out is written, and octets are read once, at most 4096, and fed. Where the read ended in vain the turn is over, too. A beat is put out where
-    /// one is due, the window is renewed, and credit is given up where it is wanted back.
+    /// Writes what waits to go out, reads once, at most 4096 octets, and takes the frames that came. A read that ends in vain ends the turn, too. Then sends a
+    /// heartbeat if one is due, announces the window again, and gives up credit that the peer wants back.
     ///
     /// # Errors
     ///
-    /// `Closed` where the connection has ended, `EndOfInput` where the octets have, `Silent` where the peer has said nothing for too long, `Sasl`, and `Pump`.
+    /// `Closed` if the connection has ended, `EndOfInput` if the input has, `Silent` if the peer has been silent for too long, `Sasl`, and `Pump`.
     fn turn(&mut self) -> Result<(), ClientFault>;
 
-    /// Writes what was put out, as far as that can be done. What is read on the way is fed.
+    /// Writes what waits to go out, as far as that is possible, and reads once.
     fn write_out(&mut self);
 }
 
-/// Does the operation as soon as what the peer says allows it.
+/// Does the operation as soon as what the peer sends allows it.
 ///
 /// # Errors
 ///
-/// `Refused` where nothing that the peer says would allow it, and those of `turn`.
+/// `Refused` if nothing that the peer sends would allow it, and those of `turn`.
 pub fn apply<S: Session>(session: &mut S, op: &Op) -> Result<Given, ClientFault> {
     for _ in 0..u64::MAX {
         let end = session.end_mut();
@@ -40,7 +40,7 @@ pub fn apply<S: Session>(session: &mut S, op: &Op) -> Result<Given, ClientFault>
     Err(ClientFault::Refused(Refusal::Nothing))
 }
 
-/// Does the operation as `apply`, of which nothing is to be told.
+/// Does the operation as `apply`, and drops what it gives.
 pub(crate) fn perform<S: Session>(session: &mut S, op: Op) -> Result<(), ClientFault> {
     let answer = apply(session, &op);
     drop(op);

@@ -1,10 +1,11 @@
-//! How the crates are embedded, the lowest first: frames alone, a session with its journal, a connection, one that threads share. It runs each in turn.
+//! How the crates are embedded, the lowest first: frames alone, a session with its journal, the client library, a connection, one that threads share. It runs each in
+//! turn.
 //!
 //! | module | which crate it shows |
 //! |---|---|
 //! | `codec` | `amqp_frames`: frames written, and a stream read however it is cut |
 //! | `session` | `amqp_journal`: operations and heard frames in, frames to send out |
-//! | `first` | `amqp_conn`: a message sent to a peer, in some lines |
+//! | `first` | `amqp_client`: messages sent to a peer, in some lines |
 //! | `connection` | `amqp_conn`: octets in, octets out |
 //! | `rejoined` | `amqp_conn`: a link that goes on over several connections |
 //! | `shared` | `amqp_shared`: two threads send on one connection |
