@@ -2,7 +2,9 @@
 use crate::exchange::{Exchange, ExchangeFault};
 use crate::journal::Notes;
 use crate::meeting::meet;
-use crate::report::{Reports, tell_error};
+use crate::observed::{Flushes, Observed};
+use crate::report::Reports;
+use crate::seen::Seen;
 use amqp_client::{
     ClientFault, End, Session, answer_again, await_attached, await_link, open_again,
 };
@@ -18,6 +20,10 @@ pub(crate) const PAUSE: u64 = 500;
 /// The most that is in doubt at a time.
 const MOST: u32 = 1024;
 
+/// Printed before a connection without what is in doubt.
+const NO_RECOVERY: &str =
+    "the peer does not recover links: what is in doubt is taken for absent there";
+
 /// What an attach takes for a delivery that it brings in, in octets: a tag of 32 octets, a state, and their heads.
 const ITEM: u32 = 44;
 
@@ -32,8 +38,14 @@ pub(crate) trait GoesOn {
     /// How many lines its journal had got.
     fn noted(&self) -> u64;
 
+    /// Its attach brought in what is in doubt, and nothing was noted since.
+    fn has_asked(&self) -> bool;
+
+    /// From now on its attach brings nothing in: the peer has none of what is in doubt.
+    fn forgo(&mut self);
+
     /// Goes on over this connection until all is done, and ends link, session and connection.
-    fn go_on<S: Session, T: Reports>(
+    fn go_on<S: Flushes, T: Reports>(
         &mut self,
         session: &mut S,
         reports: &mut T,
@@ -65,6 +77,10 @@ where
         }
         match go_over(rt, exchange, goes, &mut tries, reports) {
             Ok(()) => break,
+            Err(ExchangeFault::NoRecovery) => {
+                goes.forgo();
+                reports.say(NO_RECOVERY);
+            }
             Err(fault) => tries.again(rt, exchange, fault, reports)?,
         }
     }
@@ -82,10 +98,13 @@ fn go_over<R, E: GoesOn, T: Reports>(
 where
     R: AllocGlobal + Net<Stream = TcpStream> + Eprint + Clock,
 {
-    match meet(rt, rt.alloc(), exchange, tries.pauses(goes.has_all())) {
+    let seen = Seen::new();
+    let pauses = tries.pauses(goes.has_all());
+    match meet(rt, rt.alloc(), exchange, pauses, &seen, reports) {
         Ok(mut client) => {
             let ended = go_to_end(goes, &mut client, reports);
-            let ended = tries.end(&client, ended, goes.noted(), reports);
+            let ended = tries.end(&client, ended, goes.noted());
+            let ended = conclude(goes, &mut client, ended, reports);
             drop(client);
             ended
         }
@@ -93,8 +112,29 @@ where
     }
 }
 
+/// Says why the exchange over this connection failed, unless it is gone on with at once: the peer does not recover links.
+fn conclude<E: GoesOn, S: Session, T: Reports>(
+    goes: &E,
+    client: &mut Observed<'_, S>,
+    ended: Result<(), ExchangeFault>,
+    reports: &mut T,
+) -> Result<(), ExchangeFault> {
+    match ended {
+        Ok(()) => {
+            if client.end().is_gone() {
+                client.leave(true);
+            }
+            Ok(())
+        }
+        Err(ExchangeFault::Client(_)) if client.is_not_implemented() && goes.has_asked() => {
+            Err(ExchangeFault::NoRecovery)
+        }
+        Err(fault) => Err(client.conclude(fault, true, reports)),
+    }
+}
+
 /// Goes on over this connection. Where all is done it does not count how the connection ended.
-fn go_to_end<E: GoesOn, S: Session, T: Reports>(
+fn go_to_end<E: GoesOn, S: Flushes, T: Reports>(
     goes: &mut E,
     session: &mut S,
     reports: &mut T,
@@ -121,10 +161,21 @@ fn go_to_end<E: GoesOn, S: Session, T: Reports>(
 /// The connection ended without being closed as agreed, or none came about: what it was about can go on over another one.
 fn is_lost(fault: &ExchangeFault) -> bool {
     match fault {
-        ExchangeFault::Socket(_) => true,
+        ExchangeFault::Socket(_)
+        | ExchangeFault::NotMet(_, _)
+        | ExchangeFault::Read(_)
+        | ExchangeFault::Write(_) => true,
         ExchangeFault::Client(fault) => is_lost_by(fault),
         _ => false,
     }
+}
+
+/// No connection came about.
+fn is_unmet(fault: &ExchangeFault) -> bool {
+    matches!(
+        fault,
+        ExchangeFault::Socket(_) | ExchangeFault::NotMet(_, _)
+    )
 }
 
 fn is_lost_by(fault: &ClientFault) -> bool {
@@ -182,28 +233,23 @@ impl Tries {
         self.left == 0 || !is_lost(fault)
     }
 
-    /// The exchange over this connection ended so when the journal had got so many lines. Where it has failed and the peer is not tried again the error is told
-    /// that the peer told.
+    /// The exchange over this connection ended so when the journal had got so many lines.
     ///
     /// # Errors
     ///
-    /// How it ended, and `Out` where a write fails.
-    fn end<S: Session, T: Reports>(
+    /// How it ended.
+    fn end<S: Session>(
         &mut self,
         session: &S,
         ended: Result<(), ExchangeFault>,
         noted: u64,
-        reports: &mut T,
     ) -> Result<(), ExchangeFault> {
         if noted != self.noted {
             self.noted = noted;
             self.left = self.most;
         }
         let is_forced = session.end().conn().ended_by().is_some();
-        match unless_forced(ended, is_forced) {
-            Err(fault) if !self.is_last(&fault) => Err(fault),
-            ended => tell_error(session, ended, reports),
-        }
+        unless_forced(ended, is_forced)
     }
 
     /// The exchange failed so: the peer is tried again, after a pause.
@@ -228,7 +274,7 @@ impl Tries {
             let _ = eprintln!(rt; "again: {fault}");
         }
         // The peer is not kept waiting by one that listens.
-        let is_ready = exchange.is_listening && !matches!(fault, ExchangeFault::Socket(_));
+        let is_ready = exchange.is_listening && !is_unmet(&fault);
         drop(fault);
         if !is_ready {
             pause(rt);

@@ -1,5 +1,6 @@
 //! Messages to be sent: so many of one size, or of one file, or the lines of an input.
 use crate::exchange::{Exchange, ExchangeFault};
+use crate::streaming::{Lines, Next};
 use amqp_conn::{Bytes, Text, Value};
 use amqp_messages::{Header, Message, Properties, Section, SectionKind, write_message};
 use amqp_types::{Items, WriteFault};
@@ -205,12 +206,15 @@ fn fault_of(fault: WriteFault) -> ExchangeFault {
 
 /// Gives the messages that are sent: [`Bodies`].
 pub(crate) trait Supply {
-    /// The next message; none where there are no more.
+    /// The next message, if one is ready.
     ///
     /// # Errors
     ///
-    /// `In` where a line cannot be read, `NotWritable` and `NoMemory`.
-    fn next(&mut self) -> Result<Option<Bytes>, ExchangeFault>;
+    /// `In` if a line cannot be read, `NotWritable` and `NoMemory`.
+    fn next(&mut self) -> Result<Next<Bytes>, ExchangeFault>;
+
+    /// Waits a little for the next message. True if one may be ready.
+    fn awaits(&self) -> bool;
 }
 
 /// Which messages are sent.
@@ -222,7 +226,7 @@ pub(crate) struct Bodies<'a, 'b, I> {
     same: Option<Bytes>,
     /// How many more times.
     left: u32,
-    input: &'b mut I,
+    lines: Lines<'b, I>,
 }
 
 impl<'a, 'b, I: BufRead> Bodies<'a, 'b, I> {
@@ -243,32 +247,10 @@ impl<'a, 'b, I: BufRead> Bodies<'a, 'b, I> {
                 labels: exchange.labels,
                 same,
                 left: exchange.count,
-                input,
+                lines: Lines::new(alloc, input, exchange.is_polled),
             }),
             Err(fault) => Err(fault),
         }
-    }
-}
-
-/// The next line as a message, without its end.
-fn next_line<I: BufRead>(
-    alloc: Global,
-    labels: &Labels<'_>,
-    input: &mut I,
-) -> Result<Option<Bytes>, ExchangeFault> {
-    let mut line = Vec::new(alloc);
-    if let Err(error) = input.read_until(b'\n', &mut line) {
-        return Err(ExchangeFault::In(error));
-    }
-    if line.is_empty() {
-        return Ok(None);
-    }
-    if line.last() == Some(&b'\n') {
-        line.pop();
-    }
-    match message_of(alloc, labels, line) {
-        Ok(message) => Ok(Some(message)),
-        Err(fault) => Err(fault),
     }
 }
 
@@ -290,14 +272,37 @@ fn same_of(
 }
 
 impl<I: BufRead> Supply for Bodies<'_, '_, I> {
-    fn next(&mut self) -> Result<Option<Bytes>, ExchangeFault> {
+    fn next(&mut self) -> Result<Next<Bytes>, ExchangeFault> {
         match &self.same {
-            Some(_) if self.left == 0 => Ok(None),
+            Some(_) if self.left == 0 => Ok(Next::Over),
             Some(same) => {
                 self.left -= 1;
-                Ok(Some(same.clone()?))
+                Ok(Next::Item(same.clone()?))
             }
-            None => next_line(self.alloc, &self.labels, self.input),
+            None => {
+                let next = self.lines.next()?;
+                message_in(self.alloc, &self.labels, next)
+            }
         }
+    }
+
+    fn awaits(&self) -> bool {
+        self.same.is_some() || self.lines.awaits()
+    }
+}
+
+/// What comes next of an input's lines, as a message.
+fn message_in(
+    alloc: Global,
+    labels: &Labels<'_>,
+    next: Next<Vec<u8>>,
+) -> Result<Next<Bytes>, ExchangeFault> {
+    match next {
+        Next::Item(line) => match message_of(alloc, labels, line) {
+            Ok(message) => Ok(Next::Item(message)),
+            Err(fault) => Err(fault),
+        },
+        Next::NotYet => Ok(Next::NotYet),
+        Next::Over => Ok(Next::Over),
     }
 }

@@ -1,6 +1,9 @@
 //! The commands `send` and `receive`: messages to a peer, or from one, over TCP.
+ghost use Rattle.std.specs.Prelude.{◌≡◌, ◌==◌, ◌||◌};
+
 use crate::bodies::Labels;
 pub use crate::meeting::client_over;
+pub use crate::observed::Flushes;
 use crate::printing::Printed;
 use crate::progress::{Progress, Watch};
 use crate::receive_again::receive_again;
@@ -10,8 +13,9 @@ use crate::report::{Output, tell_received, tell_sent};
 use crate::send_again::send_again;
 pub use crate::send_once::send_all;
 use crate::send_once::send_once;
-use amqp_client::{ClientFault, Outcomes, Session, Wanted, answer, open};
+use amqp_client::{ClientFault, Session, Wanted, answer, open};
 use amqp_conn::Role;
+pub use amqp_policy::{Outcomes, Renewal};
 use amqp_trace::Look;
 use std::alloc::{AllocError, Global};
 use std::io::{BufRead, Write};
@@ -35,22 +39,28 @@ pub struct Exchange<'a> {
     pub max_frame: u32,
     /// How many messages, but where `is_lines`.
     pub count: u32,
-    /// A peer of which nothing comes for so many seconds is left; none: it is waited for.
+    /// How many seconds a connect may take, and how long a peer may be silent; `None`: there is no limit.
     pub patience: Option<u32>,
+    /// How many seconds `receive` waits for the next message; `None`: there is no limit.
+    pub wait: Option<u32>,
     /// The octets of a message's body, for `send`, but where `is_lines` or a `file`.
     pub size: u32,
     /// The file that is each message's body, for `send`.
     pub file: Option<&'a str>,
     /// Each line of the input is a message, for `send`.
     pub is_lines: bool,
+    /// The lines are those of the process's standard input, which may have nothing ready: what was sent is written then.
+    pub is_polled: bool,
     /// What each message tells beside its body, for `send`.
     pub labels: Labels<'a>,
     /// Each message is sent settled, for `send`.
     pub is_settled: bool,
     /// How many messages may come at a time, for `receive`: 1 at least.
     pub credit: u32,
-    /// When credit is given, for `receive`.
+    /// When credit is granted, for `receive`. Some peers send more than they were granted if it is granted before it is used up.
     pub renewal: Renewal,
+    /// What the peer is answered for each message, for `receive`; with a `journal` each is accepted.
+    pub settlement: Settlement,
     /// What is printed of each message, for `receive`.
     pub printed: Printed,
     /// How each frame is told on standard error; none: it is not.
@@ -78,6 +88,11 @@ impl<'a> Exchange<'a> {
         !self.is_quiet && self.trace.is_none() && matches!(self.printed, Printed::Nothing)
     }
 
+    /// Nothing is printed beside the messages.
+    fn is_alone(&self) -> bool {
+        matches!(self.printed, Printed::Bodies | Printed::Json)
+    }
+
     /// How many messages there are to be; none: lines say that.
     fn count_known(&self) -> Option<u32> {
         if self.is_lines {
@@ -86,25 +101,15 @@ impl<'a> Exchange<'a> {
             Some(self.count)
         }
     }
-
-    /// With how much left of so much credit it is given again.
-    pub(crate) fn least_of(&self, credit: u32) -> u32 {
-        match self.renewal {
-            Renewal::AtHalf => credit / 2,
-            _ => 0,
-        }
-    }
 }
 
-/// When `receive` gives credit.
-#[derive(Clone, Copy, Debug)]
-pub enum Renewal {
-    /// Again once it is used up: some peers take more than they were granted where it is given sooner.
-    AtZero,
-    /// Again once half of it is used.
-    AtHalf,
-    /// Until the peer gives it up: what is there is taken, and no message is waited for.
-    Drain,
+/// What `receive` answers for each message that it takes (part 3, 3.4).
+#[derive(Clone, Copy, Debug, PartialEq, Eq)]
+pub enum Settlement {
+    Accept,
+    /// The peer may send the message again, to anyone.
+    Release,
+    Reject,
 }
 
 /// What `send` has done.
@@ -147,8 +152,18 @@ impl Received {
 pub enum ExchangeFault {
     #[error("a socket failed: {0}")]
     Socket(io::Error),
+    #[error("{0}: {1}")]
+    NotMet(String, io::Error),
     #[error("no peer has connected")]
     NoPeer,
+    #[error("a read failed: {0}")]
+    Read(io::Error),
+    #[error("a write failed: {0}")]
+    Write(io::Error),
+    #[error("no message came for {0} seconds")]
+    NoMessage(u32),
+    #[error("the peer does not recover links")]
+    NoRecovery,
     #[error("{0}")]
     Client(ClientFault),
     #[error("a line cannot be read: {0}")]
@@ -187,13 +202,13 @@ impl From<AllocError> for ExchangeFault {
     }
 }
 
-/// Sends messages, learns what became of each, and tells in six lines how many there were, and how many were accepted, rejected, released, modified, and settled
-/// without an outcome. True where each was accepted, or they went settled.
+/// Sends messages, learns what became of each, and writes six lines to `out`, also if that fails: how many were sent, accepted, rejected, released, modified, and
+/// settled without an outcome. Returns true if each was accepted, or they went settled.
 ///
 /// # Errors
 ///
-/// Where a socket fails or the peer ends, an operation is refused, memory is, or a line or the file cannot be read, or a line written. What error the peer told is told in a line
-/// before.
+/// A socket failed, the peer ended the exchange, an operation was refused, memory ran out, a line or the file could not be read, or a line could not be written.
+/// The peer's error is printed on standard error.
 pub fn run_send<R, I: BufRead, W: Write>(
     rt: &R,
     alloc: Global,
@@ -207,23 +222,46 @@ where
     let file = file_of(rt, exchange.file)?;
     let mut progress = Progress::new(rt, exchange.is_told(), exchange.count_known());
     let mut output = Output::new(alloc, exchange.printed, out, &mut progress);
-    let sent = match exchange.journal {
-        Some(path) => send_again(rt, exchange, path, file, input, &mut output),
-        None => send_once(rt, alloc, exchange, file, input, &mut output),
+    let mut sent = Sent::NONE;
+    let ended = match exchange.journal {
+        Some(path) => send_again(rt, exchange, path, file, input, &mut sent, &mut output),
+        None => send_once(rt, alloc, exchange, file, input, &mut sent, &mut output),
     };
     output.end();
     drop(output);
-    let sent = sent?;
-    tell_sent(out, &sent)?;
-    Ok(exchange.is_settled || sent.outcomes.accepted == sent.count)
+    let told = tell_sent(out, &sent);
+    ended_so(ended, told)?;
+    Ok(is_sent(exchange.is_settled, &sent))
 }
 
-/// Takes messages, prints what is asked for of each, accepts it, and tells in three lines how many there were, how many octets they had, and how many could not be
-/// accepted; but where bodies or JSON are printed nothing beside them. True where each was accepted, or came settled.
+/// Each message was accepted, or they went settled.
+fn is_sent(is_settled: bool, sent: &Sent) -> bool
+    ensures { result ≡ (is_settled || sent.now.outcomes.accepted == sent.now.count) }
+{
+    is_settled || sent.outcomes.accepted == sent.count
+}
+
+/// How an exchange ended whose counts were printed: its own fault comes first.
+fn ended_so(
+    ended: Result<(), ExchangeFault>,
+    told: Result<(), ExchangeFault>,
+) -> Result<(), ExchangeFault> {
+    match ended {
+        Ok(()) => told,
+        Err(fault) => {
+            drop(told);
+            Err(fault)
+        }
+    }
+}
+
+/// Takes messages, prints what is asked for of each, answers it, and writes three lines to `out`, also if that fails: how many were received, how many octets they
+/// had, and how many could not be answered. If bodies or JSON are printed, `out` has nothing beside them, and the counts of a run that fails go to standard error.
+/// Returns true if each was answered, or came settled.
 ///
 /// # Errors
 ///
-/// Those of `run_send`, and `Unsettled` where no line tells it.
+/// Those of `run_send`; `NoMessage` if `wait` runs out; `Unsettled` and `Doubted` if no line says so.
 pub fn run_receive<R, W: Write>(
     rt: &R,
     alloc: Global,
@@ -235,26 +273,37 @@ where
 {
     let mut progress = Progress::new(rt, exchange.is_told(), exchange.count_known());
     let mut output = Output::new(alloc, exchange.printed, out, &mut progress);
-    let received = match exchange.journal {
-        Some(path) => receive_again(rt, exchange, path, &mut output),
-        None => receive_once(rt, alloc, exchange, &mut output),
+    let mut received = Received::NONE;
+    let ended = match exchange.journal {
+        Some(path) => receive_again(rt, exchange, path, &mut received, &mut output),
+        None => receive_once(rt, alloc, exchange, &mut received, &mut output),
     };
     output.end();
     drop(output);
-    let received = received?;
-    tell_unless_alone(exchange, received, out)?;
+    let told = if exchange.is_alone() {
+        say_unless_done(rt, &received, ended.is_err());
+        unless_unsettled(exchange, received)
+    } else {
+        tell_received(out, received)
+    };
+    ended_so(ended, told)?;
     Ok(received.unsettled == 0)
 }
 
-/// Tells what was had, but where nothing is printed beside the messages.
-fn tell_unless_alone<W: Write>(
-    exchange: &Exchange<'_>,
-    received: Received,
-    out: &mut W,
-) -> Result<(), ExchangeFault> {
-    if !matches!(exchange.printed, Printed::Bodies | Printed::Json) {
-        return tell_received(out, received);
+/// Prints what a run had that failed, on standard error: standard output has the messages alone.
+fn say_unless_done<R: Eprint>(rt: &R, received: &Received, is_failed: bool) {
+    if is_failed {
+        let Received {
+            count,
+            octets,
+            unsettled,
+        } = *received;
+        let _ = eprintln!(rt; "received {count}, octets {octets}, unsettled {unsettled}");
     }
+}
+
+/// Messages that could not be accepted are a fault if no line says how many they are.
+fn unless_unsettled(exchange: &Exchange<'_>, received: Received) -> Result<(), ExchangeFault> {
     match exchange.journal {
         _ if received.unsettled == 0 => Ok(()),
         Some(_) => Err(ExchangeFault::Doubted(received.unsettled)),

@@ -1,7 +1,7 @@
 //! The journal of an exchange that goes on over one connection after the other: a file of lines, each of which stands before what depends on it goes out.
 use crate::exchange::ExchangeFault;
-use amqp_client::Outcome;
 use amqp_conn::{Role, Tag};
+use amqp_policy::Outcome;
 use std::alloc::Global;
 use std::fmt::{Display, Formatter};
 use std::fs::{OpenFile, OpenOptions};
@@ -109,11 +109,22 @@ fn read_pair<'a>(kind: &[u8], word: &'a [u8]) -> Option<Line<'a>> {
         b"receiver" => Some(Line::Link(Role::Receiver, word)),
         b"begun" => Some(Line::Begun(number_of(word)?)),
         b"settled" => Some(Line::Settled(tag_of(word)?)),
-        _ => Some(Line::Told(outcome_of(kind)?, number_of(word)?)),
+        _ => Some(Line::Told(outcome_in(kind)?, number_of(word)?)),
     }
 }
 
-fn outcome_of(word: &[u8]) -> Option<Outcome> {
+/// Returns the outcome that the link has learnt of a message.
+pub(crate) fn outcome_of(told: amqp_client::Outcome) -> Outcome {
+    match told {
+        amqp_client::Outcome::Accepted => Outcome::Accepted,
+        amqp_client::Outcome::Rejected => Outcome::Rejected,
+        amqp_client::Outcome::Released => Outcome::Released,
+        amqp_client::Outcome::Modified => Outcome::Modified,
+        amqp_client::Outcome::Unknown => Outcome::Unknown,
+    }
+}
+
+fn outcome_in(word: &[u8]) -> Option<Outcome> {
     match word {
         b"accepted" => Some(Outcome::Accepted),
         b"rejected" => Some(Outcome::Rejected),

@@ -10,26 +10,37 @@
 //! | `recalling` | what that file says of earlier runs |
 //! | `meeting` | the connection to a peer, over TCP |
 //! | `bodies` | messages to be sent: so many of one size or of one file, or lines |
+//! | `streaming` | lines as they come, from an input that may have nothing ready |
+//! | `credit` | how much credit `receive` grants |
 //! | `printing`, `json` | messages that were taken, as text and as JSON |
 //! | `progress` | how far an exchange is ([`Watch`]) |
 //! | `report` | what an exchange prints as it goes on |
-//! | `traced` | devices that print each frame that passes them |
+//! | `traced`, `seen` | devices that print each frame that passes them, and keep their errors |
+//! | `order` | tests of the order of what is noted and what goes out |
+//! | `observed`, `reason` | a session that keeps why either end has left it |
 #![tactic(auto)]
 
 mod again;
 mod bodies;
+mod credit;
 pub mod exchange;
 pub mod journal;
 mod json;
 mod meeting;
+mod observed;
+#[cfg(test)]
+mod order;
 mod printing;
 mod progress;
+mod reason;
 mod recalling;
 mod receive_again;
 mod receive_once;
 mod report;
+mod seen;
 mod send_again;
 mod send_once;
+mod streaming;
 mod traced;
 
 pub use amqp_conn::MIN_MAX_FRAME;

@@ -10,6 +10,12 @@ pub trait Watch {
 
     /// Something else is told next, or nothing more.
     fn end(&mut self);
+
+    /// Prints a line on standard error.
+    fn say(&mut self, line: &str);
+
+    /// Returns how many milliseconds have passed since the command began; 0 if there is no clock.
+    fn elapsed(&self) -> u64;
 }
 
 /// Nobody looks.
@@ -20,14 +26,22 @@ impl Watch for Unwatched {
     fn note(&mut self, _count: u64) {}
 
     fn end(&mut self) {}
+
+    fn say(&mut self, _line: &str) {}
+
+    fn elapsed(&self) -> u64 {
+        0
+    }
 }
 
 /// How far it is as a line on standard error, which is written over again. One that cannot be written is left out.
 #[derive(Clone, Copy)]
 pub(crate) struct Progress<'a, E> {
     rt: &'a E,
-    /// None: nothing is told.
+    /// `None` if there is no clock.
     begun: Option<Instant>,
+    /// How far it is is printed.
+    is_told: bool,
     /// How many messages there are to be; none: that is not known.
     wanted: Option<u32>,
     /// How many there were when this run was told of the first one; none: it was not yet. It is no part of what a second brings.
@@ -40,10 +54,10 @@ pub(crate) struct Progress<'a, E> {
 
 impl<'a, E: Eprint + Clock> Progress<'a, E> {
     pub(crate) fn new(rt: &'a E, is_told: bool, wanted: Option<u32>) -> Progress<'a, E> {
-        let begun = if is_told { Instant::now(rt).ok() } else { None };
         Progress {
             rt,
-            begun,
+            begun: Instant::now(rt).ok(),
+            is_told,
             wanted,
             first: None,
             told: 0,
@@ -51,7 +65,7 @@ impl<'a, E: Eprint + Clock> Progress<'a, E> {
         }
     }
 
-    /// How long it has taken, in milliseconds; none where nothing is told.
+    /// How long it has taken, in milliseconds; `None` if there is no clock.
     fn passed(&self) -> Option<u64> {
         let passed = self.begun?.elapsed(self.rt).ok()?;
         Some(
@@ -80,6 +94,9 @@ impl<E: Eprint + Clock> Watch for Progress<'_, E> {
     fn note(&mut self, count: u64) {
         let first = self.first.unwrap_or(count);
         self.first = Some(first);
+        if !self.is_told {
+            return;
+        }
         if let Some(passed) = self.passed() {
             if passed >= self.told.saturating_add(PAUSE) {
                 self.tell(count, first, passed);
@@ -94,5 +111,14 @@ impl<E: Eprint + Clock> Watch for Progress<'_, E> {
             self.is_open = false;
             let _ = eprintln!(self.rt;);
         }
+    }
+
+    fn say(&mut self, line: &str) {
+        self.end();
+        let _ = eprintln!(self.rt; "{line}");
+    }
+
+    fn elapsed(&self) -> u64 {
+        self.passed().unwrap_or(0)
     }
 }

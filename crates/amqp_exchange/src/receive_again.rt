@@ -1,142 +1,24 @@
 //! The command `receive` with a journal: each message is written out once, over as many connections as it takes, in as many runs.
+ghost use Rattle.std.specs.Prelude.{◌↔◌, ◌≤◌, IsTrue};
+
 use crate::again::{GoesOn, go_over_all, join, most_in_doubt, turn};
+use crate::credit::{credit_due, incoming_of};
 use crate::exchange::{Exchange, ExchangeFault, Received};
 use crate::journal::{Line, Notes};
+use crate::observed::Flushes;
 use crate::recalling::{Recalls, recall_journal};
+use crate::receive_once::within;
 use crate::report::{Reports, show_taken};
 use amqp_client::{ClientFault, End, Session, finish, grant, settle_as};
 use amqp_conn::{
     Boxed, CloseRefusal, ConnFault, DeliveryState, PumpFault, Refusal, Role, Tag, Taken,
 };
-use std::alloc::Global;
-use std::collections::VecDeque;
+use amqp_policy::{Incoming, ReceivedDoubts};
+use std::alloc::{AllocError, Global};
 use std::net::{Net, TcpStream};
 use std::rt::{Clock, Files};
 
-/// What is known of the messages of this exchange.
-#[derive(Drop)]
-struct Known {
-    /// Messages that were written out.
-    count: u64,
-    /// Their octets.
-    octets: u64,
-    /// The tags of those that were accepted over an earlier connection: whether their sender knows that is not known.
-    brought: VecDeque<Tag>,
-    /// The tags of those that were accepted over this connection: it is not known yet whether their sender has heard that. No tag stands in both, nor twice.
-    told: VecDeque<Tag>,
-    mark: Option<Mark>,
-    alloc: Global,
-}
-
-fn place_of(tags: &VecDeque<Tag>, tag: &Tag) -> Option<usize> {
-    tags.iter().position(|it| *it == *tag)
-}
-
-fn push(tags: &mut VecDeque<Tag>, tag: Tag) -> Result<(), ExchangeFault> {
-    match tags.push_back(tag) {
-        Ok(()) => Ok(()),
-        Err(_) => Err(ExchangeFault::NoMemory),
-    }
-}
-
-impl Known {
-    fn none(alloc: Global) -> Known {
-        Known {
-            count: 0,
-            octets: 0,
-            brought: VecDeque::new(alloc),
-            told: VecDeque::new(alloc),
-            mark: None,
-            alloc,
-        }
-    }
-
-    /// A sender that uses a tag again has settled what had it before (part 2, 2.6.12).
-    fn take(&mut self, tag: Tag, octets: u64) -> Result<(), ExchangeFault> {
-        self.settle(&tag);
-        push(&mut self.told, tag)?;
-        self.count = self.count.saturating_add(1);
-        self.octets = self.octets.saturating_add(octets);
-        Ok(())
-    }
-
-    /// False where no message with this tag is in doubt.
-    fn settle(&mut self, tag: &Tag) -> bool {
-        if let Some(place) = place_of(&self.brought, tag) {
-            return self.brought.remove(place).is_some();
-        }
-        let Some(place) = place_of(&self.told, tag) else {
-            return false;
-        };
-        if let Some(mark) = &mut self.mark {
-            if place < mark.count {
-                mark.count = mark.count.saturating_sub(1);
-            }
-        }
-        self.told.remove(place).is_some()
-    }
-
-    /// Another connection begins: the tags of what it brings in.
-    fn bring(&mut self) -> Result<Vec<Tag>, ExchangeFault> {
-        self.mark = None;
-        self.brought.append(&mut self.told)?;
-        let mut tags = Vec::new(self.alloc);
-        for tag in self.brought.iter() {
-            if tags.push(*tag).is_err() {
-                return Err(ExchangeFault::NoMemory);
-            }
-        }
-        Ok(tags)
-    }
-
-    /// How many messages are in doubt.
-    fn doubts(&self) -> usize {
-        self.brought.len().saturating_add(self.told.len())
-    }
-
-    /// So many messages were written out as are asked for.
-    fn has_all(&self, exchange: &Exchange<'_>) -> bool {
-        self.count >= u64::from(exchange.count)
-    }
-
-    fn received(&self) -> Received {
-        Received {
-            count: self.count,
-            octets: self.octets,
-            unsettled: self.doubts() as u64,
-        }
-    }
-
-    /// A message came: where it came by newer credit, so many of those that were told before are known to the sender.
-    fn confirmed(&mut self) -> Option<usize> {
-        match self.mark {
-            Some(mark) if mark.left == 0 => {
-                self.mark = None;
-                Some(mark.count)
-            }
-            Some(mark) => {
-                self.mark = Some(Mark {
-                    left: mark.left.saturating_sub(1),
-                    ..mark
-                });
-                None
-            }
-            None => None,
-        }
-    }
-
-    /// Credit was given while so much was left. A message that has begun may come beside what that stands for.
-    fn set_mark(&mut self, left: u32) {
-        if self.mark.is_none() {
-            self.mark = Some(Mark {
-                count: self.told.len(),
-                left: left.saturating_add(1),
-            });
-        }
-    }
-}
-
-impl Recalls for Known {
+impl Recalls for ReceivedDoubts {
     fn recall(&mut self, line: &Line<'_>) -> Result<bool, ExchangeFault> {
         match line {
             Line::Taken(tag, octets) => {
@@ -149,48 +31,59 @@ impl Recalls for Known {
     }
 }
 
-/// Credit was given. A message that comes by it shows that the sender has heard what was told before (part 2, 2.6.7).
-#[derive(Clone, Copy)]
-struct Mark {
-    /// So many of the messages that were told come before it.
-    count: usize,
-    /// So many messages may still come by older credit.
-    left: u32,
+/// So many messages were written out as are asked for.
+fn has_all(known: &ReceivedDoubts, count: u32) -> bool
+    ensures { IsTrue result ↔ (count ≤ known.now.count) }
+{
+    known.count() >= u64::from(count)
+}
+
+/// The tags of what is in doubt, all of which came over earlier connections.
+fn tags_of(alloc: Global, known: &ReceivedDoubts) -> Result<Vec<Tag>, AllocError> {
+    let mut tags = Vec::new(alloc);
+    for place in 0..known.brought_len() {
+        if let Some(tag) = known.brought_at(place) {
+            tags.push(tag)?;
+        }
+    }
+    Ok(tags)
 }
 
 /// The messages of an exchange, and its journal.
 #[derive(Drop)]
-struct Receives<'a, N> {
+pub(crate) struct Receives<'a, N> {
     exchange: &'a Exchange<'a>,
     notes: N,
-    known: Known,
+    known: ReceivedDoubts,
+    alloc: Global,
+    /// The peer does not recover links: no attach brings anything in.
+    is_plain: bool,
+    /// The last attach brought something in when the journal had got so many lines.
+    asked: Option<u64>,
 }
 
-/// As `run_receive`, with the journal at this path: what came of it, in all runs.
+/// As `run_receive`, with the journal at this path. `received` is what came of it in all runs, also if this one fails.
 pub(crate) fn receive_again<R, T: Reports>(
     rt: &R,
     exchange: &Exchange<'_>,
     path: &str,
+    received: &mut Received,
     reports: &mut T,
-) -> Result<Received, ExchangeFault>
+) -> Result<(), ExchangeFault>
 where
     R: AllocGlobal + Net<Stream = TcpStream> + Eprint + Clock + Files,
 {
-    let mut known = Known::none(rt.alloc());
+    let mut known = ReceivedDoubts::new(rt.alloc());
     match recall_journal(rt, path, Role::Receiver, &mut known) {
         Ok(notes) => {
-            let mut receives = Receives {
-                exchange,
-                notes,
-                known,
-            };
+            let mut receives = Receives::with(rt.alloc(), exchange, notes, known);
             let ended = go_over_all(rt, exchange, &mut receives, reports);
-            let received = receives.known.received();
-            let has_all = receives.has_all();
+            *received = received_of(&receives.known);
+            let is_done = has_all(&receives.known, exchange.count);
             drop(receives);
             match ended {
-                Err(fault) if !has_all || !is_of_peer(&fault) => Err(fault),
-                _ => Ok(received),
+                Err(fault) if !is_done || !is_of_peer(&fault) => Err(fault),
+                _ => Ok(()),
             }
         }
         Err(fault) => {
@@ -200,10 +93,22 @@ where
     }
 }
 
+fn received_of(known: &ReceivedDoubts) -> Received {
+    Received {
+        count: known.count(),
+        octets: known.octets(),
+        unsettled: known.doubts() as u64,
+    }
+}
+
 /// The peer is gone: what it has not settled is in doubt, and all else is done.
 fn is_of_peer(fault: &ExchangeFault) -> bool {
     match fault {
-        ExchangeFault::Socket(_) | ExchangeFault::NoPeer => true,
+        ExchangeFault::Socket(_)
+        | ExchangeFault::NotMet(_, _)
+        | ExchangeFault::Read(_)
+        | ExchangeFault::Write(_)
+        | ExchangeFault::NoPeer => true,
         ExchangeFault::Client(fault) => !is_ours(fault),
         _ => false,
     }
@@ -224,27 +129,42 @@ fn is_ours(fault: &ClientFault) -> bool {
 impl<N: Notes> GoesOn for Receives<'_, N> {
     /// Each message was written out, and the sender knows of each that it is accepted.
     fn is_done(&self) -> bool {
-        self.known.has_all(self.exchange) && self.known.doubts() == 0
+        self.has_all() && self.known.doubts() == 0
     }
 
     fn has_all(&self) -> bool {
-        self.known.has_all(self.exchange)
+        has_all(&self.known, self.exchange.count)
     }
 
     fn noted(&self) -> u64 {
         self.notes.noted()
     }
 
-    fn go_on<S: Session, T: Reports>(
+    fn has_asked(&self) -> bool {
+        self.asked == Some(self.notes.noted())
+    }
+
+    fn forgo(&mut self) {
+        self.is_plain = true;
+    }
+
+    fn go_on<S: Flushes, T: Reports>(
         &mut self,
         session: &mut S,
         reports: &mut T,
     ) -> Result<(), ExchangeFault> {
         self.join(session)?;
+        let mut count = self.known.count();
+        let mut since = reports.elapsed();
         for _ in 0..u64::MAX {
             if self.step(session, reports)? {
                 break;
             }
+            if self.known.count() != count {
+                count = self.known.count();
+                since = reports.elapsed();
+            }
+            within(self.exchange.wait, reports.elapsed().saturating_sub(since))?;
             turn(session, &mut self.notes)?;
         }
         self.finish(session)
@@ -268,10 +188,43 @@ impl<N: Notes> GoesOn for Receives<'_, N> {
     }
 }
 
-impl<N: Notes> Receives<'_, N> {
+impl<'a, N: Notes> Receives<'a, N> {
+    /// The messages of an exchange of which these notes know nothing yet.
+    #[cfg(test)]
+    pub(crate) fn new(alloc: Global, exchange: &'a Exchange<'a>, notes: N) -> Receives<'a, N> {
+        Receives::with(alloc, exchange, notes, ReceivedDoubts::new(alloc))
+    }
+
+    /// The messages of an exchange of which so much is known.
+    fn with(
+        alloc: Global,
+        exchange: &'a Exchange<'a>,
+        notes: N,
+        known: ReceivedDoubts,
+    ) -> Receives<'a, N> {
+        Receives {
+            exchange,
+            notes,
+            known,
+            alloc,
+            is_plain: false,
+            asked: None,
+        }
+    }
+
+    /// How many messages were had.
+    #[cfg(test)]
+    pub(crate) fn count(&self) -> u64 {
+        self.known.count()
+    }
+
     /// Session and link are there, which brings in what is in doubt.
     fn join<S: Session>(&mut self, session: &mut S) -> Result<(), ExchangeFault> {
-        let tags = self.known.bring()?;
+        self.known.bring()?;
+        let mut tags = Vec::new(self.alloc);
+        if !self.is_plain {
+            tags = tags_of(self.alloc, &self.known)?;
+        }
         let joined = join(
             session,
             self.exchange,
@@ -279,6 +232,7 @@ impl<N: Notes> Receives<'_, N> {
             &mut self.notes,
             tags.as_slice(),
         );
+        self.asked = asked_of(tags.as_slice(), self.notes.noted());
         drop(tags);
         joined
     }
@@ -291,7 +245,7 @@ impl<N: Notes> Receives<'_, N> {
     ) -> Result<bool, ExchangeFault> {
         self.take_all(session, reports)?;
         self.look_brought(session)?;
-        if self.known.has_all(self.exchange) && self.known.brought.is_empty() {
+        if self.has_all() && self.known.brought_len() == 0 {
             return Ok(true);
         }
         match self.renew(session) {
@@ -317,7 +271,7 @@ impl<N: Notes> Receives<'_, N> {
         reports: &mut T,
     ) -> Result<(), ExchangeFault> {
         for _ in 0..u64::MAX {
-            if self.known.has_all(self.exchange) {
+            if self.has_all() {
                 break;
             }
             match take_or_left(session.end_mut()) {
@@ -343,7 +297,7 @@ impl<N: Notes> Receives<'_, N> {
             // Where the link is gone the message stays in doubt.
             settle_as(session, came.id, DeliveryState::Accepted)?;
         }
-        reports.note(self.known.count);
+        reports.note(self.known.count());
         Ok(())
     }
 
@@ -366,23 +320,33 @@ impl<N: Notes> Receives<'_, N> {
         }
     }
 
-    /// Of so many messages that were told the sender knows what became of them.
+    /// Of so many messages whose outcome was sent the sender knows it.
     fn settle_told(&mut self, count: usize) -> Result<(), ExchangeFault> {
-        settle_first(&mut self.notes, &mut self.known.told, count)
+        for _ in 0..count {
+            match self.known.pop_told() {
+                Some(tag) => self.notes.note(&Line::Settled(tag))?,
+                None => break,
+            }
+        }
+        Ok(())
     }
 
     /// Nothing is in doubt any more.
     fn settle_all(&mut self) -> Result<(), ExchangeFault> {
-        let count = self.known.brought.len();
-        settle_first(&mut self.notes, &mut self.known.brought, count)?;
-        let count = self.known.told.len();
+        for _ in 0..self.known.brought_len() {
+            match self.known.pop_brought() {
+                Some(tag) => self.notes.note(&Line::Settled(tag))?,
+                None => break,
+            }
+        }
+        let count = self.known.told_len();
         self.settle_told(count)
     }
 
     /// Looks, once round, for what was brought in and waits no longer: the sender has not told of it, or has resumed it, settled or not.
     fn look_brought<S: Session>(&mut self, session: &mut S) -> Result<(), ExchangeFault> {
-        for _ in 0..self.known.brought.len() {
-            match self.known.brought.pop_front() {
+        for _ in 0..self.known.brought_len() {
+            match self.known.pop_brought() {
                 Some(tag) => self.look_at(session, tag)?,
                 None => break,
             }
@@ -394,11 +358,11 @@ impl<N: Notes> Receives<'_, N> {
     fn look_at<S: Session>(&mut self, session: &mut S, tag: Tag) -> Result<(), ExchangeFault> {
         let end = session.end();
         if end.is_gone() || end.waits(&tag) {
-            return push(&mut self.known.brought, tag);
+            return Ok(self.known.keep_brought(tag)?);
         }
         match end.held(&tag) {
             Some(id) => {
-                push(&mut self.known.told, tag)?;
+                self.known.tell(tag)?;
                 settle_as(session, id, DeliveryState::Accepted)?;
                 Ok(())
             }
@@ -406,45 +370,47 @@ impl<N: Notes> Receives<'_, N> {
         }
     }
 
-    /// Credit is given again for what is still wanted and for what waits to be resumed, as far as what is in doubt can be told of.
+    /// Credit is granted again: first for what waits to be resumed, and then for what is still wanted, as far as what is in doubt can be told of.
     fn renew<S: Session>(&mut self, session: &mut S) -> Result<(), ClientFault> {
         if session.end().is_gone() {
             return Ok(());
         }
-        let credit = self.credit_wanted(session.end());
-        let left = session.end().credit();
-        if left < credit && left <= self.exchange.least_of(credit) {
+        let incoming = incoming_of(session.end());
+        if let Some(credit) = self.credit_due(session.end(), incoming) {
             grant(session, credit)?;
-            self.known.set_mark(left);
+            self.known
+                .set_mark(incoming.credit.saturating_add(incoming.ready));
         }
         Ok(())
     }
 
-    /// For so many messages there is to be credit.
-    fn credit_wanted(&self, end: &End) -> u32 {
+    fn credit_due(&self, end: &End, incoming: Incoming) -> Option<u32> {
+        let waiting = end.waiting_len();
+        if waiting > 0 {
+            return credit_due(
+                waiting,
+                0,
+                incoming,
+                self.exchange.credit,
+                self.exchange.renewal,
+            );
+        }
         // What came by the credit before is in doubt until something comes by this one.
-        let most = most_in_doubt(end).saturating_sub(self.known.brought.len()) / 2;
-        let wanted = u64::from(self.exchange.count).saturating_sub(self.known.count);
-        let room = wanted
-            .min(most.max(1) as u64)
-            .saturating_add(u64::from(end.waiting_len()));
-        room.min(u64::from(self.exchange.credit)) as u32
+        let most = most_in_doubt(end).saturating_sub(self.known.brought_len()) / 2;
+        let most = u32::try_from(most.max(1)).unwrap_or(u32::MAX);
+        credit_due(
+            self.exchange.count,
+            self.known.count(),
+            incoming,
+            self.exchange.credit.min(most),
+            self.exchange.renewal,
+        )
     }
 }
 
-/// Of the first of these tags, so many, it is noted that their sender asks no more.
-fn settle_first<N: Notes>(
-    notes: &mut N,
-    tags: &mut VecDeque<Tag>,
-    count: usize,
-) -> Result<(), ExchangeFault> {
-    for _ in 0..count {
-        match tags.pop_front() {
-            Some(tag) => notes.note(&Line::Settled(tag))?,
-            None => break,
-        }
-    }
-    Ok(())
+/// What an attach that brought in these deliveries asked for when the journal had got so many lines.
+fn asked_of(tags: &[Tag], noted: u64) -> Option<u64> {
+    if tags.is_empty() { None } else { Some(noted) }
 }
 
 /// The next message that is there. Of what a link left that is gone only what came settled: the peer has all else.

@@ -1,10 +1,15 @@
 //! The command `receive` over one connection.
-use crate::exchange::{Exchange, ExchangeFault, Received, Renewal, begin};
+ghost use Rattle.std.specs.Prelude.{◌↔◌, ◌≤◌, ◌*◌, IsTrue};
+
+use crate::credit::{credit_due, incoming_of};
+use crate::exchange::{Exchange, ExchangeFault, Received, Renewal, Settlement, begin};
 use crate::meeting::{Runs, run_over};
+use crate::observed::Flushes;
 use crate::progress::Watch;
-use crate::report::{Output, Reports, last_error, show_taken};
-use amqp_client::{ClientFault, Session, drain, finish, grant, settle_as, take, take_drained};
-use amqp_conn::{Boxed, DeliveryState, Role, Taken};
+use crate::reason::has_reason;
+use crate::report::{Output, Reports, show_taken};
+use amqp_client::{ClientFault, End, Session, drain, finish, grant, settle_as, take_drained};
+use amqp_conn::{Boxed, DeliveryState, Phase, Refusal, Role, Taken};
 use std::alloc::Global;
 use std::io::Write;
 use std::net::{Net, TcpStream};
@@ -18,7 +23,7 @@ struct Receives<'a> {
 }
 
 impl Runs for Receives<'_> {
-    fn run<S: Session, T: Reports>(
+    fn run<S: Flushes, T: Reports>(
         &mut self,
         session: &mut S,
         reports: &mut T,
@@ -27,13 +32,14 @@ impl Runs for Receives<'_> {
     }
 }
 
-/// Takes them over one connection.
+/// Takes them over one connection, and counts them in `received`, also if that fails.
 pub(crate) fn receive_once<R, T: Reports>(
     rt: &R,
     alloc: Global,
     exchange: &Exchange<'_>,
+    received: &mut Received,
     reports: &mut T,
-) -> Result<Received, ExchangeFault>
+) -> Result<(), ExchangeFault>
 where
     R: Net<Stream = TcpStream> + Eprint + Clock,
 {
@@ -41,10 +47,9 @@ where
         exchange,
         received: Received::NONE,
     };
-    match run_over(rt, alloc, exchange, &mut receives, reports) {
-        Ok(()) => Ok(receives.received),
-        Err(fault) => Err(fault),
-    }
+    let ended = run_over(rt, alloc, exchange, &mut receives, reports);
+    *received = receives.received;
+    ended
 }
 
 /// Takes all messages over this end, prints what is asked for of each, accepts it, and ends link, session and connection.
@@ -91,22 +96,81 @@ fn take_all<S: Session, T: Reports>(
     reports: &mut T,
 ) -> Result<(), ExchangeFault> {
     for number in 0..exchange.count {
-        match take_next(session, exchange, exchange.count.saturating_sub(number)) {
-            Ok(taken) => accept(session, taken, received, reports)?,
-            Err(fault) => return Err(ExchangeFault::Client(fault)),
-        }
+        let taken = take_next(session, exchange, u64::from(number), reports)?;
+        accept(session, exchange.settlement, taken, received, reports)?;
     }
     Ok(())
 }
 
-/// Takes a message where so many are still wanted.
-fn take_next<S: Session>(
+/// Takes a message if so many were taken before it, as soon as it is there.
+fn take_next<S: Session, T: Reports>(
     session: &mut S,
     exchange: &Exchange<'_>,
-    wanted: u32,
-) -> Result<Boxed<Taken>, ClientFault> {
-    renew(session, exchange, wanted)?;
-    take(session)
+    taken: u64,
+    reports: &mut T,
+) -> Result<Boxed<Taken>, ExchangeFault> {
+    renew(session, exchange, taken).map_err(ExchangeFault::Client)?;
+    let begun = reports.elapsed();
+    for _ in 0..u64::MAX {
+        match next_of(session.end_mut()) {
+            Ok(Some(taken)) => return Ok(taken),
+            Ok(None) => {}
+            Err(fault) => return Err(ExchangeFault::Client(fault)),
+        }
+        within(exchange.wait, reports.elapsed().saturating_sub(begun))?;
+        if let Err(fault) = session.turn() {
+            return last_of(session.end_mut(), fault);
+        }
+    }
+    Err(ExchangeFault::Client(ClientFault::Closed))
+}
+
+/// The next message that is there, also one that the link has left which is gone.
+///
+/// # Errors
+///
+/// `Closed` or `Refused` if the connection or the link is gone and has left none, and `NoMemory`.
+fn next_of(end: &mut End) -> Result<Option<Boxed<Taken>>, ClientFault> {
+    match end.take_ready() {
+        Ok(None) if end.is_gone() => {}
+        taken => return taken,
+    }
+    match end.take_last() {
+        Ok(None) => Err(gone_of(end)),
+        left => left,
+    }
+}
+
+/// Why nothing more comes of a link that is gone.
+fn gone_of(end: &End) -> ClientFault {
+    if end.conn().phase() == Phase::Closed {
+        ClientFault::Closed
+    } else {
+        ClientFault::Refused(Refusal::NoLink)
+    }
+}
+
+/// The message that came before a fault, or the fault.
+fn last_of(end: &mut End, fault: ClientFault) -> Result<Boxed<Taken>, ExchangeFault> {
+    match next_of(end) {
+        Ok(Some(taken)) => Ok(taken),
+        _ => Err(ExchangeFault::Client(fault)),
+    }
+}
+
+/// The message is waited for no longer than is asked for, by this many milliseconds.
+pub(crate) fn within(wait: Option<u32>, passed: u64) -> Result<(), ExchangeFault> {
+    match wait {
+        Some(seconds) if is_over(seconds, passed) => Err(ExchangeFault::NoMessage(seconds)),
+        _ => Ok(()),
+    }
+}
+
+/// So many seconds have passed.
+fn is_over(seconds: u32, milliseconds: u64) -> bool
+    ensures { IsTrue result ↔ (seconds * 1000 ≤ milliseconds) }
+{
+    u64::from(seconds) * 1000 <= milliseconds
 }
 
 /// Takes messages until the peer has no more, or there were as many as are asked for.
@@ -119,7 +183,7 @@ fn drain_all<S: Session, T: Reports>(
     let mut given = 0;
     for _ in 0..exchange.count {
         match drain_next(session, exchange, received.count, &mut given) {
-            Ok(Some(taken)) => accept(session, taken, received, reports)?,
+            Ok(Some(taken)) => accept(session, exchange.settlement, taken, received, reports)?,
             Ok(None) => break,
             Err(fault) => return Err(ExchangeFault::Client(fault)),
         }
@@ -136,12 +200,12 @@ fn drain_next<S: Session>(
 ) -> Result<Option<Boxed<Taken>>, ClientFault> {
     renew_drain(session, exchange, taken, given)?;
     match take_drained(session) {
-        Ok(None) if last_error(session.end().conn()).is_some() => Err(ClientFault::Ended),
+        Ok(None) if has_reason(session.end().conn()) => Err(ClientFault::Ended),
         taken => taken,
     }
 }
 
-/// Credit is given again once so many messages were taken as were granted until now.
+/// Credit is granted again once so many messages were taken as were granted until now.
 fn renew_drain<S: Session>(
     session: &mut S,
     exchange: &Exchange<'_>,
@@ -151,28 +215,57 @@ fn renew_drain<S: Session>(
     if taken != *given || session.end().is_gone() {
         return Ok(());
     }
-    let wanted = u64::from(exchange.count).saturating_sub(taken);
-    let credit = wanted.min(u64::from(exchange.credit)) as u32;
-    *given = given.saturating_add(u64::from(credit));
-    drain(session, credit)
+    let incoming = incoming_of(session.end());
+    match credit_due(
+        exchange.count,
+        taken,
+        incoming,
+        exchange.credit,
+        Renewal::Drain,
+    ) {
+        Some(credit) => {
+            *given = given.saturating_add(u64::from(credit));
+            drain(session, credit)
+        }
+        None => Ok(()),
+    }
 }
 
-/// Credit is given again as is asked for, and never for more messages than are still wanted.
+/// Credit is granted again as is asked for, and never for more messages than are still wanted.
 fn renew<S: Session>(
     session: &mut S,
     exchange: &Exchange<'_>,
-    wanted: u32,
+    taken: u64,
 ) -> Result<(), ClientFault> {
-    let credit = session.end().credit();
-    if session.end().is_gone() || credit >= wanted || credit > exchange.least_of(exchange.credit) {
+    if session.end().is_gone() {
         return Ok(());
     }
-    grant(session, exchange.credit.min(wanted))
+    let incoming = incoming_of(session.end());
+    match credit_due(
+        exchange.count,
+        taken,
+        incoming,
+        exchange.credit,
+        exchange.renewal,
+    ) {
+        Some(credit) => grant(session, credit),
+        None => Ok(()),
+    }
 }
 
-/// Prints what is asked for of the message, counts it, and accepts it unless it came settled.
+/// What the peer is answered.
+fn state_of(settlement: Settlement) -> DeliveryState {
+    match settlement {
+        Settlement::Accept => DeliveryState::Accepted,
+        Settlement::Release => DeliveryState::Released,
+        Settlement::Reject => DeliveryState::Rejected(None),
+    }
+}
+
+/// Prints what is asked for of the message, counts it, and answers it unless it came settled.
 fn accept<S: Session, T: Reports>(
     session: &mut S,
+    settlement: Settlement,
     taken: Boxed<Taken>,
     received: &mut Received,
     reports: &mut T,
@@ -181,10 +274,13 @@ fn accept<S: Session, T: Reports>(
     received.count = received.count.saturating_add(1);
     received.octets = received.octets.saturating_add(came.octets);
     if !came.is_settled {
-        match settle_as(session, came.id, DeliveryState::Accepted) {
+        match settle_as(session, came.id, state_of(settlement)) {
             Ok(true) => {}
             Ok(false) => received.unsettled = received.unsettled.saturating_add(1),
-            Err(fault) => return Err(ExchangeFault::Client(fault)),
+            Err(fault) => {
+                received.unsettled = received.unsettled.saturating_add(1);
+                return Err(ExchangeFault::Client(fault));
+            }
         }
     }
     reports.note(received.count);

@@ -2,20 +2,19 @@
 use crate::exchange::{ExchangeFault, Received, Sent};
 use crate::printing::{Printed, write_taken};
 use crate::progress::Watch;
-use amqp_client::Session;
-use amqp_conn::{AmqpError, Boxed, Bytes, Conn, Tag, Taken, error_of};
+use crate::reason::Reason;
+use amqp_conn::{Boxed, Bytes, Tag, Taken};
 use std::alloc::Global;
-use std::fmt::{Display, Formatter};
+use std::io;
 use std::io::Write;
-use std::{fmt, io};
 
 /// Is told what comes of an exchange: an [`Output`].
 pub(crate) trait Reports: Watch {
     /// Prints of the message with this payload what is asked for.
     fn show(&mut self, payload: &Bytes) -> Result<(), ExchangeFault>;
 
-    /// Tells the error that the peer told.
-    fn tell(&mut self, error: &AmqpError) -> Result<(), ExchangeFault>;
+    /// Prints why either end has left the link, the session or the connection, on standard error.
+    fn tell(&mut self, reason: &Reason);
 }
 
 /// Where what is printed of messages goes, and who watches.
@@ -51,6 +50,14 @@ impl<O: Write, P: Watch> Watch for Output<'_, O, P> {
     fn end(&mut self) {
         self.watch.end();
     }
+
+    fn say(&mut self, line: &str) {
+        self.watch.say(line);
+    }
+
+    fn elapsed(&self) -> u64 {
+        self.watch.elapsed()
+    }
 }
 
 impl<O: Write, P: Watch> Reports for Output<'_, O, P> {
@@ -58,8 +65,10 @@ impl<O: Write, P: Watch> Reports for Output<'_, O, P> {
         write_taken(self.alloc, self.printed, payload, self.out)
     }
 
-    fn tell(&mut self, error: &AmqpError) -> Result<(), ExchangeFault> {
-        tell_condition(self.out, error).map_err(ExchangeFault::Out)
+    fn tell(&mut self, reason: &Reason) {
+        if let Ok(line) = format!(in self.alloc; "{reason}") {
+            self.watch.say(line.as_str());
+        }
     }
 }
 
@@ -97,60 +106,6 @@ fn came_of(taken: &Taken) -> Came {
         tag: taken.tag,
         is_settled: taken.settled,
         octets: taken.payload.len(),
-    }
-}
-
-/// Where it failed: the error that the peer told by its close, or by the frame that came last, is told.
-pub(crate) fn tell_error<S: Session, T: Reports>(
-    session: &S,
-    ended: Result<(), ExchangeFault>,
-    reports: &mut T,
-) -> Result<(), ExchangeFault> {
-    match (ended, last_error(session.end().conn())) {
-        (Err(fault), Some(error)) => match reports.tell(error) {
-            Ok(()) => Err(fault),
-            failed => {
-                drop(fault);
-                failed
-            }
-        },
-        (ended, _) => ended,
-    }
-}
-
-pub(crate) fn last_error(conn: &Conn) -> Option<&AmqpError> {
-    if let Some(error) = conn.ended_by() {
-        return Some(error);
-    }
-    match conn.heard() {
-        Some(frame) => error_of(frame),
-        None => None,
-    }
-}
-
-fn tell_condition<W: Write>(out: &mut W, error: &AmqpError) -> io::Result<()> {
-    let condition = Shown(error.condition.as_str());
-    match &error.description {
-        Some(description) => writeln!(out, "told {condition} {}", Shown(description.as_str()))?,
-        None => writeln!(out, "told {condition}")?,
-    }
-    out.flush()
-}
-
-/// A text of the peer's in a line of ours: what could end that, or steer a terminal, is escaped.
-#[derive(Clone, Copy)]
-struct Shown<'a>(&'a str);
-
-impl Display for Shown<'_> {
-    fn fmt<W: fmt::Write>(&self, f: &mut Formatter<W>) -> fmt::Result {
-        for it in self.0.chars() {
-            if it.is_control() || it == '\\' {
-                write!(f, "\\x{:02x}", u32::from(it))?;
-            } else {
-                f.write_char(it)?;
-            }
-        }
-        Ok(())
     }
 }
 

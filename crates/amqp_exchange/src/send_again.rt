@@ -1,164 +1,119 @@
 //! The command `send` with a journal: each message goes once, over as many connections as it takes, in as many runs.
+ghost use Rattle.std.specs.Prelude.{◌≡◌};
+ghost use Rattle.amqp_exchange.specs.Resuming.{after_verdict};
+
 use crate::again::{GoesOn, go_over_all, join, most_in_doubt, turn};
 use crate::bodies::{Bodies, Supply};
 use crate::exchange::{Exchange, ExchangeFault, Sent};
-use crate::journal::{Journal, Line, Notes};
+use crate::journal::{Journal, Line, Notes, outcome_of};
+use crate::observed::Flushes;
 use crate::recalling::{Recalls, recall_journal};
 use crate::report::Reports;
-use amqp_client::{Outcome, Outcomes, Session, finish, number_of, resume, send, settle};
+use crate::streaming::Next;
+use amqp_client::{End, LINK, Session, finish, number_of, resume, send, settle};
 use amqp_conn::{Bytes, Role, Tag, Verdict};
-use std::alloc::Global;
-use std::collections::VecDeque;
+use amqp_policy::{Begun, Outcome, SentDoubts};
+use std::alloc::{AllocError, Global};
 use std::io::BufRead;
 use std::net::{Net, TcpStream};
 use std::rt::{Clock, Files};
 
-/// A message that has begun, and of which no outcome is known.
-#[derive(Drop)]
-struct Doubt {
-    number: u32,
-    /// None until the input was read up to it.
-    message: Option<Bytes>,
+/// The messages that have begun. Of one in doubt its octets are kept; `None` until the input was read up to it.
+type Known = SentDoubts<Option<Bytes>>;
+
+/// The tags of what is in doubt.
+fn tags_of(alloc: Global, known: &Known) -> Result<Vec<Tag>, AllocError> {
+    let mut tags = Vec::new(alloc);
+    for place in 0..known.len() {
+        if let Some(number) = known.number_at(place) {
+            if let Some(tag) = Tag::new(&number.to_be_bytes()) {
+                tags.push(tag)?;
+            }
+        }
+    }
+    Ok(tags)
 }
 
-/// What is known of the messages of this exchange.
-#[derive(Drop)]
-struct Known {
-    /// Messages with lower numbers have begun.
-    next: u32,
-    doubts: VecDeque<Doubt>,
-    outcomes: Outcomes,
-    alloc: Global,
-}
-
-impl Known {
-    fn none(alloc: Global) -> Known {
-        Known {
-            next: 0,
-            doubts: VecDeque::new(alloc),
-            outcomes: Outcomes::NONE,
-            alloc,
-        }
-    }
-
-    /// The message with the next number begins.
-    fn begin(&mut self, message: Option<Bytes>) -> Result<(), ExchangeFault> {
-        let number = self.next;
-        match self.doubts.push_back(Doubt { number, message }) {
-            Ok(()) => {
-                self.next = number.saturating_add(1);
-                Ok(())
-            }
-            Err(failed) => {
-                drop(failed);
-                Err(ExchangeFault::NoMemory)
-            }
-        }
-    }
-
-    fn place_of(&self, number: u32) -> Option<usize> {
-        self.doubts.iter().position(|doubt| doubt.number == number)
-    }
-
-    /// False where the message is not in doubt.
-    fn end(&mut self, number: u32, outcome: Outcome) -> bool {
-        match self.place_of(number) {
-            Some(place) => {
-                drop(self.doubts.remove(place));
-                self.outcomes.count(outcome);
-                true
-            }
-            None => false,
-        }
-    }
-
-    /// The octets of the message with this number, where it is in doubt.
-    fn keep(&mut self, number: u32, message: Bytes) {
-        if let Some(place) = self.place_of(number) {
-            if let Some(doubt) = self.doubts.get_mut(place) {
-                doubt.message = Some(message);
-                return;
-            }
-        }
-        drop(message);
-    }
-
-    /// The tags of what is in doubt.
-    fn tags(&self) -> Result<Vec<Tag>, ExchangeFault> {
-        let mut tags = Vec::new(self.alloc);
-        for doubt in self.doubts.iter() {
-            if let Some(tag) = Tag::new(&doubt.number.to_be_bytes()) {
-                if tags.push(tag).is_err() {
-                    return Err(ExchangeFault::NoMemory);
-                }
-            }
-        }
-        Ok(tags)
-    }
-
-    /// A hand on the message with this number, which is in doubt.
-    fn message(&self, number: u32) -> Result<Option<Bytes>, ExchangeFault> {
-        match self.place_of(number) {
-            Some(place) => match self.doubts.get(place) {
-                Some(doubt) => shared(&doubt.message),
-                None => Ok(None),
-            },
-            None => Ok(None),
-        }
-    }
-}
-
-fn shared(message: &Option<Bytes>) -> Result<Option<Bytes>, ExchangeFault> {
-    match message {
-        Some(message) => Ok(Some(message.clone()?)),
-        None => Ok(None),
+/// A hand on the message with this number, if it is in doubt.
+fn message_of(known: &Known, number: u32) -> Result<Option<Bytes>, AllocError> {
+    match known.kept(number) {
+        Some(Some(message)) => Ok(Some(message.clone()?)),
+        _ => Ok(None),
     }
 }
 
 impl Recalls for Known {
     fn recall(&mut self, line: &Line<'_>) -> Result<bool, ExchangeFault> {
         match line {
-            Line::Told(outcome, number) => Ok(self.end(*number, *outcome)),
-            Line::Begun(number) if *number == self.next && *number < u32::MAX => {
-                self.begin(None)?;
-                Ok(true)
-            }
+            Line::Told(outcome, number) => Ok(self.recall_ended(*number, *outcome)),
+            Line::Begun(number) => Ok(self.recall_begun(*number, None)?),
             _ => Ok(false),
         }
     }
 }
 
+/// What is done with a message in doubt once the peer's attach has said what it has of it (part 2, 2.6.13).
+#[derive(Clone, Copy, Debug, PartialEq, Eq)]
+enum Resumption {
+    /// Its outcome is known.
+    End,
+    /// The peer has none of it, or a part: it goes once more.
+    SendAgain,
+    /// The peer has it, and will say what becomes of it.
+    Await,
+}
+
+fn after_verdict(verdict: Verdict) -> Resumption
+    ensures { result ≡ after_verdict verdict }
+{
+    match verdict {
+        Verdict::Outcome => Resumption::End,
+        Verdict::Absent | Verdict::Partial => Resumption::SendAgain,
+        Verdict::Held | Verdict::Unclear => Resumption::Await,
+    }
+}
+
 /// The messages of an exchange, and its journal.
 #[derive(Drop)]
-struct Sends<'a, N, B> {
+pub(crate) struct Sends<'a, N, B> {
     exchange: &'a Exchange<'a>,
     notes: N,
     bodies: B,
     known: Known,
+    alloc: Global,
     /// The message that is to begin next, where it was looked for.
     pending: Option<Bytes>,
     /// There is none more.
     is_over: bool,
+    /// The peer does not recover links: no attach brings anything in.
+    is_plain: bool,
+    /// The last attach brought something in when the journal had got so many lines.
+    asked: Option<u64>,
 }
 
-/// As `run_send`, with the journal at this path.
+/// As `run_send`, with the journal at this path. `sent` is what came of it in all runs, also if this one fails.
 pub(crate) fn send_again<R, I: BufRead, T: Reports>(
     rt: &R,
     exchange: &Exchange<'_>,
     path: &str,
     file: Option<Vec<u8>>,
     input: &mut I,
+    sent: &mut Sent,
     reports: &mut T,
-) -> Result<Sent, ExchangeFault>
+) -> Result<(), ExchangeFault>
 where
     R: AllocGlobal + Net<Stream = TcpStream> + Eprint + Clock + Files,
 {
     let bodies = Bodies::new(rt.alloc(), exchange, file, input)?;
     match sends_of(rt, exchange, path, bodies) {
         Ok(mut sends) => {
-            let sent = send_on(rt, exchange, &mut sends, reports);
+            let ended = send_on(rt, exchange, &mut sends, reports);
+            *sent = Sent {
+                count: u64::from(sends.known.next()),
+                outcomes: sends.known.outcomes(),
+            };
             drop(sends);
-            sent
+            ended
         }
         Err(fault) => Err(fault),
     }
@@ -171,16 +126,9 @@ fn sends_of<'a, R: AllocGlobal + Files, B: Drop>(
     path: &str,
     bodies: B,
 ) -> Result<Sends<'a, Journal<R::File>, B>, ExchangeFault> {
-    let mut known = Known::none(rt.alloc());
+    let mut known: Known = SentDoubts::new(rt.alloc());
     match recall_journal(rt, path, Role::Sender, &mut known) {
-        Ok(notes) => Ok(Sends {
-            exchange,
-            notes,
-            bodies,
-            known,
-            pending: None,
-            is_over: false,
-        }),
+        Ok(notes) => Ok(Sends::with(rt.alloc(), exchange, notes, bodies, known)),
         Err(fault) => {
             drop(bodies);
             drop(known);
@@ -194,24 +142,18 @@ fn send_on<R, N: Notes, B: Supply, T: Reports>(
     exchange: &Exchange<'_>,
     sends: &mut Sends<'_, N, B>,
     reports: &mut T,
-) -> Result<Sent, ExchangeFault>
+) -> Result<(), ExchangeFault>
 where
     R: AllocGlobal + Net<Stream = TcpStream> + Eprint + Clock,
 {
     sends.skip()?;
-    match go_over_all(rt, exchange, sends, reports) {
-        Ok(()) => Ok(Sent {
-            count: u64::from(sends.known.next),
-            outcomes: sends.known.outcomes,
-        }),
-        Err(fault) => Err(fault),
-    }
+    go_over_all(rt, exchange, sends, reports)
 }
 
 impl<N: Notes, B: Supply> GoesOn for Sends<'_, N, B> {
     /// Each message was sent, and has its outcome.
     fn is_done(&self) -> bool {
-        self.is_over && self.known.doubts.is_empty()
+        self.is_over && self.known.is_empty()
     }
 
     fn has_all(&self) -> bool {
@@ -222,7 +164,15 @@ impl<N: Notes, B: Supply> GoesOn for Sends<'_, N, B> {
         self.notes.noted()
     }
 
-    fn go_on<S: Session, T: Reports>(
+    fn has_asked(&self) -> bool {
+        self.asked == Some(self.notes.noted())
+    }
+
+    fn forgo(&mut self) {
+        self.is_plain = true;
+    }
+
+    fn go_on<S: Flushes, T: Reports>(
         &mut self,
         session: &mut S,
         reports: &mut T,
@@ -235,7 +185,7 @@ impl<N: Notes, B: Supply> GoesOn for Sends<'_, N, B> {
         finish(session).map_err(ExchangeFault::Client)
     }
 
-    /// What was told before the end is known, too, and only then the peer's detach is answered.
+    /// What was told before the end is known, too.
     fn wind_up<S: Session, T: Reports>(
         &mut self,
         session: &mut S,
@@ -243,26 +193,71 @@ impl<N: Notes, B: Supply> GoesOn for Sends<'_, N, B> {
         _reports: &mut T,
     ) -> Result<(), ExchangeFault> {
         self.learn(session)?;
-        self.notes.sync()?;
-        if session.end().is_gone() {
-            session.write_out();
+        self.notes.sync()
+    }
+}
+
+impl<'a, N, B> Sends<'a, N, B> {
+    /// The messages of an exchange of which so much is known.
+    fn with(
+        alloc: Global,
+        exchange: &'a Exchange<'a>,
+        notes: N,
+        bodies: B,
+        known: Known,
+    ) -> Sends<'a, N, B> {
+        Sends {
+            exchange,
+            notes,
+            bodies,
+            known,
+            alloc,
+            pending: None,
+            is_over: false,
+            is_plain: false,
+            asked: None,
         }
-        Ok(())
+    }
+
+    /// The messages of an exchange of which these notes know nothing yet.
+    #[cfg(test)]
+    pub(crate) fn new(
+        alloc: Global,
+        exchange: &'a Exchange<'a>,
+        notes: N,
+        bodies: B,
+    ) -> Sends<'a, N, B> {
+        Sends::with(alloc, exchange, notes, bodies, SentDoubts::new(alloc))
+    }
+
+    /// How many messages have begun.
+    #[cfg(test)]
+    pub(crate) fn count(&self) -> u64 {
+        u64::from(self.known.next())
     }
 }
 
 impl<N: Notes, B: Supply> Sends<'_, N, B> {
     /// Reads over what has begun, and keeps of it what is in doubt.
     fn skip(&mut self) -> Result<(), ExchangeFault> {
-        if self.known.next == 0 {
-            return Ok(());
-        }
-        for number in 0..self.known.next {
-            match self.bodies.next() {
-                Ok(Some(message)) => self.known.keep(number, message),
-                Ok(None) => return Err(ExchangeFault::TooFew),
-                Err(fault) => return Err(fault),
+        let mut number = 0;
+        for _ in 0..u64::MAX {
+            if number >= self.known.next() {
+                break;
             }
+            match self.bodies.next()? {
+                Next::Item(message) => {
+                    self.known.keep(number, Some(message));
+                    number = number.saturating_add(1);
+                }
+                Next::NotYet => {
+                    self.bodies.awaits();
+                }
+                Next::Over => return Err(ExchangeFault::TooFew),
+            }
+        }
+        if self.known.next() == 0 {
+            return Ok(());
         }
         self.look()
     }
@@ -270,15 +265,22 @@ impl<N: Notes, B: Supply> Sends<'_, N, B> {
     /// Looks for the message that is to begin next.
     fn look(&mut self) -> Result<(), ExchangeFault> {
         if self.pending.is_none() && !self.is_over {
-            self.pending = self.bodies.next()?;
-            self.is_over = self.pending.is_none();
+            match self.bodies.next()? {
+                Next::Item(message) => self.pending = Some(message),
+                Next::NotYet => {}
+                Next::Over => self.is_over = true,
+            }
         }
         Ok(())
     }
 
     /// Session and link are there, which brings in what is in doubt.
     fn join<S: Session>(&mut self, session: &mut S) -> Result<(), ExchangeFault> {
-        let tags = self.known.tags()?;
+        self.known.bring();
+        let mut tags = Vec::new(self.alloc);
+        if !self.is_plain {
+            tags = tags_of(self.alloc, &self.known)?;
+        }
         let joined = join(
             session,
             self.exchange,
@@ -286,6 +288,7 @@ impl<N: Notes, B: Supply> Sends<'_, N, B> {
             &mut self.notes,
             tags.as_slice(),
         );
+        self.asked = asked_of(tags.as_slice(), self.notes.noted());
         drop(tags);
         joined
     }
@@ -295,7 +298,7 @@ impl<N: Notes, B: Supply> Sends<'_, N, B> {
         for _ in 0..u64::MAX {
             match session.end_mut().told() {
                 Ok(Some(told)) if told.is_last() => {
-                    self.note_end(told.number, told.outcome)?;
+                    self.note_end(told.number, outcome_of(told.outcome))?;
                     settle(session, told)?;
                 }
                 Ok(Some(_)) => {}
@@ -328,7 +331,7 @@ impl<N: Notes, B: Supply> Sends<'_, N, B> {
     fn await_outcomes<S: Session>(&mut self, session: &mut S) -> Result<(), ExchangeFault> {
         for _ in 0..u64::MAX {
             self.learn(session)?;
-            if self.known.doubts.is_empty() {
+            if self.known.is_empty() {
                 break;
             }
             turn(session, &mut self.notes)?;
@@ -336,47 +339,80 @@ impl<N: Notes, B: Supply> Sends<'_, N, B> {
         self.notes.sync()
     }
 
-    /// What is in doubt is resumed, or sent again, in its order.
+    /// What is in doubt is resumed, or sent again, in its order, before anything else begins.
     fn resume_all<S: Session>(&mut self, session: &mut S) -> Result<(), ExchangeFault> {
         for _ in 0..u64::MAX {
+            match self.known.brought_at(0) {
+                Some(number) => self.resume_one(session, number)?,
+                None => break,
+            }
+        }
+        self.resume_ended(session)
+    }
+
+    /// Resumes what still waits: the outcome of each is known.
+    fn resume_ended<S: Session>(&mut self, session: &mut S) -> Result<(), ExchangeFault> {
+        for _ in 0..u64::MAX {
             match session.end().waiting() {
-                Some((tag, verdict)) => self.resume_one(session, tag, verdict)?,
+                Some((tag, verdict)) => {
+                    self.await_room(session)?;
+                    self.resume_as(session, tag, verdict)?;
+                }
                 None => break,
             }
         }
         Ok(())
     }
 
-    /// What the peer has stays there, what it has not goes once more, and what became of it is noted where the peer tells that.
+    /// What the peer has stays there, what it has not goes once more, and what became of it is noted if the peer has said that.
     fn resume_one<S: Session>(
+        &mut self,
+        session: &mut S,
+        number: u32,
+    ) -> Result<(), ExchangeFault> {
+        self.await_room(session)?;
+        let resumption = match waiting_of(session.end(), number) {
+            Some((tag, verdict)) => self.resume_as(session, tag, verdict)?,
+            // It was not brought in: the peer has none of it.
+            None if self.is_plain => Resumption::SendAgain,
+            None => Resumption::Await,
+        };
+        self.known.resolve(number);
+        match resumption {
+            Resumption::SendAgain => self.send_once_more(session, number),
+            Resumption::End | Resumption::Await => Ok(()),
+        }
+    }
+
+    /// Resumes a delivery that waits, and notes its outcome if the peer has said it.
+    fn resume_as<S: Session>(
         &mut self,
         session: &mut S,
         tag: Tag,
         verdict: Verdict,
-    ) -> Result<(), ExchangeFault> {
-        self.await_room(session)?;
+    ) -> Result<Resumption, ExchangeFault> {
         self.notes.sync()?;
-        let outcome = resume(session, tag, verdict == Verdict::Outcome)?;
-        match verdict {
-            Verdict::Outcome => self.note_end(number_of(&tag), outcome),
-            Verdict::Absent | Verdict::Partial => self.send_once_more(session, number_of(&tag)),
-            Verdict::Held | Verdict::Unclear => Ok(()),
+        let resumption = after_verdict(verdict);
+        let outcome = resume(session, tag, resumption == Resumption::End)?;
+        if resumption == Resumption::End {
+            self.note_end(number_of(&tag), outcome_of(outcome))?;
         }
+        Ok(resumption)
     }
 
+    /// Sends a message that is in doubt; one that is not has its outcome, and goes no more.
     fn send_once_more<S: Session>(
         &mut self,
         session: &mut S,
         number: u32,
     ) -> Result<(), ExchangeFault> {
-        match self.known.message(number) {
-            Ok(Some(message)) => {
+        match message_of(&self.known, number)? {
+            Some(message) => {
                 let sent = self.put(session, number, &message);
                 drop(message);
                 sent
             }
-            Ok(None) => Ok(()),
-            Err(fault) => Err(fault),
+            None => Ok(()),
         }
     }
 
@@ -395,7 +431,7 @@ impl<N: Notes, B: Supply> Sends<'_, N, B> {
     }
 
     /// Sends what has not begun.
-    fn send_rest<S: Session, T: Reports>(
+    fn send_rest<S: Flushes, T: Reports>(
         &mut self,
         session: &mut S,
         reports: &mut T,
@@ -403,32 +439,65 @@ impl<N: Notes, B: Supply> Sends<'_, N, B> {
         let most = most_in_doubt(session.end());
         for _ in 0..u64::MAX {
             self.look()?;
-            if self.is_over || self.known.next == u32::MAX {
+            if self.is_over || !self.known.may_begin() {
                 break;
             }
-            self.send_or_wait(session, most, reports)?;
+            if self.pending.is_some() {
+                self.send_or_wait(session, most, reports)?;
+            } else {
+                self.await_input(session)?;
+            }
         }
         Ok(())
     }
 
+    /// The input has nothing ready: what was put out is written, and the peer is heard.
+    fn await_input<S: Flushes>(&mut self, session: &mut S) -> Result<(), ExchangeFault> {
+        self.notes.sync()?;
+        session.flush()?;
+        if !self.bodies.awaits() {
+            turn(session, &mut self.notes)?;
+        }
+        self.learn(session)
+    }
+
     /// Sends the message that was looked for, unless so many are in doubt.
-    fn send_or_wait<S: Session, T: Reports>(
+    fn send_or_wait<S: Flushes, T: Reports>(
         &mut self,
         session: &mut S,
         most: usize,
         reports: &mut T,
     ) -> Result<(), ExchangeFault> {
         self.await_room(session)?;
-        if self.known.doubts.len() >= most {
+        if self.known.len() >= most {
             return turn(session, &mut self.notes);
         }
-        let number = self.known.next;
-        self.notes.note(&Line::Begun(number))?;
-        self.known.begin(self.pending.take())?;
-        let sent = self.send_once_more(session, number);
-        if sent.is_ok() {
-            reports.note(u64::from(self.known.next));
+        self.notes.note(&Line::Begun(self.known.next()))?;
+        match self.known.begin(self.pending.take())? {
+            Begun::Number(number) => {
+                self.send_once_more(session, number)?;
+                reports.note(u64::from(self.known.next()));
+            }
+            Begun::Unresolved | Begun::NoNumber => {}
         }
-        sent
+        Ok(())
     }
+}
+
+/// What an attach that brought in these deliveries asked for when the journal had got so many lines.
+fn asked_of(tags: &[Tag], noted: u64) -> Option<u64> {
+    if tags.is_empty() { None } else { Some(noted) }
+}
+
+/// The delivery with this number, if it waits to be resumed, and what becomes of it.
+fn waiting_of(end: &End, number: u32) -> Option<(Tag, Verdict)> {
+    let endpoint = end.conn().logged().endpoint();
+    for place in 0..u32::MAX {
+        match endpoint.waiting_at(LINK, place as usize) {
+            Some((tag, verdict)) if number_of(tag) == number => return Some((*tag, verdict)),
+            Some(_) => {}
+            None => return None,
+        }
+    }
+    None
 }

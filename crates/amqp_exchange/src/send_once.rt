@@ -1,11 +1,14 @@
 //! The command `send` over one connection.
 use crate::bodies::{Bodies, Supply};
 use crate::exchange::{Exchange, ExchangeFault, Sent, begin};
+use crate::journal::outcome_of;
 use crate::meeting::{Runs, run_over};
+use crate::observed::Flushes;
 use crate::progress::Watch;
 use crate::report::Reports;
-use amqp_client::{ClientFault, Outcomes, Session, finish, learn, send};
-use amqp_conn::Role;
+use crate::streaming::Next;
+use amqp_client::{ClientFault, Session, Told, finish, learn, send, settle};
+use amqp_conn::{Bytes, Role};
 use std::alloc::Global;
 use std::io::BufRead;
 use std::net::{Net, TcpStream};
@@ -14,49 +17,48 @@ use std::rt::Clock;
 /// So many messages are sent before it is learnt what became of them.
 const BATCH: u32 = 1024;
 
+/// So many octets of messages wait at most before they are written.
+const QUEUE: usize = 262144;
+
 /// The messages of an exchange, and what was sent of them.
 #[derive(Drop)]
-struct Sends<'a, I> {
+struct Sends<'a, 'b, I> {
     alloc: Global,
     exchange: &'a Exchange<'a>,
     file: Option<Vec<u8>>,
-    input: &'a mut I,
+    input: &'b mut I,
     sent: Sent,
 }
 
-impl<I: BufRead> Runs for Sends<'_, I> {
-    fn run<S: Session, T: Reports>(
+impl<I: BufRead> Runs for Sends<'_, '_, I> {
+    fn run<S: Flushes, T: Reports>(
         &mut self,
         session: &mut S,
         reports: &mut T,
     ) -> Result<(), ExchangeFault> {
         let file = self.file.take();
-        match send_all(
+        send_counted(
             self.alloc,
             session,
             self.exchange,
             file,
             self.input,
+            &mut self.sent,
             reports,
-        ) {
-            Ok(sent) => {
-                self.sent = sent;
-                Ok(())
-            }
-            Err(fault) => Err(fault),
-        }
+        )
     }
 }
 
-/// Sends them over one connection.
+/// Sends them over one connection, and counts them in `sent`, also if that fails.
 pub(crate) fn send_once<R, I: BufRead, T: Reports>(
     rt: &R,
     alloc: Global,
     exchange: &Exchange<'_>,
     file: Option<Vec<u8>>,
     input: &mut I,
+    sent: &mut Sent,
     reports: &mut T,
-) -> Result<Sent, ExchangeFault>
+) -> Result<(), ExchangeFault>
 where
     R: Net<Stream = TcpStream> + Eprint + Clock,
 {
@@ -68,12 +70,9 @@ where
         sent: Sent::NONE,
     };
     let ended = run_over(rt, alloc, exchange, &mut sends, reports);
-    let sent = sends.sent;
+    *sent = sends.sent;
     drop(sends);
-    match ended {
-        Ok(()) => Ok(sent),
-        Err(fault) => Err(fault),
-    }
+    ended
 }
 
 /// Sends all messages over this end, each with these octets of a file as its body, where there are some, learns what became of each, and ends link, session and
@@ -82,7 +81,7 @@ where
 /// # Errors
 ///
 /// Where the peer ends, an operation is refused, a line cannot be read, a message cannot be written, or memory is refused.
-pub fn send_all<S: Session, I: BufRead, P: Watch>(
+pub fn send_all<S: Flushes, I: BufRead, P: Watch>(
     alloc: Global,
     session: &mut S,
     exchange: &Exchange<'_>,
@@ -90,17 +89,69 @@ pub fn send_all<S: Session, I: BufRead, P: Watch>(
     input: &mut I,
     watch: &mut P,
 ) -> Result<Sent, ExchangeFault> {
-    let mut bodies = Bodies::new(alloc, exchange, file, input)?;
     let mut sent = Sent::NONE;
-    let ended = send_bodies(session, exchange, &mut bodies, &mut sent, watch);
-    drop(bodies);
-    match ended {
+    match send_counted(alloc, session, exchange, file, input, &mut sent, watch) {
         Ok(()) => Ok(sent),
         Err(fault) => Err(fault),
     }
 }
 
-fn send_bodies<S: Session, B: Supply, P: Watch>(
+/// As `send_all`, and counts in `sent`, also if that fails.
+fn send_counted<S: Flushes, I: BufRead, P: Watch>(
+    alloc: Global,
+    session: &mut S,
+    exchange: &Exchange<'_>,
+    file: Option<Vec<u8>>,
+    input: &mut I,
+    sent: &mut Sent,
+    watch: &mut P,
+) -> Result<(), ExchangeFault> {
+    let mut bodies = Bodies::new(alloc, exchange, file, input)?;
+    let ended = send_bodies(session, exchange, &mut bodies, sent, watch);
+    drop(bodies);
+    ended
+}
+
+/// Some messages in a row, and of which it is known what became of them.
+#[derive(Clone, Copy)]
+struct Batch {
+    /// The number of the first one.
+    first: u32,
+    /// How many were sent.
+    count: u32,
+    /// How many octets of messages were put out and maybe not written.
+    queued: usize,
+    /// Of how many an outcome was counted.
+    ended: u32,
+    /// Of which.
+    known: [bool; BATCH as usize],
+}
+
+impl Batch {
+    fn starting_at(first: u32) -> Batch {
+        Batch {
+            first,
+            count: 0,
+            queued: 0,
+            ended: 0,
+            known: [false; BATCH as usize],
+        }
+    }
+
+    /// Notes that there is an outcome of the message with this number. False if there was one before, or it is none of these.
+    fn is_new(&mut self, number: u32) -> bool {
+        match self.known.get_mut(number.wrapping_sub(self.first) as usize) {
+            Some(mark) => {
+                let was_known = *mark;
+                *mark = true;
+                !was_known
+            }
+            None => false,
+        }
+    }
+}
+
+fn send_bodies<S: Flushes, B: Supply, P: Watch>(
     session: &mut S,
     exchange: &Exchange<'_>,
     bodies: &mut B,
@@ -109,104 +160,164 @@ fn send_bodies<S: Session, B: Supply, P: Watch>(
 ) -> Result<(), ExchangeFault> {
     begin(session, exchange, Role::Sender)?;
     for first in (0..u32::MAX).step_by(BATCH as usize) {
-        let count = send_batch(session, exchange.is_settled, bodies, first, watch)?;
-        if let Err(fault) = end_batch(session, exchange.is_settled, first, count, sent) {
-            return Err(ExchangeFault::Client(fault));
-        }
-        if count < BATCH {
+        let mut batch = Batch::starting_at(first);
+        let ended = send_batch(
+            session,
+            exchange.is_settled,
+            bodies,
+            &mut batch,
+            sent,
+            watch,
+        );
+        let ended = end_batch(session, exchange.is_settled, ended, &mut batch, sent);
+        if !ended? {
             break;
         }
     }
     finish(session).map_err(ExchangeFault::Client)
 }
 
-/// Sends messages from this number on, `BATCH` at most: how many. Fewer are the last ones.
-fn send_batch<S: Session, B: Supply, P: Watch>(
+/// Sends the messages of a batch. False if there are none behind them.
+fn send_batch<S: Flushes, B: Supply, P: Watch>(
     session: &mut S,
     is_settled: bool,
     bodies: &mut B,
-    first: u32,
+    batch: &mut Batch,
+    sent: &mut Sent,
     watch: &mut P,
-) -> Result<u32, ExchangeFault> {
-    for place in 0..BATCH {
-        let number = first.saturating_add(place);
-        if !send_next(session, is_settled, bodies, number)? {
-            return Ok(place);
+) -> Result<bool, ExchangeFault> {
+    for _ in 0..u64::MAX {
+        if batch.count >= BATCH {
+            break;
         }
-        watch.note(u64::from(number).saturating_add(1));
+        match bodies.next()? {
+            Next::Item(message) => {
+                send_one(session, is_settled, message, batch, sent)?;
+                watch.note(sent.count);
+            }
+            Next::NotYet => await_input(session, bodies, batch, sent)?,
+            Next::Over => return Ok(false),
+        }
     }
-    Ok(BATCH)
+    Ok(true)
 }
 
-/// False where there is no message more.
-fn send_next<S: Session, B: Supply>(
+/// Sends a message, and writes once enough octets wait.
+fn send_one<S: Flushes>(
     session: &mut S,
     is_settled: bool,
-    bodies: &mut B,
-    number: u32,
-) -> Result<bool, ExchangeFault> {
-    match bodies.next() {
-        Ok(Some(message)) => {
-            let sent = send(session, number, &message, is_settled);
-            drop(message);
-            match sent {
-                Ok(()) => Ok(true),
-                Err(fault) => Err(ExchangeFault::Client(fault)),
-            }
-        }
-        Ok(None) => Ok(false),
-        Err(fault) => Err(fault),
+    message: Bytes,
+    batch: &mut Batch,
+    sent: &mut Sent,
+) -> Result<(), ExchangeFault> {
+    let number = batch.first.saturating_add(batch.count);
+    let len = message.len();
+    let went = send(session, number, &message, is_settled);
+    drop(message);
+    went.map_err(ExchangeFault::Client)?;
+    batch.count = batch.count.saturating_add(1);
+    sent.count = sent.count.saturating_add(1);
+    batch.queued = batch.queued.saturating_add(len);
+    if batch.queued >= QUEUE {
+        batch.queued = 0;
+        session.flush().map_err(ExchangeFault::Client)?;
     }
+    Ok(())
 }
 
-/// So many messages were sent from this number on: it is learnt what became of them, unless they went settled.
+/// The input has nothing ready: what was put out is written, and the peer is heard.
+fn await_input<S: Flushes, B: Supply>(
+    session: &mut S,
+    bodies: &mut B,
+    batch: &mut Batch,
+    sent: &mut Sent,
+) -> Result<(), ExchangeFault> {
+    if batch.queued > 0 {
+        batch.queued = 0;
+        session.flush().map_err(ExchangeFault::Client)?;
+    }
+    if !bodies.awaits() {
+        session.turn().map_err(ExchangeFault::Client)?;
+        learn_ready(session, batch, sent).map_err(ExchangeFault::Client)?;
+    }
+    Ok(())
+}
+
+/// A batch was sent, or that failed: the outcomes of its messages are counted. False if there are no messages behind them.
 fn end_batch<S: Session>(
     session: &mut S,
     is_settled: bool,
-    first: u32,
-    count: u32,
+    ended: Result<bool, ExchangeFault>,
+    batch: &mut Batch,
     sent: &mut Sent,
-) -> Result<(), ClientFault> {
-    if count < BATCH {
-        session.end_mut().give_up();
+) -> Result<bool, ExchangeFault> {
+    match ended {
+        Ok(is_more) => {
+            if !is_more {
+                session.end_mut().give_up();
+            }
+            if !is_settled {
+                learn_batch(session, batch, sent).map_err(ExchangeFault::Client)?;
+            }
+            Ok(is_more)
+        }
+        Err(fault) => {
+            count_told(session, batch, sent);
+            Err(fault)
+        }
     }
-    sent.count = sent.count.saturating_add(u64::from(count));
-    if is_settled {
-        return Ok(());
-    }
-    learn_batch(session, first, count, &mut sent.outcomes)
 }
 
-/// Learns what became of so many messages from this number on: `BATCH` at most. What is told of one once more is passed over.
+/// Counts the outcome of a message, unless one was counted before.
+fn count_outcome(told: Told, batch: &mut Batch, sent: &mut Sent) {
+    if batch.is_new(told.number) {
+        batch.ended = batch.ended.saturating_add(1);
+        sent.outcomes.count(outcome_of(told.outcome));
+    }
+}
+
+/// Learns what became of each message of the batch.
 fn learn_batch<S: Session>(
     session: &mut S,
-    first: u32,
-    count: u32,
-    outcomes: &mut Outcomes,
+    batch: &mut Batch,
+    sent: &mut Sent,
 ) -> Result<(), ClientFault> {
-    let mut known = [false; BATCH as usize];
-    let mut left = count;
     for _ in 0..u64::MAX {
-        if left == 0 {
+        if batch.ended >= batch.count {
             break;
         }
         let told = learn(session)?;
-        if is_new(&mut known, told.number.wrapping_sub(first)) {
-            outcomes.count(told.outcome);
-            left = left.saturating_sub(1);
+        count_outcome(told, batch, sent);
+    }
+    Ok(())
+}
+
+/// Learns what became of messages, as far as the peer has said, and settles them.
+fn learn_ready<S: Session>(
+    session: &mut S,
+    batch: &mut Batch,
+    sent: &mut Sent,
+) -> Result<(), ClientFault> {
+    for _ in 0..u64::MAX {
+        match session.end_mut().told()? {
+            Some(told) if told.is_last() => {
+                count_outcome(told, batch, sent);
+                settle(session, told)?;
+            }
+            Some(_) => {}
+            None => break,
         }
     }
     Ok(())
 }
 
-/// Whether the one at this place was not marked yet; it is then.
-fn is_new(known: &mut [bool], place: u32) -> bool {
-    match known.get_mut(place as usize) {
-        Some(mark) => {
-            let was_known = *mark;
-            *mark = true;
-            !was_known
+/// Counts the outcomes that came before a fault.
+fn count_told<S: Session>(session: &mut S, batch: &mut Batch, sent: &mut Sent) {
+    for _ in 0..u64::MAX {
+        match session.end_mut().told() {
+            Ok(Some(told)) if told.is_last() => count_outcome(told, batch, sent),
+            Ok(Some(_)) => {}
+            _ => break,
         }
-        None => false,
     }
 }

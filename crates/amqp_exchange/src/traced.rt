@@ -1,14 +1,16 @@
-//! Devices of which it is told what goes over them.
+//! Devices whose frames are printed, and whose errors are kept.
 ghost use Rattle.std.specs.Prelude.{◌≡◌};
 
+use crate::seen::Seen;
 use amqp_trace::Teller;
 use std::io;
-use std::io::{Read, Write};
+use std::io::{ErrorKind, Read, Write};
 
-/// A device, and what is told of it. It reads and writes as the device does.
+/// A device, and what is printed of it. It reads and writes as the device does.
 #[derive(Drop)]
 pub(crate) struct Traced<'a, T, E> {
     device: T,
+    seen: &'a Seen,
     trace: Trace<'a, E>,
 }
 
@@ -16,14 +18,20 @@ pub(crate) struct Traced<'a, T, E> {
 #[derive(Drop)]
 struct Trace<'a, E> {
     rt: &'a E,
-    /// None where nothing is told.
+    /// `None` if nothing is printed.
     teller: Option<Teller>,
 }
 
 impl<'a, T, E: Eprint> Traced<'a, T, E> {
-    pub(crate) fn new(device: T, rt: &'a E, teller: Option<Teller>) -> Traced<'a, T, E> {
+    pub(crate) fn new(
+        device: T,
+        rt: &'a E,
+        seen: &'a Seen,
+        teller: Option<Teller>,
+    ) -> Traced<'a, T, E> {
         Traced {
             device,
+            seen,
             trace: Trace { rt, teller },
         }
     }
@@ -33,9 +41,19 @@ impl<T: Read, E: Eprint> Read for Traced<'_, T, E> {
     ghost remaining = { λ s. T.remaining s.device };
 
     fn read(&mut self, buf: &mut [u8]) -> io::Result<usize> {
-        let count = self.device.read(buf)?;
-        self.trace.tell(&buf[..count]);
-        Ok(count)
+        if self.seen.is_writing_only() {
+            return Err(io::Error::from(ErrorKind::WouldBlock));
+        }
+        match self.device.read(buf) {
+            Ok(count) => {
+                self.trace.tell(&buf[..count]);
+                Ok(count)
+            }
+            Err(error) => {
+                self.seen.note(&error);
+                Err(error)
+            }
+        }
     }
 }
 
@@ -43,9 +61,16 @@ impl<T: Write, E: Eprint> Write for Traced<'_, T, E> {
     ghost contents = { λ s. T.contents s.device };
 
     fn write(&mut self, buf: &[u8]) -> io::Result<usize> {
-        let count = self.device.write(buf)?;
-        self.trace.tell(&buf[..count]);
-        Ok(count)
+        match self.device.write(buf) {
+            Ok(count) => {
+                self.trace.tell(&buf[..count]);
+                Ok(count)
+            }
+            Err(error) => {
+                self.seen.note(&error);
+                Err(error)
+            }
+        }
     }
 
     fn flush(&mut self) -> io::Result<()> {
@@ -54,7 +79,7 @@ impl<T: Write, E: Eprint> Write for Traced<'_, T, E> {
 }
 
 impl<E: Eprint> Trace<'_, E> {
-    /// Tells each header and frame that ends in these octets.
+    /// Prints each header and frame that ends in these octets.
     fn tell(&mut self, octets: &[u8]) {
         if let Some(teller) = &mut self.teller {
             teller.tell(self.rt, octets);

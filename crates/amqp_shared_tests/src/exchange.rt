@@ -1,15 +1,15 @@
 //! Messages between two ends that each do one thing after the other, over a socket of the loopback: either of them begins. And what a peer says in one piece.
 
-use crate::octets::{DELIVERED, TOLD};
-use amqp_client::{Client, Outcomes};
+use crate::octets::{DELIVERED, TOLD, transfer};
+use amqp_client::{Client, Session};
 use amqp_conn::{Config, Text};
 use amqp_exchange::exchange::{
-    Exchange, Received, Renewal, Sent, client_over, receive_all, send_all,
+    Exchange, Outcomes, Received, Renewal, Sent, Settlement, client_over, receive_all, send_all,
 };
 use amqp_exchange::journal::{read_line, whole_lines};
 use amqp_exchange::{Labels, Printed, Unwatched};
 use amqp_pair::connected;
-use std::alloc::Global;
+use std::alloc::{AllocError, Global};
 use std::io::{Read, Sink, sink};
 use std::net::TcpStream;
 use std::{io, thread};
@@ -24,13 +24,16 @@ const ONE: Exchange<'static> = Exchange {
     max_frame: 65536,
     count: 1,
     patience: None,
+    wait: None,
     size: 0,
     file: None,
     is_lines: false,
+    is_polled: false,
     labels: Labels::NONE,
     is_settled: false,
     credit: 1,
     renewal: Renewal::AtZero,
+    settlement: Settlement::Accept,
     printed: Printed::Nothing,
     trace: None,
     is_quiet: true,
@@ -239,11 +242,126 @@ fn a_message_of_a_link_that_is_gone_is_told(rt: HostRuntime) {
     }
 }
 
+/// What each line is labelled with.
+const LABELS: Labels<'static> = Labels {
+    is_durable: true,
+    message_id: Some("m"),
+    correlation_id: Some("c"),
+    subject: Some("s"),
+    reply_to: Some("r"),
+    content_type: Some("t"),
+};
+
+/// How a message of one line is printed.
+const PRINTED: &str = "header durable=true
+properties message-id=\"m\" subject=\"s\" reply-to=\"r\" correlation-id=\"c\" content-type=:t
+data b\"x\"
+header durable=true
+properties message-id=\"m\" subject=\"s\" reply-to=\"r\" correlation-id=\"c\" content-type=:t
+data b\"yz\"
+";
+
+fn labelled_sent(alloc: Global, stream: TcpStream) -> Option<Sent> {
+    let exchange = Exchange {
+        is_lines: true,
+        labels: LABELS,
+        ..ONE
+    };
+    let Ok(mut client) = client_over(alloc, stream, &exchange) else {
+        return None;
+    };
+    let mut input: &[u8] = b"x\nyz";
+    let sent = send_all(
+        alloc,
+        &mut client,
+        &exchange,
+        None,
+        &mut input,
+        &mut Unwatched,
+    )
+    .ok();
+    drop(client);
+    sent
+}
+
+/// Whether two messages are printed as they are to be.
+fn labelled_received(alloc: Global, stream: TcpStream) -> bool {
+    let exchange = Exchange {
+        is_listening: true,
+        count: 2,
+        printed: Printed::Sections,
+        ..ONE
+    };
+    let Ok(mut client) = client_over(alloc, stream, &exchange) else {
+        return false;
+    };
+    let mut text: Vec<u8> = Vec::new(alloc);
+    let had = receive_all(alloc, &mut client, &exchange, &mut text, &mut Unwatched);
+    drop(client);
+    had.is_ok() && text.as_slice() == PRINTED.as_bytes()
+}
+
+/// Lines are sent with what labels them, the last one also if it has no end.
+#[test]
+fn lines_and_their_labels_are_printed(rt: HostRuntime) {
+    let alloc = rt.alloc();
+    let Some((near, far)) = connected(&rt).ok() else {
+        panic!(rt; "no socket");
+    };
+    let (sent, is_right) = thread::join(
+        &rt,
+        || labelled_sent(alloc, near),
+        || labelled_received(alloc, far),
+    );
+    assert!(rt; sent == Some(all(2, 2)) && is_right);
+}
+
+/// A peer that has attached its link, and two messages that come in one piece.
+fn two_messages(alloc: Global) -> Result<Vec<u8>, AllocError> {
+    let mut octets = Vec::from_slice(alloc, &DELIVERED[..96])?;
+    octets.extend_from_slice(&transfer(0, 0))?;
+    octets.extend_from_slice(&transfer(0, 1))?;
+    Ok(octets)
+}
+
+/// How much credit the peer has left once two of three messages were taken.
+fn credit_left(alloc: Global, octets: &[u8], renewal: Renewal) -> Option<u32> {
+    let mut client = fed(alloc, octets, 96, 46)?;
+    let three = Exchange {
+        count: 3,
+        credit: 2,
+        renewal,
+        ..ONE
+    };
+    let had = receive_all(alloc, &mut client, &three, &mut sink(), &mut Unwatched);
+    let credit = client.end().credit();
+    drop(client);
+    match had {
+        Ok(_) => None,
+        Err(_) => Some(credit),
+    }
+}
+
+/// A message that is there and not taken is wanted no more: no credit is granted for it.
+#[test]
+fn no_credit_beyond_what_is_wanted(rt: HostRuntime) {
+    let Ok(octets) = two_messages(rt.alloc()) else {
+        panic!(rt; "no memory");
+    };
+    for renewal in [Renewal::AtZero, Renewal::AtHalf] {
+        assert!(rt; credit_left(rt.alloc(), octets.as_slice(), renewal) == Some(1));
+    }
+}
+
 /// A line of each kind, and such as are no lines of a journal.
-const LINES: [(&str, bool); 15] = [
+const LINES: [(&str, bool); 19] = [
     ("sender 616d71705f70656572", true),
     ("receiver -", true),
     ("begun 4294967294", true),
+    ("accepted 1", true),
+    ("rejected 2", true),
+    ("released 3", true),
+    ("modified 4", true),
     ("unknown 0", true),
     ("taken - 0", true),
     ("taken 00ff 18446744073709551615", true),

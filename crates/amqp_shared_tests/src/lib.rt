@@ -6,6 +6,7 @@
 //! |---|---|
 //! | `shared` | the ring, calls that wait, many callers, consumers |
 //! | `growth` | sessions that go twice, and come to the same |
+//! | `client` | calls of the client library |
 //! | `exchange` | messages between two ends that each do one thing after the other |
 //! | `pair` | runs of two ends that fail |
 //! | `acts`, `octets` | operations, as tables write them, and what the peer says |
@@ -14,6 +15,8 @@
 
 #[cfg(test)]
 mod acts;
+#[cfg(test)]
+mod client;
 #[cfg(test)]
 mod exchange;
 #[cfg(test)]

@@ -1,5 +1,5 @@
 use Rattle.std.proofs.Common.{◌+◌, ◌*◌}
-use Rattle.amqp_client.proofs.json.+telling.Given as goal
+use Rattle.amqp_exchange.proofs.json.+telling.Given as goal
 
 abbrev pub decreases-write_value : goal.decreases-write_value
 decreases-write_value g l = 3 * l.depth
