@@ -1,70 +1,109 @@
-//! Links as their peers attach them.
-use amqp_conn::{Conn, Link, LinkEnd, Op, Role, Text, Value, ops};
-use amqp_messages::{Source, Target};
+//! The links of a connection.
+use crate::answer::Terminus;
+use crate::store::Temporary;
+use crate::terminus::{is_copied, source_address, source_kind, target_address, target_kind};
+use amqp_conn::{Boxed, Conn, Link, LinkEnd, Role, Text, Value};
 use amqp_performatives::copying::copy_value;
 use std::alloc::AllocError;
 
-/// A link of a connection, with the address that its peer asked for.
-#[derive(Drop)]
+/// The queue at our end of a link.
+#[derive(Clone, Copy, Debug, PartialEq, Eq)]
+pub enum Node {
+    /// The queue at this place.
+    Queue(usize),
+    /// A queue that is deleted with its link.
+    Temporary(Temporary),
+    /// None: each message names its own.
+    ByMessage,
+}
+
+impl Node {
+    /// Returns the place of its queue.
+    pub fn place(self) -> Option<usize> {
+        match self {
+            Node::Queue(place) => Some(place),
+            Node::Temporary(temporary) => Some(temporary.place),
+            Node::ByMessage => None,
+        }
+    }
+}
+
+/// A link that was answered.
+#[derive(Clone, Copy, Debug)]
 pub struct Linked {
     pub link: u32,
     /// Our end of it.
     pub role: Role,
-    pub address: Text,
-    /// The place of its queue, once that was looked up.
-    pub place: Option<usize>,
-    /// How many deliveries were taken since credit was granted.
-    pub used: u32,
-    /// It is gone: nothing more comes or goes.
+    pub node: Node,
+    /// How many messages of the queue were copied; `None` if messages are taken.
+    pub copied: Option<usize>,
+    /// The link is gone.
     pub is_gone: bool,
 }
 
-/// The link and its peer's end, where the peer has attached it.
-pub fn attached(conn: &Conn, link: u32) -> Option<(&Link, &LinkEnd)> {
-    let found = conn.logged().endpoint().link_of(link)?;
-    Some((found, found.theirs()?))
+/// What a peer asks for by its attach.
+#[derive(Drop)]
+pub struct Offer {
+    pub link: u32,
+    pub name: Text,
+    /// Our end of it.
+    pub role: Role,
+    pub source: Terminus,
+    pub target: Terminus,
+    /// The address of the end that is ours; the link's name if the attach has no such end.
+    pub address: Option<Text>,
+    pub is_copied: bool,
+    /// The end that is the peer's, as its attach has it.
+    pub theirs: Option<Boxed<Value>>,
 }
 
-/// Notes the link among those of its connection: whether there was memory.
-pub fn enter(links: &mut Vec<Linked>, link: u32, found: &Link, theirs: &LinkEnd) -> bool {
-    let Ok(address) = address_of(found, theirs) else {
-        return false;
+/// Returns what the peer asks for by its attach of the link, or `None` if the link is gone or was answered.
+///
+/// # Errors
+///
+/// `AllocError` if memory runs out.
+pub fn offer_of(conn: &Conn, link: u32) -> Result<Option<Offer>, AllocError> {
+    let Some(found) = conn.logged().endpoint().link_of(link) else {
+        return Ok(None);
     };
-    let linked = Linked {
-        link,
-        role: found.role(),
-        address,
-        place: None,
-        used: 0,
-        is_gone: false,
-    };
-    links.push(linked).is_ok()
-}
-
-/// The attach that answers the peer's, with its name, its source and its target (part 2, 2.6.3).
-pub fn attach_like(found: &Link, theirs: &LinkEnd) -> Result<Op, AllocError> {
-    let name = found.name().clone()?;
-    let source = copy_value(&theirs.source)?;
-    let target = copy_value(&theirs.target)?;
-    Ok(ops::attach(name, found.role(), source, target))
-}
-
-/// Where messages go to that we receive, and where they come from that we send; the link's name where the peer tells no address.
-fn address_of(found: &Link, theirs: &LinkEnd) -> Result<Text, AllocError> {
-    let address = match found.role() {
-        Role::Receiver => target_address(theirs),
-        Role::Sender => source_address(theirs),
-    };
-    match address {
-        Some(Value::Str(address)) => address.clone(),
-        _ => found.name().clone(),
+    match found.theirs() {
+        Some(end) if !found.is_ours() => Ok(Some(read_offer(found, end)?)),
+        _ => Ok(None),
     }
 }
 
-fn source_address(theirs: &LinkEnd) -> Option<&Value> {
-    Source::read(theirs.source.as_ref()?.get())?.address
+/// The attach does not have the end that is ours.
+fn is_bare(role: Role, end: &LinkEnd) -> bool {
+    match role {
+        Role::Sender => end.source.is_none(),
+        Role::Receiver => end.target.is_none(),
+    }
 }
 
-fn target_address(theirs: &LinkEnd) -> Option<&Value> {
-    Target::read(theirs.target.as_ref()?.get())?.address
+fn read_offer(found: &Link, end: &LinkEnd) -> Result<Offer, AllocError> {
+    let role = found.role();
+    let ours = match role {
+        Role::Sender => source_address(&end.source),
+        Role::Receiver => target_address(&end.target),
+    };
+    let address = match ours {
+        Some(address) => Some(address.clone()?),
+        None if is_bare(role, end) => Some(found.name().clone()?),
+        None => None,
+    };
+    let theirs = match role {
+        Role::Sender => copy_value(&end.target)?,
+        Role::Receiver => copy_value(&end.source)?,
+    };
+    let name = found.name().clone()?;
+    Ok(Offer {
+        link: found.number(),
+        name,
+        role,
+        source: source_kind(&end.source),
+        target: target_kind(&end.target),
+        address,
+        is_copied: is_copied(&end.source),
+        theirs,
+    })
 }

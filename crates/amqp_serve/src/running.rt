@@ -1,12 +1,13 @@
 //! A server that listens, on one thread or several.
-use crate::hall::{Hall, Job, Terms, Totals};
 use crate::server::Server;
+use crate::shared::{Job, Settings, Shared};
+use crate::store::Totals;
 use amqp_trace::Look;
 use mio::Poll;
 use mio::net::TcpListener;
 use std::alloc::{AllocError, Global};
-use std::io::Write;
-use std::net::{IpAddr, Net, SocketAddr};
+use std::io::{ErrorKind, Write};
+use std::net::{IpAddr, Ipv4Addr, Net, SocketAddr};
 use std::rt::Clock;
 use std::sync::Wait;
 use std::thread::Threads;
@@ -14,7 +15,7 @@ use std::time::Instant;
 use std::{io, thread};
 use thiserror::Error;
 
-/// How long it goes on at most behind the last message, in seconds.
+/// How long a server goes on at most behind its last message, in seconds.
 const LAST: u64 = 10;
 
 /// The most threads that a server has.
@@ -23,19 +24,19 @@ pub const MAX_THREADS: u32 = 64;
 /// What a server is to do.
 #[derive(Clone, Copy, Debug)]
 pub struct Serve<'a> {
-    /// An address of this machine, in digits.
+    /// A name or an address of this machine; an address of version 6 may stand in brackets.
     pub host: &'a str,
-    /// 0: any port that is free, which is told.
+    /// 0 is any port that is free. The port is printed.
     pub port: u16,
     /// How much credit each link is granted.
     pub credit: u32,
-    /// How many messages its queues have together at most.
+    /// How many messages the queues have together at most.
     pub limit: u32,
-    /// It ends once so many messages went out and are done with; none: it goes on.
+    /// The server ends once so many messages went out and are done with; `None` if it goes on.
     pub count: Option<u32>,
-    /// How many threads drive its connections, at most `MAX_THREADS`; 0 is 1. Where the system makes no more of them, those that are there do it.
+    /// How many threads drive the connections, at most `MAX_THREADS`; 0 is 1. If the system makes no more of them, those that there are do all.
     pub threads: u32,
-    /// How each frame that goes over its connections is told on standard error; none: it is not.
+    /// How each frame is printed on standard error; `None` if it is not.
     pub trace: Option<Look>,
 }
 
@@ -44,15 +45,21 @@ pub struct Serve<'a> {
 pub enum ServeFault {
     #[error("{0}")]
     Io(#[from] io::Error),
-    #[error("the host is no address in digits")]
-    Host,
+    #[error("out of memory")]
+    Memory(#[from] AllocError),
+    #[error("{host} has no address: {error}")]
+    Host { host: String, error: io::Error },
+    #[error("cannot listen at {at}: {error}")]
+    Listen { at: SocketAddr, error: io::Error },
 }
 
-/// Serves, and writes where it listens, and in the end what it has done.
+/// Serves. Writes the address at which it listens, and in the end what it has done.
 ///
 /// # Errors
 ///
-/// Where the system does not let it listen, a write fails, or memory is refused.
+/// [`ServeFault::Host`] if the host has no address; [`ServeFault::Listen`] if the system does not let it listen there; [`ServeFault::Io`]
+/// if a write or a wait fails, or
+/// memory runs out.
 pub fn run_serve<R, W: Write>(
     rt: &R,
     alloc: Global,
@@ -62,53 +69,91 @@ pub fn run_serve<R, W: Write>(
 where
     R: Net + Clock + Eprint + Threads + Wait + Sync,
 {
-    let Ok(host) = serve.host.parse::<IpAddr>() else {
-        return Err(ServeFault::Host);
-    };
-    let terms = Terms {
+    let settings = Settings {
         alloc,
         credit: serve.credit,
         count: serve.count,
         trace: serve.trace,
     };
-    let listener = TcpListener::bind(rt, SocketAddr::new(host, serve.port))?;
-    if let Err(error) = tell_listens(&listener, writer) {
+    let listener = listen(rt, alloc, serve)?;
+    if let Err(error) = print_listens(&listener, writer) {
         drop(listener);
         return Err(ServeFault::Io(error));
     }
     let threads = serve.threads.max(1).min(MAX_THREADS);
-    match Hall::new(terms, serve.limit as usize, threads, listener) {
-        Ok(hall) => {
-            let served = serve_on(rt, &hall, writer);
-            drop(hall);
+    match Shared::new(settings, serve.limit as usize, threads, listener) {
+        Ok(shared) => {
+            let served = serve_on(rt, &shared, writer);
+            drop(shared);
             served
         }
-        Err(error) => Err(ServeFault::Io(io::Error::from(error))),
+        Err(error) => Err(ServeFault::Memory(error)),
     }
 }
 
-fn tell_listens<W: Write>(listener: &TcpListener, writer: &mut W) -> io::Result<()> {
+fn listen<R: Net>(rt: &R, alloc: Global, serve: Serve<'_>) -> Result<TcpListener, ServeFault> {
+    let host = without_brackets(serve.host);
+    let at = match address_of(rt, host, serve.port) {
+        Ok(at) => at,
+        Err(error) => {
+            let host = String::from_str(alloc, host)?;
+            return Err(ServeFault::Host { host, error });
+        }
+    };
+    match TcpListener::bind(rt, at) {
+        Ok(listener) => Ok(listener),
+        Err(error) => Err(ServeFault::Listen { at, error }),
+    }
+}
+
+/// Returns the address that is in digits, or the first one that a name has.
+fn address_of<R: Net>(rt: &R, host: &str, port: u16) -> io::Result<SocketAddr> {
+    if let Ok(host) = host.parse::<IpAddr>() {
+        return Ok(SocketAddr::new(host, port));
+    }
+    let mut found = [SocketAddr::new(IpAddr::V4(Ipv4Addr::UNSPECIFIED), port); 1];
+    match rt.lookup_host(host, port, &mut found)? {
+        0 => Err(io::Error::from(ErrorKind::NotFound)),
+        _ => Ok(found[0]),
+    }
+}
+
+fn without_brackets(host: &str) -> &str {
+    match host.strip_prefix('[') {
+        Some(rest) => match rest.strip_suffix(']') {
+            Some(inner) => inner,
+            None => host,
+        },
+        None => host,
+    }
+}
+
+fn print_listens<W: Write>(listener: &TcpListener, writer: &mut W) -> io::Result<()> {
     let there = listener.local_addr()?;
     writeln!(writer, "listens {there}")?;
     writer.flush()
 }
 
-fn serve_on<R, W: Write>(rt: &R, hall: &Hall, writer: &mut W) -> Result<(), ServeFault>
+fn serve_on<R, W: Write>(rt: &R, shared: &Shared, writer: &mut W) -> Result<(), ServeFault>
 where
     R: Net + Clock + Eprint + Threads + Wait + Sync,
 {
-    let jobs = jobs_of(rt, hall)?;
-    let done = run_side_by_side(rt, hall, jobs);
-    tell_served(rt, hall, writer)?;
+    let jobs = jobs_of(rt, shared)?;
+    let done = run_side_by_side(rt, shared, jobs);
+    print_served(rt, shared, writer)?;
     match done {
         Ok(()) => Ok(()),
-        Err(error) => Err(ServeFault::Io(io::Error::from(error))),
+        Err(error) => Err(ServeFault::Memory(error)),
     }
 }
 
-/// What was done, by all threads.
-fn tell_served<R: Wait, W: Write>(rt: &R, hall: &Hall, writer: &mut W) -> Result<(), ServeFault> {
-    let (failed, totals, left) = done_by(rt, hall);
+/// Writes what was done, by all threads.
+fn print_served<R: Wait, W: Write>(
+    rt: &R,
+    shared: &Shared,
+    writer: &mut W,
+) -> Result<(), ServeFault> {
+    let (failed, totals, left) = done_by(rt, shared);
     if let Some(error) = failed {
         return Err(ServeFault::Io(error));
     }
@@ -121,15 +166,15 @@ fn tell_served<R: Wait, W: Write>(rt: &R, hall: &Hall, writer: &mut W) -> Result
     Ok(())
 }
 
-fn done_by<R: Wait>(rt: &R, hall: &Hall) -> (Option<io::Error>, Totals, usize) {
-    let store = hall.store.lock(rt);
+fn done_by<R: Wait>(rt: &R, shared: &Shared) -> (Option<io::Error>, Totals, usize) {
+    let store = shared.store.lock(rt);
     (store.failed, store.totals, store.queues.len())
 }
 
-/// What each thread begins with.
-fn jobs_of<R: Net>(rt: &R, hall: &Hall) -> io::Result<Vec<Job>> {
-    let mut jobs = Vec::new(hall.terms.alloc);
-    match add_jobs(rt, &mut jobs, hall.len()) {
+/// Returns what each thread begins with.
+fn jobs_of<R: Net>(rt: &R, shared: &Shared) -> io::Result<Vec<Job>> {
+    let mut jobs = Vec::new(shared.settings.alloc);
+    match add_jobs(rt, &mut jobs, shared.len()) {
         Ok(()) => Ok(jobs),
         Err(error) => {
             drop(jobs);
@@ -153,49 +198,54 @@ fn add_job<R: Net>(rt: &R, jobs: &mut Vec<Job>, place: usize) -> io::Result<()> 
     }
 }
 
-/// All threads, each at its place. Where the system makes none, they run one after the other: the first listens, and goes on until all is done. Where memory is
-/// refused, those that have begun have ended.
-fn run_side_by_side<R>(rt: &R, hall: &Hall, jobs: Vec<Job>) -> Result<(), AllocError>
+/// Runs all threads, each at its place. If the system makes none, they run one after the other: the first listens, and goes on until all is done. If
+/// memory runs out, those
+/// that have begun have ended.
+fn run_side_by_side<R>(rt: &R, shared: &Shared, jobs: Vec<Job>) -> Result<(), AllocError>
 where
     R: Clock + Eprint + Threads + Wait + Sync,
 {
-    let done = thread::map_vec(rt, jobs, &|job: Job| run_place(rt, hall, job))?;
+    let done = thread::map_vec(rt, jobs, &|job: Job| run_place(rt, shared, job))?;
     drop(done);
     Ok(())
 }
 
-/// The thread at its place, until as many messages went as are asked for.
-fn run_place<R: Clock + Eprint + Wait>(rt: &R, hall: &Hall, job: Job) {
+/// Runs the thread at its place, until as many messages went out as are asked for.
+fn run_place<R: Clock + Eprint + Wait>(rt: &R, shared: &Shared, job: Job) {
     let Job { place, poll } = job;
-    let fault = match Server::new(hall.terms, place, poll) {
+    let fault = match Server::new(shared.settings, place, poll) {
         Ok(mut server) => {
-            let turned = turn_on(rt, hall, &mut server);
+            let turned = turn_on(rt, shared, &mut server);
             drop(server);
             turned.err()
         }
         Err(error) => Some(error),
     };
-    hall.leave(rt, place, fault);
+    shared.leave(rt, place, fault);
 }
 
-/// Turns until as many messages went as are asked for, closes each connection, and turns to the end.
-fn turn_on<R: Clock + Eprint + Wait>(rt: &R, hall: &Hall, server: &mut Server) -> io::Result<()> {
+/// Makes turns until as many messages went out as are asked for, closes each connection, and makes turns until all have ended.
+fn turn_on<R: Clock + Eprint + Wait>(
+    rt: &R,
+    shared: &Shared,
+    server: &mut Server,
+) -> io::Result<()> {
     let begun = Instant::now(rt)?;
-    server.begin(rt, hall)?;
+    server.begin(rt, shared)?;
     for _ in 0..u64::MAX {
-        if hall.is_over(rt) {
+        if shared.is_over(rt) {
             break;
         }
-        server.turn(rt, hall, begun)?;
+        server.turn(rt, shared, begun)?;
     }
     server.close();
-    turn_to_end(rt, hall, server, begun)
+    turn_to_end(rt, shared, server, begun)
 }
 
-/// Turns until each connection has ended, or so much time has passed.
+/// Makes turns until each connection has ended, or too much time has passed.
 fn turn_to_end<R: Clock + Eprint + Wait>(
     rt: &R,
-    hall: &Hall,
+    shared: &Shared,
     server: &mut Server,
     begun: Instant,
 ) -> io::Result<()> {
@@ -204,7 +254,7 @@ fn turn_to_end<R: Clock + Eprint + Wait>(
         if server.is_empty() || begun.elapsed(rt)?.as_secs() >= until {
             break;
         }
-        server.turn(rt, hall, begun)?;
+        server.turn(rt, shared, begun)?;
     }
     Ok(())
 }
