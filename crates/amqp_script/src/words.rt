@@ -78,10 +78,10 @@ impl<'a> Words<'a> {
         octets(alloc, self.word()?)
     }
 
-    /// The octets of all words that are left, joined to one.
+    /// The octets of all words that are left, joined to one. An empty word is a fault.
     pub fn joined_octets(mut self, alloc: Global) -> Result<Vec<u8>, LineFault> {
         let first = self.word()?;
-        if self.rest.is_none() {
+        if self.rest.is_none() || first.is_empty() {
             return octets(alloc, first);
         }
         let mut digits = Vec::from_slice(alloc, first)?;
