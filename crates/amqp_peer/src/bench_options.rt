@@ -26,12 +26,12 @@ static CODEC: [Choice; 2] = [
 static MESSAGES: [Choice; 6] = [
     choice!(NUMBER, "count": "How many messages are sent", value: Value::Number("N", 1, 100000000)),
     choice!(NUMBER, "size": "How long each is, in octets", value: Value::Number("S", 0, 100000000)),
-    choice!(NUMBER, "settled": "1: they are sent settled; 0: each is accepted, settled and learnt",
+    choice!(NUMBER, "settled": "1: they are sent settled; 0: each is accepted and settled",
         value: Value::Number("0|1", 0, 1)),
     choice!(NUMBER, "credit": "How many the receiver lets begin at a time", value: Value::Number("C", 1, MANY)),
-    choice!(NUMBER, "range": "How many deliveries a disposition names at most; all that were taken where it is left off",
+    choice!(NUMBER, "range": "How many deliveries a disposition names at most; all that were taken if it is not given",
         value: Value::Number("R", 1, MANY)),
-    choice!(NUMBER, "keep": "How many entries of its journal each end keeps at most; all where it is left off",
+    choice!(NUMBER, "keep": "How many entries of its journal each end keeps at most; all if it is not given",
         value: Value::Number("N", 1, 1073741824)),
 ];
 
@@ -43,8 +43,8 @@ static SESSION: [Choice; 1] = [
 
 /// The ports of `sockets`.
 static PORTS: [Choice; 2] = [
-    choice!(NUMBER, "connect": "Has the sending ends, and connects to this port", value: PORT),
-    choice!(NUMBER, "listen": "Has the receiving ends, and listens at this port", value: PORT),
+    choice!(NUMBER, "connect": "Has the sending ends, and connects to this port", value: PORT, group: Some("ends")),
+    choice!(NUMBER, "listen": "Has the receiving ends, and listens at this port", value: PORT, group: Some("ends")),
 ];
 
 /// Of `sockets` alone.

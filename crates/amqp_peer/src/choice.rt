@@ -1,7 +1,7 @@
 //! Options as rows of tables, and the commands that have them.
 //!
-//! A row becomes clap's option in one place, `argument`, and a command takes all of its options at once: a chain of calls with a `?` behind each, through which a
-//! wide command is handed, costs more to prove the longer it is.
+//! A row becomes clap's option in one place, `argument`, and a command takes all of its options at once: a chain of calls with a `?` behind each,
+//! through which a wide command is handed, costs more to prove the longer it is.
 
 use clap::{Arg, ArgAction, Command, value_parser};
 use std::alloc::{AllocError, Global};
@@ -14,7 +14,7 @@ pub struct Choice {
     /// What the help says of it.
     pub help: &'static str,
     pub value: Value,
-    /// The value where it is left off.
+    /// The value if it is not given.
     pub usual: Option<&'static str>,
     /// It has to be there.
     pub is_required: bool,
@@ -26,6 +26,8 @@ pub struct Choice {
     pub needs: Option<&'static str>,
     /// The option beside which it does not stand.
     pub excludes: Option<&'static str>,
+    /// The group that it is of: no two options of a group stand beside each other.
+    pub group: Option<&'static str>,
 }
 
 /// What stands behind an option, and the name of that in the help.
@@ -49,6 +51,7 @@ pub const FLAG: Choice = Choice {
     is_bare: false,
     needs: None,
     excludes: None,
+    group: None,
 };
 
 /// An option with a text.
@@ -72,7 +75,7 @@ macro_rules! choice {
 
 pub(crate) use choice;
 
-/// A command with options, which its help tells in their order.
+/// Makes a command with options, which its help lists in their order.
 pub fn command<'a>(
     alloc: Global,
     name: &'static str,
@@ -111,6 +114,7 @@ fn add<'a>(arguments: &mut Vec<Arg<'a>>, choices: &[Choice]) -> Result<(), Alloc
 fn argument<'a>(alloc: Global, choice: &Choice) -> Result<Arg<'a>, AllocError> {
     let argument = requiring(alone(alloc, choice), choice.needs)?;
     let argument = required_unless(argument, choice.unless)?;
+    let argument = grouped(argument, choice.group)?;
     match choice.excludes {
         Some(other) => argument.conflicts_with(other),
         None => Ok(argument),
@@ -132,6 +136,13 @@ fn required_unless<'a>(
 fn requiring<'a>(argument: Arg<'a>, other: Option<&'static str>) -> Result<Arg<'a>, AllocError> {
     match other {
         Some(other) => argument.requires_arg(other),
+        None => Ok(argument),
+    }
+}
+
+fn grouped<'a>(argument: Arg<'a>, group: Option<&'static str>) -> Result<Arg<'a>, AllocError> {
+    match group {
+        Some(group) => argument.group(group),
         None => Ok(argument),
     }
 }

@@ -5,7 +5,7 @@ ghost use Rattle.amqp_peer.specs.Requests.{IsAllowed};
 use crate::bench_options::{bench, bench_of};
 use crate::choice::put;
 use crate::options::{
-    USUAL, config_of, direction_of, drivers_of, explained_of, look_of, pair_of, receive_of,
+    USUAL, config_of, direction_of, drivers_of, explanation_of, look_of, pair_of, receive_of,
     send_of, serve_of,
 };
 use crate::tables;
@@ -13,13 +13,17 @@ use amqp_bench::{Bench, Sockets};
 use amqp_endpoint::config::Config;
 use amqp_exchange::exchange::Exchange;
 use amqp_pair::Options;
-use amqp_script::explain::Explained;
+use amqp_script::explain::Explanation;
 use amqp_serve::Serve;
 use amqp_trace::{Direction, Look};
+use clap::builder::ValueParser;
 use clap::error::ErrorKind;
-use clap::{ArgMatches, Command, Error};
+use clap::{Arg, ArgMatches, Command, Error};
 use std::alloc::{AllocError, Global};
 use std::convert::AsStr;
+
+/// The version that is printed; the file `VERSION` at the top of the repository has it, too.
+const VERSION: &str = "0.1.0";
 
 /// What a command line asks for.
 #[derive(Clone, Copy, Debug)]
@@ -32,8 +36,8 @@ pub enum Request<'a> {
     Frames,
     /// A run of `trace` over octets that went this way; how its lines look; whether the octets are read as they are, and not in hexadecimal.
     Trace(Direction, Look, bool),
-    /// What `explain` says.
-    Explain(Explained),
+    /// What `explain` prints.
+    Explain(Explanation<'a>),
     /// A run of `pair`.
     Pair(Options),
     /// A run of `pair` by two drivers.
@@ -53,7 +57,18 @@ pub enum Request<'a> {
 }
 
 impl<'a> Request<'a> {
-    /// The same, and it is not told how far it is.
+    /// The same, with the process's standard input as the input of a `send`.
+    pub fn polled(self) -> Request<'a>
+        requires { IsAllowed self }
+        ensures { IsAllowed result }
+    {
+        match self {
+            Request::Send(exchange) => Request::Send(polled(exchange)),
+            request => request,
+        }
+    }
+
+    /// The same, and it is not printed how far it is.
     pub fn quiet(self) -> Request<'a>
         requires { IsAllowed self }
         ensures { IsAllowed result }
@@ -63,6 +78,13 @@ impl<'a> Request<'a> {
             Request::Receive(exchange) => Request::Receive(quiet(exchange)),
             request => request,
         }
+    }
+}
+
+fn polled(exchange: Exchange<'_>) -> Exchange<'_> {
+    Exchange {
+        is_polled: true,
+        ..exchange
     }
 }
 
@@ -89,15 +111,68 @@ fn read_words<'a, S: AsStr>(command: &mut Command<'a>, words: &'a [S]) -> Result
     ensures { IfOk result IsAllowed }
 {
     let matches = command.try_get_matches_from_mut(words)?;
-    let request = request_of(&matches);
+    let request = plain_request_of(command, &matches);
     drop(matches);
     match request {
         Some(request) => Ok(request),
-        None => Err(command.error(ErrorKind::ValueValidation, "a number is out of its range")?),
+        None => Err(command.error(
+            ErrorKind::ValueValidation,
+            "a number, a host, an address or a condition is none, or out of its range",
+        )?),
     }
 }
 
-/// None where a number is out of its range.
+/// Returns the error for words of which one is no UTF-8.
+pub fn refuse_words(alloc: Global) -> Result<Error, AllocError> {
+    let mut command = program(alloc)?;
+    let error = command.error(ErrorKind::InvalidValue, "a word is not UTF-8");
+    drop(command);
+    error
+}
+
+/// True if each number that was given to the command, or to the one under it, has no sign, which clap takes.
+fn are_numbers_plain(command: &Command<'_>, matches: &ArgMatches<'_>) -> bool {
+    let Some((name, options)) = matches.subcommand() else {
+        return true;
+    };
+    let Some(command) = command.find_subcommand(name) else {
+        return true;
+    };
+    let is_below_plain = match options.subcommand() {
+        Some((name, below)) => match command.find_subcommand(name) {
+            Some(command) => are_own_numbers_plain(command.get_arguments(), below),
+            None => true,
+        },
+        None => true,
+    };
+    is_below_plain && are_own_numbers_plain(command.get_arguments(), options)
+}
+
+fn are_own_numbers_plain(arguments: &[Arg<'_>], options: &ArgMatches<'_>) -> bool {
+    for argument in arguments {
+        if matches!(argument.get_value_parser(), ValueParser::Signed(_, _)) {
+            if let Some(text) = options.get_str(argument.get_id()) {
+                if text.starts_with('+') || text.starts_with('-') {
+                    return false;
+                }
+            }
+        }
+    }
+    true
+}
+
+/// The same as `request_of`; none, too, if a number has a sign.
+fn plain_request_of<'a>(command: &Command<'_>, matches: &ArgMatches<'a>) -> Option<Request<'a>>
+    ensures { IfSome result IsAllowed }
+{
+    if are_numbers_plain(command, matches) {
+        request_of(matches)
+    } else {
+        None
+    }
+}
+
+/// None if a value is none, or out of its range.
 fn request_of<'a>(matches: &ArgMatches<'a>) -> Option<Request<'a>>
     ensures { IfSome result IsAllowed }
 {
@@ -130,8 +205,8 @@ fn request_of<'a>(matches: &ArgMatches<'a>) -> Option<Request<'a>>
         ));
     }
     if let Some(options) = matches.subcommand_matches("explain") {
-        if let Some(explained) = explained_of(options) {
-            return Some(Request::Explain(explained));
+        if let Some(explanation) = explanation_of(options) {
+            return Some(Request::Explain(explanation));
         }
     } else if let Some(options) = matches.subcommand_matches("pair") {
         if options.get_flag("drivers") {
@@ -158,6 +233,7 @@ fn request_of<'a>(matches: &ArgMatches<'a>) -> Option<Request<'a>>
 fn program<'a>(alloc: Global) -> Result<Command<'a>, AllocError> {
     let commands = commands(alloc)?;
     Command::new(alloc, "amqp_peer")
+        .version(VERSION)
         .about("One end of an AMQP 1.0 connection")
         .subcommand_required(true)
         .subcommands(commands)

@@ -8,6 +8,7 @@ use amqp_exchange::exchange::{run_receive, run_send};
 use amqp_pair::run_pair;
 use amqp_script::Outcome;
 use amqp_script::driven::run_conn;
+use amqp_script::explain::run_explain;
 use amqp_script::frames::{Framed, Octets, run_frames};
 use amqp_script::script::run_script;
 use amqp_script::trace::{run_raw_trace, run_trace};
@@ -23,7 +24,8 @@ use std::thread::Threads;
 /// The status where all is done.
 pub const DONE: u8 = 0;
 
-/// The status of a run that failed, of `send` where a message was not accepted, of `receive` where one could not be, and of `rows` where a row is answered otherwise than its case wants.
+/// The status of a run that failed, of `send` if a message was not accepted, of `receive` if one could not be, and of `rows` if a row is answered otherwise
+/// than its case wants.
 pub const FAULT: u8 = 1;
 
 /// The status where a line was bad, or octets were no frames.
@@ -55,9 +57,8 @@ where
             };
             Ok(status_of_frames(framed))
         }
-        Request::Explain(explained) => {
-            writeln!(writer, "{explained}")?;
-            writer.flush()?;
+        Request::Explain(explanation) => {
+            run_explain(explanation, writer)?;
             Ok(DONE)
         }
         Request::Pair(options) => {

@@ -1,14 +1,16 @@
 //! What is asked for by the options that were given.
 
+use crate::place::{Named, Place, host_and_port, named_by, number_of};
 use amqp_bench::{Ends, Messages, Sockets};
-use amqp_exchange::exchange::{Exchange, Renewal};
+use amqp_exchange::exchange::{Exchange, Renewal, Settlement};
 use amqp_exchange::{Labels, Printed};
 use amqp_pair::Options;
 use amqp_rules::config::{Config, MAX_JOURNAL_LIMIT};
-use amqp_script::explain::{Explained, find_fault, find_refusal, find_violation};
+use amqp_script::explain::{Explanation, Kind, is_sent};
 use amqp_serve::Serve;
 use amqp_trace::{Direction, Look};
 use clap::ArgMatches;
+use clap::parser::ValueSource;
 
 /// The settings where no option is given.
 pub const USUAL: Config = Config {
@@ -55,16 +57,42 @@ fn traced_of(options: &ArgMatches<'_>) -> Option<Look> {
     }
 }
 
-/// What the number stands for, if for anything.
-pub fn explained_of(options: &ArgMatches<'_>) -> Option<Explained> {
-    let number = options.get_one::<u32>("number")?;
-    if options.get_flag("violation") {
-        Some(Explained::Violation(find_violation(number)?))
-    } else if options.get_flag("fault") {
-        Some(Explained::Fault(find_fault(number)?))
-    } else {
-        Some(Explained::Refusal(find_refusal(number)?))
+/// What an `explain` is to print. None for a number that stands for nothing, and for a condition that no peer is sent.
+pub fn explanation_of<'a>(options: &ArgMatches<'a>) -> Option<Explanation<'a>> {
+    let kind = kind_of(options);
+    match options.get_str("what") {
+        None => Some(Explanation::All(kind.unwrap_or(Kind::Refusal))),
+        Some(what) if what.contains(':') => {
+            if kind.is_none() && is_sent(what) {
+                Some(Explanation::Sent(what))
+            } else {
+                None
+            }
+        }
+        Some(what) => explanation_of_number(kind.unwrap_or(Kind::Refusal), what),
     }
+}
+
+/// The kind that is asked for.
+fn kind_of(options: &ArgMatches<'_>) -> Option<Kind> {
+    if options.get_flag("violation") {
+        Some(Kind::Violation)
+    } else if options.get_flag("fault") {
+        Some(Kind::Fault)
+    } else if options.get_flag("framing") {
+        Some(Kind::Framing)
+    } else {
+        None
+    }
+}
+
+/// Explains `N` or `N.PART`.
+fn explanation_of_number<'a>(kind: Kind, text: &str) -> Option<Explanation<'a>> {
+    let explained = match text.split_once('.') {
+        Some((number, part)) => kind.find(number_of(number)?, number_of(part)?)?,
+        None => kind.find(number_of(text)?, 0)?,
+    };
+    Some(Explanation::One(explained))
 }
 
 /// What a `send` is to do.
@@ -72,11 +100,22 @@ pub fn send_of<'a>(options: &ArgMatches<'a>) -> Option<Exchange<'a>> {
     Some(Exchange {
         size: options.get_one::<u32>("size")?,
         file: options.get_str("file"),
-        is_lines: options.get_flag("lines"),
+        is_lines: sends_lines(options),
         labels: labels_of(options),
         is_settled: options.get_flag("settled"),
         ..exchange_of(options)?
     })
+}
+
+/// True if the lines of standard input are the messages: this is asked for, or nothing says what else they are.
+fn sends_lines(options: &ArgMatches<'_>) -> bool {
+    options.get_flag("lines")
+        || !(is_given(options, "count") || is_given(options, "size") || is_given(options, "file"))
+}
+
+/// True if the option was given, and is not only as usual.
+fn is_given(options: &ArgMatches<'_>, name: &str) -> bool {
+    matches!(options.value_source(name), Some(ValueSource::CommandLine))
 }
 
 /// What a `receive` is to do.
@@ -84,6 +123,8 @@ pub fn receive_of<'a>(options: &ArgMatches<'a>) -> Option<Exchange<'a>> {
     Some(Exchange {
         credit: options.get_one::<u32>("credit")?,
         renewal: renewal_of(options),
+        wait: options.get_one::<u32>("wait"),
+        settlement: settlement_of(options),
         printed: printed_of(options),
         ..exchange_of(options)?
     })
@@ -91,9 +132,10 @@ pub fn receive_of<'a>(options: &ArgMatches<'a>) -> Option<Exchange<'a>> {
 
 /// What a `serve` is to do.
 pub fn serve_of<'a>(options: &ArgMatches<'a>) -> Option<Serve<'a>> {
+    let (host, port) = host_of(options)?;
     Some(Serve {
-        host: options.get_str("host")?,
-        port: options.get_one::<u16>("port")?,
+        host,
+        port,
         credit: options.get_one::<u32>("credit")?,
         limit: options.get_one::<u32>("limit")?,
         count: options.get_one::<u32>("count"),
@@ -102,24 +144,58 @@ pub fn serve_of<'a>(options: &ArgMatches<'a>) -> Option<Serve<'a>> {
     })
 }
 
+/// The host and the port of the options. None if a port stands behind the host and is given by its own option, too, or if the host is none.
+fn host_of<'a>(options: &ArgMatches<'a>) -> Option<(&'a str, u16)> {
+    let (host, port) = host_and_port(options.get_str("host")?)?;
+    match port {
+        None => Some((host, options.get_one::<u16>("port")?)),
+        Some(_) if is_given(options, "port") => None,
+        Some(port) => Some((host, port)),
+    }
+}
+
+/// The peer and the address. None if a word names both and an option names a host or a port, too.
+fn peer_of<'a>(options: &ArgMatches<'a>) -> Option<Place<'a>> {
+    let address = match options.get_str("url") {
+        None => options.get_str("address")?,
+        Some(word) => match named_by(word)? {
+            Named::Address(address) => address,
+            Named::Place(_) if is_given(options, "host") || is_given(options, "port") => {
+                return None;
+            }
+            Named::Place(place) => return Some(place),
+        },
+    };
+    let (host, port) = host_of(options)?;
+    Some(Place {
+        host,
+        port,
+        address,
+    })
+}
+
 /// What both have options for; the rest is as usual.
 fn exchange_of<'a>(options: &ArgMatches<'a>) -> Option<Exchange<'a>> {
+    let peer = peer_of(options)?;
     Some(Exchange {
-        host: options.get_str("host")?,
-        port: options.get_one::<u16>("port")?,
+        host: peer.host,
+        port: peer.port,
         is_listening: options.get_flag("listen"),
-        address: options.get_str("address")?,
+        address: peer.address,
         container_id: options.get_str("container-id")?,
         max_frame: options.get_one::<u32>("max-frame")?,
         count: options.get_one::<u32>("count")?,
         patience: options.get_one::<u32>("timeout"),
+        wait: None,
         size: 0,
         file: None,
         is_lines: false,
+        is_polled: false,
         labels: Labels::NONE,
         is_settled: false,
         credit: 1,
         renewal: Renewal::AtZero,
+        settlement: Settlement::Accept,
         printed: Printed::Nothing,
         trace: traced_of(options),
         is_quiet: options.get_flag("quiet"),
@@ -149,15 +225,25 @@ fn renewal_of(options: &ArgMatches<'_>) -> Renewal {
     }
 }
 
+fn settlement_of(options: &ArgMatches<'_>) -> Settlement {
+    if options.get_flag("release") {
+        Settlement::Release
+    } else if options.get_flag("reject") {
+        Settlement::Reject
+    } else {
+        Settlement::Accept
+    }
+}
+
 fn printed_of(options: &ArgMatches<'_>) -> Printed {
     if options.get_flag("json") {
         Printed::Json
     } else if options.get_flag("sections") {
         Printed::Sections
-    } else if options.get_flag("lines") {
-        Printed::Bodies
-    } else {
+    } else if options.get_flag("no-print") || options.get_flag("quiet") {
         Printed::Nothing
+    } else {
+        Printed::Bodies
     }
 }
 

@@ -1,5 +1,5 @@
-//! The commands `script`, `conn`, `frames`, `trace`, `explain`, `pair`, `send`, `receive`, `serve`, `example` and `rows` with their options. A table is a static, since a constant is written out, and proved, in
-//! each function that names it; one of all commands would cost more than all of these functions.
+//! The commands `script`, `conn`, `frames`, `trace`, `explain`, `pair`, `send`, `receive`, `serve`, `example` and `rows` with their options. A table is a
+//! static, since a constant is written out, and proved, in each function that names it; one of all commands would cost more than all of these functions.
 
 use crate::choice::{Choice, FLAG, NUMBER, TEXT, Value, choice, command};
 use amqp_exchange::MIN_MAX_FRAME;
@@ -9,7 +9,7 @@ use amqp_serve::MAX_THREADS;
 use clap::Command;
 use std::alloc::{AllocError, Global};
 
-/// The most seconds that a peer may be waited for, half of which it is told in milliseconds.
+/// The most seconds that a peer may be waited for: half of them are sent to it in milliseconds.
 const MAX_PATIENCE: u32 = 8_589_934;
 
 /// The most connections that are driven at once.
@@ -17,16 +17,16 @@ const MAX_CONNECTIONS: u32 = 100_000;
 
 /// How many of a journal's entries are kept.
 const KEEP: Choice =
-    choice!(NUMBER, "keep": "How many entries of the journal stay at most; all where it is left off",
+    choice!(NUMBER, "keep": "How many entries of the journal stay at most; all if it is not given",
     value: Value::Number("N", 1, MAX_JOURNAL_LIMIT));
 
-/// The messages go settled.
+/// The messages are sent settled.
 const SETTLED: Choice =
-    choice!(FLAG, "settled": "The messages go settled: nothing is told of them");
+    choice!(FLAG, "settled": "Sends the messages settled: the peer reports no outcome");
 
 /// The file that is the journal of a `send` or a `receive`, beside which another option does not stand.
 const JOURNAL: Choice =
-    choice!(TEXT, "journal": "Keeps in this file what became of each message: lost connections, and runs that were killed, are taken up again",
+    choice!(TEXT, "journal": "Keeps in this file what became of each message, to go on after a lost connection or a killed run",
     value: PATH);
 
 /// Of `script` alone.
@@ -37,6 +37,9 @@ const PORT: Value = Value::Number("N", 0, 65535);
 
 /// The path of a file.
 const PATH: Value = Value::Text("PATH");
+
+/// A number of messages.
+const COUNT: Value = Value::Number("N", 1, u32::MAX);
 
 /// Of an endpoint's settings.
 static CONFIG: [Choice; 3] = [
@@ -49,16 +52,18 @@ static CONFIG: [Choice; 3] = [
 
 /// Of `trace` alone.
 static TRACE: [Choice; 3] = [
-    choice!(FLAG, "heard": "The octets were heard, and not sent"),
-    choice!(FLAG, "raw": "Standard input has the octets as they are"),
-    choice!(FLAG, "color": "The lines are in colour"),
+    choice!(FLAG, "heard": "The octets were received, and not sent"),
+    choice!(FLAG, "raw": "Reads the octets as they are, and not as hexadecimal"),
+    choice!(FLAG, "color": "Prints the lines in colour"),
 ];
 
 /// Of `explain`.
-static EXPLAIN: [Choice; 3] = [
-    choice!(NUMBER, "number": "The number of a refusal", is_required: true, is_bare: true),
-    choice!(FLAG, "violation": "It is the number of a violation"),
-    choice!(FLAG, "fault": "It is that of a fault of framing", excludes: Some("violation")),
+static EXPLAIN: [Choice; 4] = [
+    choice!(TEXT, "what": "A number, as 14; of a fault of framing as 2.5; or a condition, as amqp:not-allowed. Without it all numbers are listed",
+        value: Value::Text("NUMBER|CONDITION"), is_bare: true),
+    choice!(FLAG, "violation": "It is a violation, and not a refusal", group: Some("kind")),
+    choice!(FLAG, "fault": "It is a fault of a connection, as `conn` prints it", group: Some("kind")),
+    choice!(FLAG, "framing": "It is a fault of framing, as `frames` and `trace` print it", group: Some("kind")),
 ];
 
 /// Of `pair`.
@@ -74,34 +79,38 @@ static PAIR: [Choice; 9] = [
     SETTLED,
     choice!(FLAG, "drivers": "Each end is one thread, which drives all of its connections"),
     // clap does not ask for `drivers` beside an option that excludes it.
-    choice!(NUMBER, "connections": "How many connections there are at once, each with messages of its own; 1 where it is left off",
+    choice!(NUMBER, "connections": "How many connections there are at once, each with messages of its own; 1 if it is not given",
         value: Value::Number("N", 1, MAX_CONNECTIONS), needs: Some("drivers"), excludes: Some("consumers")),
 ];
 
-/// Of what has each frame told.
+/// Of what prints each frame.
 static TRACED: [Choice; 2] = [
-    choice!(FLAG, "trace": "Tells each frame on standard error"),
-    choice!(FLAG, "color": "Tells them in colour", needs: Some("trace")),
+    choice!(FLAG, "trace": "Prints each frame on standard error"),
+    choice!(FLAG, "color": "Prints the frames in colour", needs: Some("trace")),
 ];
 
-/// Of who the peer is, and of how many messages.
-static PEER: [Choice; 10] = [
-    choice!(TEXT, "address": "The address at the peer, where this end begins", usual: Some("q")),
-    choice!(TEXT, "host": "The peer's host, or the one to listen at", usual: Some("127.0.0.1")),
-    choice!(NUMBER, "port": "The peer's port, or the one to listen at", value: PORT, usual: Some("5672")),
-    choice!(FLAG, "listen": "The peer connects and begins"),
-    choice!(NUMBER, "timeout": "After so long without an octet the peer is left",
+/// The most messages that a peer may be let send at a time (part 2, 2.6.7).
+const MAX_GRANT: u32 = 2_147_483_647;
+
+/// Of who the peer is, and of how it is met.
+static PEER: [Choice; 9] = [
+    choice!(TEXT, "url": "The peer and the address at it, as amqp://HOST:PORT/ADDRESS, or the address alone",
+        value: Value::Text("URL"), is_bare: true, excludes: Some("listen"), group: Some("place")),
+    choice!(TEXT, "address": "The address at the peer", usual: Some("q"), excludes: Some("listen"), group: Some("place")),
+    choice!(TEXT, "host": "The peer's host, or with --listen the one to listen at: a name or an address, with :PORT behind it if wanted",
+        usual: Some("127.0.0.1")),
+    choice!(NUMBER, "port": "The peer's port, or with --listen the one to listen at",
+        value: PORT, usual: Some("5672")),
+    choice!(FLAG, "listen": "Waits for the peer to connect and to attach the link"),
+    choice!(NUMBER, "timeout": "How long a connect may take, and how long the peer may be silent",
         value: Value::Number("SECONDS", 1, MAX_PATIENCE)),
     choice!(TEXT, "container-id": "This end's name", usual: Some("amqp_peer")),
     choice!(NUMBER, "max-frame": "The longest frame that this end takes, in octets",
         value: Value::Number("N", MIN_MAX_FRAME, u32::MAX), usual: Some("65536")),
-    choice!(FLAG, "quiet": "Does not tell how far it is"),
-    choice!(NUMBER, "retries": "With a journal: how often in a row a peer is tried again where that brings nothing",
-        usual: Some("20")),
-    choice!(NUMBER, "count": "How many messages", value: Value::Number("N", 1, u32::MAX), usual: Some("1")),
+    choice!(NUMBER, "retries": "With --journal: how often in a row a peer is tried again without success", usual: Some("20"), needs: Some("journal")),
 ];
 
-/// Of what each message tells beside its body.
+/// What each message has beside its body.
 static LABELS: [Choice; 6] = [
     choice!(TEXT, "message-id": "The messages' message-id, a string"),
     choice!(TEXT, "correlation-id": "Their correlation-id, a string"),
@@ -112,11 +121,13 @@ static LABELS: [Choice; 6] = [
 ];
 
 /// Of `send` alone.
-static SEND: [Choice; 5] = [
-    choice!(NUMBER, "size": "The octets of a message's body", usual: Some("16")),
-    choice!(FLAG, "lines": "Each line of standard input is a message"),
-    choice!(TEXT, "file": "The octets of this file are each message's body", value: PATH, excludes: Some("lines")),
+static SEND: [Choice; 7] = [
+    choice!(FLAG, "lines": "Sends each line of standard input as a message, as without --count, --size and --file", group: Some("body")),
+    choice!(NUMBER, "count": "How many messages are sent", value: COUNT, usual: Some("1"), excludes: Some("lines")),
+    choice!(NUMBER, "size": "The octets of a message's body", usual: Some("16"), group: Some("body")),
+    choice!(TEXT, "file": "Sends this file as each message's body", value: PATH, group: Some("body")),
     SETTLED,
+    choice!(FLAG, "quiet": "Does not print how far it is", excludes: Some("trace")),
     Choice {
         excludes: Some("settled"),
         ..JOURNAL
@@ -124,14 +135,21 @@ static SEND: [Choice; 5] = [
 ];
 
 /// Of `receive` alone.
-static RECEIVE: [Choice; 7] = [
+static RECEIVE: [Choice; 13] = [
+    choice!(NUMBER, "count": "How many messages are received", value: COUNT, usual: Some("1")),
     choice!(NUMBER, "credit": "How many messages may come at a time",
-        value: Value::Number("N", 1, u32::MAX), usual: Some("10")),
-    choice!(FLAG, "half": "Gives credit again once half of it is used, and not all"),
-    choice!(FLAG, "drain": "Takes what is there, and waits for no message", excludes: Some("half")),
-    choice!(FLAG, "lines": "Prints the body of each message, and a line's end"),
-    choice!(FLAG, "sections": "Prints a line for each section of each message"),
-    choice!(FLAG, "json": "Prints a line of JSON for each message"),
+        value: Value::Number("N", 1, MAX_GRANT), usual: Some("10")),
+    choice!(FLAG, "half": "Grants credit again once half of it is used, and not all"),
+    choice!(FLAG, "drain": "Receives what is there, and waits for no message", excludes: Some("half")),
+    choice!(NUMBER, "wait": "How long the next message is waited for",
+        value: Value::Number("SECONDS", 1, MAX_PATIENCE), excludes: Some("drain")),
+    choice!(FLAG, "lines": "Prints the body of each message as a line, as without these options", group: Some("printed")),
+    choice!(FLAG, "sections": "Prints a line for each section of each message", group: Some("printed")),
+    choice!(FLAG, "json": "Prints a line of JSON for each message", group: Some("printed")),
+    choice!(FLAG, "no-print": "Prints nothing of the messages", group: Some("printed")),
+    choice!(FLAG, "quiet": "Prints nothing of the messages, nor how far it is", group: Some("printed")),
+    choice!(FLAG, "release": "Releases the messages: the peer may send them again", group: Some("outcome"), excludes: Some("journal")),
+    choice!(FLAG, "reject": "Rejects the messages", group: Some("outcome"), excludes: Some("journal")),
     Choice {
         excludes: Some("drain"),
         ..JOURNAL
@@ -140,14 +158,14 @@ static RECEIVE: [Choice; 7] = [
 
 /// Of `serve` alone.
 static SERVE: [Choice; 6] = [
-    choice!(TEXT, "host": "The address to listen at, in digits", usual: Some("127.0.0.1")),
-    choice!(NUMBER, "port": "The peer's port, or the one to listen at", value: PORT, usual: Some("5672")),
+    choice!(TEXT, "host": "The host to listen at: a name or an address, with :PORT behind it if wanted", usual: Some("127.0.0.1")),
+    choice!(NUMBER, "port": "The port to listen at", value: PORT, usual: Some("5672")),
     choice!(NUMBER, "credit": "How many messages may come at a time on each link",
-        value: Value::Number("N", 1, 2147483647), usual: Some("100")),
+        value: Value::Number("N", 1, MAX_GRANT), usual: Some("100")),
     choice!(NUMBER, "limit": "How many messages are kept at most", usual: Some("100000")),
     choice!(NUMBER, "threads": "How many threads drive connections",
         value: Value::Number("N", 1, MAX_THREADS), usual: Some("1")),
-    choice!(NUMBER, "count": "Ends once so many messages were sent and are done with"),
+    choice!(NUMBER, "count": "Ends once so many messages were sent and settled"),
 ];
 
 /// The command `script` with its options.
@@ -178,7 +196,7 @@ pub fn trace<'a>(alloc: Global) -> Result<Command<'a>, AllocError> {
 
 /// The command `explain` with its options.
 pub fn explain<'a>(alloc: Global) -> Result<Command<'a>, AllocError> {
-    let about = "Says in words what a number of an answer means";
+    let about = "Explains a number or a condition of an answer, or lists all of them";
     command(alloc, "explain", about, &[&EXPLAIN])
 }
 
@@ -190,13 +208,13 @@ pub fn pair<'a>(alloc: Global) -> Result<Command<'a>, AllocError> {
 
 /// The command `send` with its options.
 pub fn send<'a>(alloc: Global) -> Result<Command<'a>, AllocError> {
-    let about = "Sends messages to a peer over TCP, and tells what became of them";
+    let about = "Sends messages to a peer over TCP, and prints what became of them";
     command(alloc, "send", about, &[&TRACED, &PEER, &LABELS, &SEND])
 }
 
 /// The command `receive` with its options.
 pub fn receive<'a>(alloc: Global) -> Result<Command<'a>, AllocError> {
-    let about = "Takes messages from a peer over TCP, and accepts them";
+    let about = "Receives messages from a peer over TCP, prints and accepts them";
     command(alloc, "receive", about, &[&TRACED, &PEER, &RECEIVE])
 }
 
@@ -210,13 +228,13 @@ pub fn serve<'a>(alloc: Global) -> Result<Command<'a>, AllocError> {
 /// The command `example`, which has no options.
 pub fn example<'a>(alloc: Global) -> Command<'a> {
     let about =
-        "Runs the examples of how the crates are embedded, each of which tells what it does";
+        "Runs the examples of how the crates are embedded, each of which prints what it does";
     Command::new(alloc, "example").about(about)
 }
 
 /// The command `rows`, which has no options.
 pub fn rows<'a>(alloc: Global) -> Command<'a> {
     let about =
-        "Reads cases from standard input and tells which of them are answered otherwise than they want";
+        "Reads cases from standard input and prints which of them are answered otherwise than they want";
     Command::new(alloc, "rows").about(about)
 }
