@@ -1,0 +1,4 @@
+pub mod Both
+pub mod Held
+pub mod Lending
+pub mod OnHeld
