@@ -1,0 +1,12 @@
+# find_package(teivorm) defines two targets: teivorm::static, and teivorm::shared.
+get_filename_component(_teivorm_prefix "${CMAKE_CURRENT_LIST_DIR}/../../.." ABSOLUTE)
+foreach(_teivorm_kind static shared)
+  if(NOT TARGET teivorm::${_teivorm_kind})
+    string(TOUPPER ${_teivorm_kind} _teivorm_type)
+    add_library(teivorm::${_teivorm_kind} ${_teivorm_type} IMPORTED)
+    set_target_properties(teivorm::${_teivorm_kind} PROPERTIES INTERFACE_INCLUDE_DIRECTORIES "${_teivorm_prefix}/include")
+  endif()
+endforeach()
+set_target_properties(teivorm::static PROPERTIES IMPORTED_LOCATION "${_teivorm_prefix}/lib/libteivorm.a")
+set_target_properties(teivorm::shared PROPERTIES IMPORTED_LOCATION "${_teivorm_prefix}/lib/libteivorm.so")
+set(teivorm_FOUND TRUE)
