@@ -491,8 +491,8 @@ def run_broker_kills(program, port, _management=None):
 CASES = (
     ("receive  no credit for more than is wanted", run_over_grant),
     ("send     with a journal, a peer that does not recover links", run_no_recovery),
-    ("send     tells why a peer ends a session or a link", run_told_of_link),
-    ("receive  tells which rule a peer breaks", run_violation),
+    ("send     prints why a peer ends a session or a link", run_told_of_link),
+    ("receive  names the rule that a peer breaks", run_violation),
     ("send, receive  peers that want SASL", run_wants_sasl),
     ("send     lines that come a second apart", run_streamed),
     ("send     long lines, in little memory", run_long_lines),
