@@ -1,4 +1,4 @@
--- The canonical spelling: under each value's first format code of the table that fits.
+-- The canonical encoding: each value has the first format code of the table that fits.
 use Rattle.std.specs.Prelude.{◌≡◌, ◌+◌, ◌-◌, ◌^◌, ◌==◌, ◌&&◌, ℕ, List, [], ◌∷◌, ◌++◌, length, map as list_map, Option, Some, None, Result, Ok, Err, min, nat_lt, nat_le, if◌then◌else◌}
 use Rattle.std.specs.Int.{to_be_bytes, w8, w16, w32, w64}
 use Rattle.amqp_types.specs.declared.class.Class.{Class}
@@ -13,7 +13,7 @@ use Rattle.amqp_types.specs.Datum.{Datum, number, octets, list, map, array, desc
 use Rattle.amqp_types.specs.Grammar.{fits, is_run, is_even, is_element}
 use Rattle.amqp_types.specs.Reading.{◌>>=◌}
 
--- the number in a body that gives the value
+-- the number in the body from which the value n is read, if there is one
 abbrev pub unread_number : Conversion → ℕ → Option ℕ
 unread_number Conversion.Plain n = Some n
 unread_number Conversion.One n = if n == 1 then Some 0 else None
@@ -38,7 +38,7 @@ size_field Width.One n = field Width.One n
 size_field Width.Four n = field Width.Four n
 size_field _ n = None
 
--- what stands in front of so many octets of content
+-- the size and count before a content of this many octets
 
 abbrev pub octets_head : Class → Run → List ℕ → Option (List ℕ)
 octets_head (Class.Octets r' w) r text = if (run_index r' == run_index r) && is_run r text then size_field w (length text) else None
@@ -57,7 +57,7 @@ abbrev pub map_head : Class → ℕ → ℕ → Option (List ℕ)
 map_head (Class.Map w) count size = if is_even count then compound_head w count size else None
 map_head _ count size = None
 
--- with the code of the elements behind it
+-- the size, the count and the code of the elements
 abbrev pub array_head : Class → ℕ → ℕ → ℕ → Option (List ℕ)
 array_head (Class.Array w) code count size = if is_element (class_of code) count then compound_head w count (1 + size) >>= (λ h. Some (h ++ code ∷ [])) else None
 array_head _ code count size = None
@@ -66,7 +66,7 @@ abbrev pub described_head : Class → Option (List ℕ)
 described_head Class.Described = Some []
 described_head _ = None
 
--- A value whose parts are spelled already.
+-- A value whose parts are already encoded.
 pub data Draft : Type 0 where
   number_draft : Kind → ℕ → Draft
   octets_draft : Run → List ℕ → Draft
@@ -99,7 +99,7 @@ abbrev pub first_or : Option (List ℕ) → ℕ → Option (List ℕ) → Option
 first_or None c others = others
 first_or (Some os) c others = Some (c ∷ os)
 
--- the first of these codes under which there is a body
+-- the first of these codes that has a body, and that body
 abbrev pub first_of : List ℕ → Draft → Option (List ℕ)
 first_of [] d = None
 first_of (c ∷ cs) d = first_or (draft_form d (class_of c)) c (first_of cs d)
@@ -107,7 +107,7 @@ first_of (c ∷ cs) d = first_or (draft_form d (class_of c)) c (first_of cs d)
 abbrev pub codes : List ℕ
 codes = list_map (λ row. row.0) table
 
--- with the first code of the table, which is in the order of lengths, or without one under that of an array
+-- with the first code of the table (in the order of lengths), or without one as an element of an array
 unfoldable pub spelled : Option ℕ → Draft → Option (List ℕ)
 spelled None d = first_of codes d
 spelled (Some c) d = draft_form d (class_of c)
@@ -125,28 +125,28 @@ abbrev mutual
   parts_form none how = Some []
   parts_form (item v vs) how = (draft v >>= spelled how) >>= λ a. parts_form vs how >>= λ b. Some (a ++ b)
 
--- a part with its own code, or under that of an array
+-- a part with its own code, or without one as an element of an array
 abbrev pub part_form : Option ℕ → Datum → Option (List ℕ)
 part_form how v = draft v >>= spelled how
 
 unfoldable pub canon : Datum → Option (List ℕ)
 canon v = if nat_le (depth_of v) 32 then draft v >>= spelled None else None
 
--- the new octets are the old ones and these, which are there
+-- the form exists, and the new octets are the old ones followed by it
 abbrev pub Appends : Option (List ℕ) → List ℕ → List ℕ → Type 0
 Appends form old new = (x : List ℕ) × (form ≡ Some x) × (new ≡ old ++ x)
 
--- the new octets are the old ones and the canonical spelling
+-- the new octets are the old ones followed by the canonical encoding
 abbrev pub AppendsCanon : Datum → List ℕ → List ℕ → Type 0
 AppendsCanon v old new = Appends (canon v) old new
 
--- What a function that appends octets has done: they are there behind the old ones, or there are none such, or memory ran out.
+-- The result of appending octets: they follow the old ones, or the form does not exist, or memory ran out.
 abbrev pub Writes : {X : Type 0} → Option (List ℕ) → Result X WriteFault → List ℕ → List ℕ → Type 0
 Writes form (Ok x) old new = Appends form old new
 Writes form (Err fault.NoMemory) old new = Unit {0}
 Writes form (Err fault.NotWritable) old new = form ≡ None
 
--- how many octets there are, or 2 ^ 64 - 1 for more
+-- the number of octets, at most 2 ^ 64 - 1
 abbrev pub capped : Option (List ℕ) → Option ℕ
 capped None = None
 capped (Some x) = Some (min (length x) (2 ^ 64 - 1))

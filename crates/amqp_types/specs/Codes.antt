@@ -57,7 +57,7 @@ table =
     ∷ (0xf0, Class.Array Width.Four)
     ∷ []
 
--- the class beside the code, or Unknown
+-- the class of the code in the table, or Unknown
 abbrev pub class_in : List (ℕ × Class) → ℕ → Class
 class_in [] c = Class.Unknown
 class_in (row ∷ rows) c = if c == row.0 then row.1 else class_in rows c
@@ -65,7 +65,7 @@ class_in (row ∷ rows) c = if c == row.0 then row.1 else class_in rows c
 unfoldable pub class_of : ℕ → Class
 class_of c = class_in table c
 
--- the place of a type among those of its sort, by which two are told apart
+-- the index of a type in its enumeration, for comparing two types
 abbrev pub kind_index : Kind → ℕ
 kind_index Kind.Null = 0
 kind_index Kind.Bool = 1
@@ -91,7 +91,7 @@ run_index Run.Symbol = 2
 run_index Run.Dec128 = 3
 run_index Run.Uuid = 4
 
--- the codes whose class is such
+-- the codes whose class satisfies is_such
 abbrev pub codes_in : (Class → Bool) → List (ℕ × Class) → List ℕ
 codes_in is_such [] = []
 codes_in is_such (row ∷ rows) = if is_such row.1 then row.0 ∷ codes_in is_such rows else codes_in is_such rows
@@ -101,6 +101,6 @@ of_run r (Class.Octets r' w) = run_index r' == run_index r
 of_run r (Class.Sixteen r') = run_index r' == run_index r
 of_run r _ = false
 
--- a type of octets whose size takes one octet under the first of its codes and four under the second
+-- a type with exactly two codes: the size takes one octet under the first and four under the second
 abbrev pub HasCodes : Run → ℕ → ℕ → Type 0
 HasCodes r small large = (codes_in (of_run r) table ≡ small ∷ large ∷ []) × (class_of small ≡ Class.Octets r Width.One) × (class_of large ≡ Class.Octets r Width.Four)

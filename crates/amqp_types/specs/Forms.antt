@@ -1,4 +1,4 @@
--- What the writer's functions give, told in the words of the canonical spelling.
+-- What the writer's functions return, in the terms of the canonical encoding.
 use Rattle.std.specs.Prelude.{◌+◌, ◌-◌, ◌^◌, ℕ, List, ◌∷◌, length, min, Option, Some, None, if◌then◌else◌, ◌==◌}
 use Rattle.amqp_types.specs.declared.class.Class.{Class}
 use Rattle.amqp_types.specs.declared.forms.Head.{Head}
@@ -24,11 +24,11 @@ head_code (head.Map count size) = compound_code 0xc1 0xd1 count size
 head_code (head.Array code count size) = compound_code 0xe0 0xf0 count (1 + size)
 head_code head.Described = 0
 
--- with its code, or under that of an array
+-- the head with its code, or without one as an element of an array
 abbrev pub spelled_head : Option ℕ → Head → Option (List ℕ)
 spelled_head None h = head_form h (class_of (head_code h)) >>= λ os. Some (head_code h ∷ os)
 spelled_head (Some c) h = head_form h (class_of c)
 
--- how many octets they are with so many behind them, or 2 ^ 64 - 1 for more
+-- the number of octets with size more after them, at most 2 ^ 64 - 1
 abbrev pub capped_with : ℕ → Option (List ℕ) → Option ℕ
 capped_with size form = form >>= λ os. Some (min (length os + size) (2 ^ 64 - 1))

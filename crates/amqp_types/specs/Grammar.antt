@@ -1,4 +1,4 @@
--- Which octets are a spelling of a value.
+-- Which octets encode a value.
 use Rattle.std.specs.Prelude.{◌≡◌, ◌≤◌, ◌^◌, ◌+◌, ◌-◌, ◌*◌, ◌==◌, ℕ, zero, suc, List, [], ◌∷◌, ◌++◌, length, take, Option, Some, None, Bool, true, false, not, nat_lt, nat_le, ◌&&◌, IsTrue, if◌then◌else◌}
 use Rattle.std.specs.List.{list_all}
 use Rattle.std.specs.Str.{is_utf8}
@@ -10,7 +10,7 @@ use Rattle.amqp_types.specs.declared.class.Width.{Width}
 use Rattle.amqp_types.specs.Codes.{class_of, octets_in}
 use Rattle.amqp_types.specs.Datum.{Datum, number, octets, list, map, array, described, Data, none, item, count_of, depth_of}
 
--- the number that octets are, big endian, after those that were n
+-- the big-endian number of n followed by these octets
 abbrev pub number_from : ℕ → List ℕ → ℕ
 number_from n [] = n
 number_from n (b ∷ bs) = number_from (n * 256 + b) bs
@@ -18,18 +18,18 @@ number_from n (b ∷ bs) = number_from (n * 256 + b) bs
 unfoldable pub number_of : List ℕ → ℕ
 number_of bs = number_from 0 bs
 
--- the value that a number in a body gives
+-- the value of the number in a body
 abbrev pub read_number : Conversion → ℕ → ℕ
 read_number Conversion.Plain n = n
 read_number Conversion.One n = n + 1
 read_number Conversion.Widened32 n = if nat_lt n 128 then n else n + (2 ^ 32 - 256)
 read_number Conversion.Widened64 n = if nat_lt n 128 then n else n + (2 ^ 64 - 256)
 
--- a Unicode scalar value: no surrogate
+-- whether n is a Unicode scalar value: no surrogate
 abbrev pub is_scalar : ℕ → Bool
 is_scalar n = if nat_lt n 0xd800 then true else nat_le 0xe000 n && nat_lt n 0x110000
 
--- the values of a type
+-- whether n represents a value of the type
 abbrev pub fits : Kind → ℕ → Bool
 fits Kind.Null n = n == 0
 fits Kind.Bool n = nat_lt n 2
@@ -51,7 +51,7 @@ fits Kind.Timestamp n = nat_lt n (2 ^ 64)
 abbrev pub is_ascii : List ℕ → Bool
 is_ascii os = list_all (λ o. nat_lt o 128) os
 
--- the octets that a run may have
+-- whether a run of this type can have these octets
 abbrev pub is_run : Run → List ℕ → Bool
 is_run Run.Binary os = true
 is_run Run.Str os = is_utf8 os
@@ -63,7 +63,7 @@ abbrev pub is_even : ℕ → Bool
 is_even zero = true
 is_even (suc n) = not (is_even n)
 
--- whether a class may stand in front of this many bodies: one without a body at most 255 times
+-- whether an array can have this many elements of the class: at most 255 if they have no body
 abbrev pub is_element : Class → ℕ → Bool
 is_element Class.Unknown count = false
 is_element Class.Described count = false
@@ -79,7 +79,7 @@ is_element (Class.List w) count = true
 is_element (Class.Map w) count = true
 is_element (Class.Array w) count = true
 
--- these octets are this number in this width
+-- the octets hold this number in this width
 abbrev pub IsField : Width → ℕ → List ℕ → Type 0
 IsField w n os = (length os ≡ octets_in w) × (number_of os ≡ n)
 
@@ -109,7 +109,7 @@ abbrev pub IsMapBody : Class → ℕ → (List ℕ → Type 0) → List ℕ → 
 IsMapBody (Class.Map w) count Content os = IsTrue (is_even count) × (content : List ℕ) × Content content × IsCompound w count content os
 IsMapBody _ count Content os = ⊥
 
--- the constructor and the bodies; an empty array of null may have no constructor
+-- The constructor and the bodies; an empty array of null may have no constructor.
 abbrev pub IsArrayContent : ℕ → ℕ → (List ℕ → Type 0) → List ℕ → Type 0
 IsArrayContent code count Bodies [] = (count ≡ 0) × (code ≡ 0x40)
 IsArrayContent code count Bodies (c ∷ os) = (c ≡ code) × IsTrue (is_element (class_of code) count) × Bodies os
@@ -118,7 +118,7 @@ abbrev pub IsArrayBody : Class → ℕ → ℕ → (List ℕ → Type 0) → Lis
 IsArrayBody (Class.Array w) code count Bodies os = (content : List ℕ) × IsArrayContent code count Bodies content × IsCompound w count content os
 IsArrayBody _ code count Bodies os = ⊥
 
--- one after the other
+-- octets of P followed by octets of Q
 abbrev pub Then : (List ℕ → Type 0) → (List ℕ → Type 0) → List ℕ → Type 0
 Then P Q os = (a b : List ℕ) × P a × Q b × (os ≡ a ++ b)
 
@@ -126,7 +126,7 @@ abbrev pub IsDescribedBody : Class → (List ℕ → Type 0) → (List ℕ → T
 IsDescribedBody Class.Described Descriptor Described os = Then Descriptor Described os
 IsDescribedBody _ Descriptor Described os = ⊥
 
--- A part is spelled with its own format code, or without one under that of an array.
+-- A part has its own format code, or none as an element of an array.
 abbrev pub IsPart : Option ℕ → (ℕ → List ℕ → Type 0) → List ℕ → Type 0
 IsPart None Body [] = ⊥
 IsPart None Body (c ∷ os) = Body c os
@@ -146,29 +146,30 @@ abbrev mutual
   AreParts none how os = os ≡ []
   AreParts (item v vs) how os = Then (IsPart how (IsBody v)) (AreParts vs how) os
 
--- a format code and a body, nested at most so deep
+-- the octets are a format code and a body of the value, which is nested at most this deep
 abbrev pub SpellsWithin : ℕ → Datum → List ℕ → Type 0
 SpellsWithin depth v os = IsPart None (IsBody v) os × (depth_of v ≤ depth)
 
--- the deepest nesting that this profile reads and writes
+-- the octets encode the value within the nesting that this profile reads and writes
 abbrev pub Spells : Datum → List ℕ → Type 0
 Spells v os = SpellsWithin 32 v os
 
--- some front of the octets is a spelling
+-- the octets begin with the encoding of some value
 abbrev pub BeginsWithValue : ℕ → List ℕ → Type 0
 BeginsWithValue depth os = (v : Datum) × (x rest : List ℕ) × SpellsWithin depth v x × (os ≡ x ++ rest)
 
--- What a reader of one type answers of the octets: what it found in front and how many octets spell it, or None where no front is a spelling of that type.
+-- The result of a reader of one type: the value at the start of the octets and the number of octets that encode it,
+-- or None if they do not begin with a value of that type.
 abbrev pub IsFront : {A : Type 0} → (A → Datum) → List ℕ → Option (A × ℕ) → Type 0
 IsFront datum os (Some found) = (found.1 ≤ length os) × Spells (datum found.0) (take found.1 os)
 IsFront {A} datum os None = (a : A) (x rest : List ℕ) → Spells (datum a) x → os ≡ x ++ rest → ⊥
 
--- What stands in front as a value of octets, before it is known whether the sort may have these.
+-- The result of a reader of runs, before it is known whether the type can have these octets.
 abbrev pub IsCandidate : Run → List ℕ → Option (List ℕ × ℕ) → Type 0
 IsCandidate run os (Some found) = (found.1 ≤ length os) × (IsTrue (is_run run found.0) → Spells (octets run found.0) (take found.1 os))
     × ((text x rest : List ℕ) → Spells (octets run text) x → os ≡ x ++ rest → IsTrue (is_run run found.0))
 IsCandidate run os None = (text x rest : List ℕ) → Spells (octets run text) x → os ≡ x ++ rest → ⊥
 
--- the octets are a list's format code, its size and its count, and then this content
+-- the octets are a list's format code, its size, its count and this content
 abbrev pub IsListWith : ℕ → List ℕ → List ℕ → Type 0
 IsListWith count content os = IsPart None (λ c body. IsListBody (class_of c) count (λ x. x ≡ content) body) os

@@ -1,4 +1,4 @@
--- Reading from left to right: what is read and the octets after it, or None.
+-- Reading from left to right: the value that is read and the octets after it, or None.
 use Rattle.std.specs.Prelude.{◌≡◌, ◌==◌, ℕ, zero, suc, List, [], ◌∷◌, length, take, drop, Option, Some, None, Result, Ok, Err, nat_lt, if◌then◌else◌}
 use Rattle.amqp_types.specs.declared.class.Class.{Class}
 use Rattle.amqp_types.specs.declared.class.Kind.{Kind}
@@ -11,7 +11,7 @@ use Rattle.amqp_types.specs.Codes.{class_of, octets_in}
 use Rattle.amqp_types.specs.Datum.{Datum, number, octets, list, map, array, described, Data, none, item}
 use Rattle.amqp_types.specs.Grammar.{number_of, read_number, fits, is_run, is_even, is_element}
 
--- What a function returned, seen by view, is what reading gives, unless memory ran out.
+-- The result of a function, seen by view, is what reading returns, unless memory ran out.
 abbrev pub Fails : {Y : Type 0} → ReadFault → Option Y → Type 0
 Fails fault.NoMemory read = Unit {0}
 Fails fault.NoValue read = read ≡ None
@@ -46,7 +46,7 @@ octets_at r w os = do
   n ← field_at w os
   run_at r n.0 n.1
 
--- the count and the content, and what follows
+-- the count, the content and the octets after them
 unfoldable pub compound_at : Width → List ℕ → Option ((ℕ × List ℕ) × List ℕ)
 compound_at w os = do
   size ← field_at w os
@@ -64,7 +64,7 @@ parts_at part (suc n) os = do
   vs ← parts_at part n v.1
   Some (item v.0 vs.0, vs.1)
 
--- all of the octets
+-- the parts, if they take up all of the octets
 unfoldable pub all_parts_at : (List ℕ → Option (Datum × List ℕ)) → ℕ → List ℕ → Option Data
 all_parts_at part n os = do
   vs ← parts_at part n os
@@ -100,7 +100,7 @@ described_at part os = do
   v ← part None d.1
   Some (described d.0 v.0, v.1)
 
--- a body of a class, where part reads its parts
+-- a body of a class; part reads its parts
 abbrev pub body_by : PartReader → Class → List ℕ → Option (Datum × List ℕ)
 body_by part (Class.Number k w r) os = number_at k w r os
 body_by part (Class.Octets r w) os = octets_at r w os
@@ -126,7 +126,7 @@ body_at (suc n) c os = body_by (part_by (body_at n)) (class_of c) os
 abbrev pub part_at : ℕ → PartReader
 part_at n = part_by (body_at n)
 
--- what follows what is read
+-- the octets after the value that is read
 abbrev pub after : {A : Type 0} → Option (A × List ℕ) → Option (List ℕ)
 after None = None
 after (Some x) = Some x.1

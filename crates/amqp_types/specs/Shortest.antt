@@ -1,8 +1,8 @@
--- Which values have no spelling shorter than the canonical one.
+-- Which values have no encoding shorter than the canonical one.
 use Rattle.std.specs.Prelude.{◌≡◌}
 use Rattle.amqp_types.specs.Datum.{Datum, number, octets, list, map, array, described, Data, none, item, count_of}
 
--- An empty array of nulls may be spelled without its constructor, which the canonical spelling has: no part is such an array.
+-- No part is an empty array of nulls, which may be encoded without the constructor that the canonical encoding has.
 abbrev mutual
   pub HasNoEmptyNulls : Datum → Type 0
   HasNoEmptyNulls (number k n) = Unit {0}

@@ -1,14 +1,14 @@
--- Octets that are kept in 32.
+-- Octets that are stored in 32 bytes.
 use Rattle.std.specs.Prelude.{ℕ, ◌≡◌, ◌-◌, ◌≤◌, ◌++◌, List, length, take, replicate}
 use Rattle.std.proofs.Common.{arith, ap, sym}
 use Rattle.std.proofs.lemmas.List.{length-take-le}
 use Rattle.amqp_types.specs.declared.tag.Tag.TheInside.{Inside}
 
--- with zeros behind them
+-- the octets, padded with zeros to 32
 abbrev pub padded : List ℕ → List ℕ
 padded octets = octets ++ replicate (32 - length octets) 0
 
--- all but the first n octets are zeros
+-- there are 32 octets, and all but the first n are zeros
 pub record IsPadded (octets : List ℕ) (n : ℕ) : Type 0 where
   pub short : n ≤ 32
   pub whole : length octets ≡ 32

@@ -15,12 +15,12 @@ abbrev pub pairs_of : List (Datum × Datum) → Data
 pairs_of [] = none
 pairs_of (p ∷ ps) = item p.0 (item p.1 (pairs_of ps))
 
--- Two's complement in so many bits. A number that does not fit gives one that does not, either.
+-- Two's complement in this many bits. A number that does not fit is mapped to 2 ^ bits, which does not fit either.
 abbrev pub twos : ℕ → ℤ → ℕ
 twos bits (pos n) = if nat_lt n (2 ^ (bits - 1)) then n else 2 ^ bits
 twos bits (negsuc n) = if nat_lt n (2 ^ (bits - 1)) then 2 ^ bits - suc n else 2 ^ bits
 
--- one level, with each value inside already seen as its Datum
+-- one level of a value, with each inner value already converted to its Datum
 abbrev pub view_step : Value-F Datum → Datum
 view_step Value-F.Null = number Kind.Null 0
 view_step (Value-F.Bool b) = number Kind.Bool (if b then 1 else 0)

@@ -1,4 +1,4 @@
--- The code that the writer chooses: the shortest that fits.
+-- The format code that the writer chooses: the shortest that fits.
 use Rattle.std.specs.Prelude.{◌+◌, ◌-◌, ◌^◌, ◌==◌, ◌&&◌, ℕ, length, nat_lt, if◌then◌else◌}
 use Rattle.amqp_types.specs.declared.class.Kind.{Kind}
 use Rattle.amqp_types.specs.declared.class.Run.{Run}

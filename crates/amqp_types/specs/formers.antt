@@ -1,3 +1,3 @@
--- How our containers hold their values, so that a value may hold itself through them.
+-- How our containers hold their values, so that a value can contain values through them.
 pub mod boxed
 pub mod items

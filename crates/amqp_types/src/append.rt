@@ -1,4 +1,6 @@
-//! Fields of one type, written behind octets in the canonical spelling (OASIS AMQP 1.0, part 1, section 1.6), or left as they were where memory ran out; each `_size` is its length.
+//! Appends fields of one type to a buffer, in the canonical encoding (part 1, 1.6).
+//!
+//! If memory runs out, the buffer is left unchanged. Each `_size` function returns the length of an encoding in octets.
 ghost use Rattle.std.specs.Prelude.{◌≡◌, length, Some, OnOk, OnErr, option_map, if◌then◌else◌};
 ghost use Rattle.amqp_types.specs.declared.class.Kind.{Kind};
 ghost use Rattle.amqp_types.specs.Datum.{number};
@@ -6,7 +8,11 @@ ghost use Rattle.amqp_types.specs.Canon.{canon, AppendsCanon};
 
 use std::alloc::AllocError;
 
-/// Null, behind the octets that are there.
+/// Appends null to `out` (part 1, 1.6.1).
+///
+/// # Errors
+///
+/// [`AllocError`] if memory runs out; `out` is then unchanged.
 #[inline]
 pub fn write_null(out: &mut Vec<u8>) -> Result<(), AllocError>
     ensures ok { OnOk result (AppendsCanon (number Kind.Null 0) out.old.items out.new.items) }
@@ -15,7 +21,11 @@ pub fn write_null(out: &mut Vec<u8>) -> Result<(), AllocError>
     out.extend_from_slice(&[0x40])
 }
 
-/// A boolean, under its shortest code.
+/// Appends a boolean to `out`, under its shortest format code (part 1, 1.6.2).
+///
+/// # Errors
+///
+/// [`AllocError`] if memory runs out; `out` is then unchanged.
 #[inline]
 pub fn write_boolean(out: &mut Vec<u8>, b: bool) -> Result<(), AllocError>
     ensures ok { OnOk result (AppendsCanon (number Kind.Bool (if b then 1 else 0)) out.old.items out.new.items) }
@@ -28,7 +38,11 @@ pub fn write_boolean(out: &mut Vec<u8>, b: bool) -> Result<(), AllocError>
     }
 }
 
-/// A ubyte.
+/// Appends a ubyte to `out` (part 1, 1.6.3).
+///
+/// # Errors
+///
+/// [`AllocError`] if memory runs out; `out` is then unchanged.
 #[inline]
 pub fn write_ubyte(out: &mut Vec<u8>, n: u8) -> Result<(), AllocError>
     ensures ok { OnOk result (AppendsCanon (number Kind.Ubyte n) out.old.items out.new.items) }
@@ -37,7 +51,11 @@ pub fn write_ubyte(out: &mut Vec<u8>, n: u8) -> Result<(), AllocError>
     out.extend_from_slice(&[0x50, n])
 }
 
-/// A ushort.
+/// Appends a ushort to `out`, big endian (part 1, 1.6.4).
+///
+/// # Errors
+///
+/// [`AllocError`] if memory runs out; `out` is then unchanged.
 #[inline]
 pub fn write_ushort(out: &mut Vec<u8>, n: u16) -> Result<(), AllocError>
     ensures ok { OnOk result (AppendsCanon (number Kind.Ushort n) out.old.items out.new.items) }
@@ -47,7 +65,11 @@ pub fn write_ushort(out: &mut Vec<u8>, n: u16) -> Result<(), AllocError>
     out.extend_from_slice(&[0x60, a, b])
 }
 
-/// A uint, under its shortest code.
+/// Appends a uint to `out`, under its shortest format code (part 1, 1.6.5).
+///
+/// # Errors
+///
+/// [`AllocError`] if memory runs out; `out` is then unchanged.
 #[inline]
 pub fn write_uint(out: &mut Vec<u8>, n: u32) -> Result<(), AllocError>
     ensures ok { OnOk result (AppendsCanon (number Kind.Uint n) out.old.items out.new.items) }
@@ -63,7 +85,11 @@ pub fn write_uint(out: &mut Vec<u8>, n: u32) -> Result<(), AllocError>
     }
 }
 
-/// A ulong, under its shortest code.
+/// Appends a ulong to `out`, under its shortest format code (part 1, 1.6.6).
+///
+/// # Errors
+///
+/// [`AllocError`] if memory runs out; `out` is then unchanged.
 #[inline]
 pub fn write_ulong(out: &mut Vec<u8>, n: u64) -> Result<(), AllocError>
     ensures ok { OnOk result (AppendsCanon (number Kind.Ulong n) out.old.items out.new.items) }
@@ -79,7 +105,7 @@ pub fn write_ulong(out: &mut Vec<u8>, n: u64) -> Result<(), AllocError>
     }
 }
 
-/// The length of a uint's canonical spelling.
+/// Returns the length in octets of the canonical encoding of a uint: 1, 2 or 5.
 #[inline]
 pub fn uint_size(n: u32) -> usize
     ensures { Some result ≡ option_map (λ x. length x) (canon (number Kind.Uint n)) }
@@ -93,7 +119,7 @@ pub fn uint_size(n: u32) -> usize
     }
 }
 
-/// The length of a ulong's canonical spelling.
+/// Returns the length in octets of the canonical encoding of a ulong: 1, 2 or 9.
 #[inline]
 pub fn ulong_size(n: u64) -> usize
     ensures { Some result ≡ option_map (λ x. length x) (canon (number Kind.Ulong n)) }

@@ -1,16 +1,16 @@
-//! One value behind a pointer, that contracts see as the value.
+//! Boxed values that contracts see as the value itself.
 ghost use Rattle.std.specs.Prelude.{◌≡◌, IfOk};
 
 use std::alloc::{AllocError, Global};
 use std::marker::Model;
 
-/// A `Box` that contracts see as the value in it, so that equal values are equal in contracts wherever they lie.
+/// A `Box` that contracts see as the value in it, whatever its address.
 #[derive(Debug)]
 pub struct Boxed<T> {
     pub boxed: Box<T>,
 }
 
-// By hand, so that a crate that owns one does not prove its parts' drops again.
+// Written by hand, so that a crate that owns one does not prove the drops of its parts again.
 impl<T: Drop> Drop for Boxed<T> {
     fn drop(self) {
         let Boxed { boxed } = self;
@@ -27,14 +27,14 @@ impl<T> Model for Boxed<T> {
 }
 
 impl<T> Boxed<T> {
-    /// The value.
+    /// Returns a reference to the value.
     pub fn get(&self) -> &T
         ensures { result.now ≡ self.now }
     {
         &self.boxed
     }
 
-    /// The value, out of its box.
+    /// Moves the value out of the box.
     pub fn into_inner(self) -> T
         ensures { result ≡ self }
     {
@@ -42,14 +42,18 @@ impl<T> Boxed<T> {
         Box::into_inner(boxed)
     }
 
-    /// The allocator that the box was made with.
+    /// Returns the allocator of the box.
     pub fn allocator(&self) -> Global {
         *Box::allocator(&self.boxed)
     }
 }
 
 impl<T: Drop> Boxed<T> {
-    /// Moves the value behind a pointer.
+    /// Moves `value` into a box that `alloc` allocates.
+    ///
+    /// # Errors
+    ///
+    /// [`AllocError`] if memory runs out.
     pub fn new(alloc: Global, value: T) -> Result<Boxed<T>, AllocError>
         ensures { IfOk result (λ b. b ≡ value) }
     {

@@ -1,8 +1,9 @@
-//! The table of format codes.
+//! The table of format codes (OASIS AMQP 1.0, part 1, sections 1.2 and 1.6).
 ghost use Rattle.std.specs.Prelude.{◌≡◌, ◌≤◌};
 ghost use Rattle.amqp_types.specs.Codes.{class_of, octets_in, kind_index, run_index};
 
-/// A type whose values are numbers of a fixed width. A signed number is its two's complement.
+/// A type whose values are handled as unsigned numbers. Null and false are 0, true is 1, and a signed number is its
+/// two's complement.
 #[derive(Clone, Copy)]
 pub enum Kind {
     Null,
@@ -23,7 +24,7 @@ pub enum Kind {
     Timestamp,
 }
 
-/// A type whose values are octets.
+/// A type whose values are handled as octets.
 #[derive(Clone, Copy)]
 pub enum Run {
     Binary,
@@ -33,7 +34,7 @@ pub enum Run {
     Uuid,
 }
 
-/// How many octets a number takes.
+/// The number of octets that a number, a size or a count takes.
 #[derive(Clone, Copy)]
 pub enum Width {
     Zero,
@@ -43,38 +44,43 @@ pub enum Width {
     Eight,
 }
 
-/// How the number in a body is converted into the value.
+/// The conversion of the number in a body into the value.
 #[derive(Clone, Copy)]
 pub enum Conversion {
-    /// It is the value.
+    /// The number is the value.
     Plain,
-    /// The value is one more.
+    /// The value is the number plus one, as for the code of true, which has no body.
     One,
-    /// One octet in two's complement, widened to four or eight.
+    /// The number is one octet in two's complement, widened to four octets.
     Widened32,
+    /// The number is one octet in two's complement, widened to eight octets.
     Widened64,
 }
 
-/// What a format code says of the body.
+/// The shape of the body under a format code.
 #[derive(Clone, Copy)]
 pub enum Class {
-    /// A number of this many octets.
+    /// A number of this width.
     Number(Kind, Width, Conversion),
-    /// A size of this many octets, and as many octets.
+    /// A size of this width, then as many octets.
     Octets(Run, Width),
     /// Sixteen octets.
     Sixteen(Run),
+    /// No body: a list without items.
     EmptyList,
-    /// Size and count of this many octets each, then the parts.
+    /// Size and count of this width each, then the items.
     List(Width),
+    /// Size and count of this width each, then keys and values in turn.
     Map(Width),
+    /// Size and count of this width each, then one format code and the bodies under it.
     Array(Width),
-    /// A descriptor and a value.
+    /// A descriptor, then the value that it describes.
     Described,
+    /// The code is not in the table.
     Unknown,
 }
 
-/// The table.
+/// Returns the shape of the body under `code`, or [`Class::Unknown`] if the code is not in the table.
 #[tactic(auto, unfolding(crate::specs::Codes::class_of))]
 pub fn class_of(code: u8) -> Class
     ensures { result ≡ class_of code }
@@ -125,7 +131,7 @@ pub fn class_of(code: u8) -> Class
 }
 
 impl Width {
-    /// How many octets a body of this width has.
+    /// Returns the number of octets of this width, at most 8.
     pub fn octets(self) -> usize
         ensures value { result ≡ octets_in self }
         ensures bound { result ≤ 8 }
@@ -140,7 +146,6 @@ impl Width {
     }
 }
 
-/// The place of a type of octets among these, by which two are told apart.
 pub(crate) fn run_index(run: Run) -> u8
     ensures { result ≡ run_index run }
 {
@@ -153,7 +158,6 @@ pub(crate) fn run_index(run: Run) -> u8
     }
 }
 
-/// The place of a type of numbers among these, by which two are told apart.
 pub(crate) fn kind_index(kind: Kind) -> u8
     ensures { result ≡ kind_index kind }
 {

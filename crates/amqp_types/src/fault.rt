@@ -1,13 +1,14 @@
-//! Why a value is not read or written.
+//! The errors of reading and writing values.
 use std::alloc::{AllocError, AllocFailed};
 use thiserror::Error;
 
-/// Why no value is read.
+/// The error of reading a value.
 #[derive(Clone, Copy, Debug, PartialEq, Eq, Error)]
 pub enum ReadFault {
-    /// No front of the octets is a spelling of a value.
+    /// The octets do not start with a encoding of a value.
     #[error("no value is in front of the octets")]
     NoValue,
+    /// Memory ran out.
     #[error("out of memory")]
     NoMemory,
 }
@@ -34,13 +35,16 @@ impl<T: Drop> From<AllocFailed<T>> for ReadFault {
     }
 }
 
-/// Why a value is not written.
+/// The error of writing a value.
 #[derive(Clone, Copy, Debug, PartialEq, Eq, Error)]
 pub enum WriteFault {
-    /// The value has no canonical spelling: it is nested more than 32 deep, a symbol has an octet past 127, an array's code does not spell its
-    /// items or stands for more than 255 without a body, or a size or count is past 32 bits.
+    /// The value has no canonical encoding.
+    ///
+    /// It is nested more than 32 deep; a symbol has an octet above 127; an array has a code that cannot encode its
+    /// items, or more than 255 items under a code without a body; or a size or count needs more than 32 bits.
     #[error("the value has no spelling")]
     NotWritable,
+    /// Memory ran out.
     #[error("out of memory")]
     NoMemory,
 }

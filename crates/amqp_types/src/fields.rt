@@ -1,4 +1,7 @@
-//! Fields of one type, read in place without memory (OASIS AMQP 1.0, part 1, section 1.6): the field and how many octets spell it, or None exactly where none is in front.
+//! Reads fields of one type in place, without allocation (part 1, 1.6).
+//!
+//! Each function returns the field at the start of the octets and the number of octets that encode it. It returns
+//! `None` if and only if the octets do not begin with a field of that type. Every encoding of the type is accepted.
 ghost use Rattle.std.specs.Prelude.{option_map, if◌then◌else◌};
 ghost use Rattle.amqp_types.specs.Codes.{HasCodes};
 ghost use Rattle.amqp_types.specs.Datum.{number, octets};
@@ -9,7 +12,7 @@ ghost use Rattle.amqp_types.specs.Grammar.{IsFront, IsCandidate};
 use crate::class::{Run, Width};
 use crate::leaves::{eight, four, is_ascii, one, split, two};
 
-/// How many octets spell the null in front.
+/// Returns the number of octets of the null at the start of `bytes`, or `None` if there is none (part 1, 1.6.1).
 #[inline(always)]
 pub fn read_null(bytes: &[u8]) -> Option<usize>
     ensures { IsFront (λ _. number Kind.Null 0) bytes.now (option_map (λ used. (used, used)) result) }
@@ -18,7 +21,7 @@ pub fn read_null(bytes: &[u8]) -> Option<usize>
     if *code == 0x40 { Some(1) } else { None }
 }
 
-/// The boolean in front, and how many octets spell it.
+/// Returns the boolean at the start of `bytes` and the number of its octets; `None` if there is none (part 1, 1.6.2).
 #[inline(always)]
 pub fn read_boolean(bytes: &[u8]) -> Option<(bool, usize)>
     ensures { IsFront (λ b. number Kind.Bool (if b then 1 else 0)) bytes.now result }
@@ -31,7 +34,7 @@ pub fn read_boolean(bytes: &[u8]) -> Option<(bool, usize)>
     }
 }
 
-/// The same in any of its spellings: rare, and so out of line.
+/// Out of line, because peers rarely send a boolean under the two-octet code 56.
 #[inline(never)]
 fn read_any_boolean(bytes: &[u8]) -> Option<(bool, usize)>
     ensures { IsFront (λ b. number Kind.Bool (if b then 1 else 0)) bytes.now result }
@@ -52,7 +55,7 @@ fn read_any_boolean(bytes: &[u8]) -> Option<(bool, usize)>
     }
 }
 
-/// The ubyte in front, and how many octets spell it.
+/// Returns the ubyte at the start of `bytes` and the number of its octets, or `None` if there is none (part 1, 1.6.3).
 #[inline]
 pub fn read_ubyte(bytes: &[u8]) -> Option<(u8, usize)>
     ensures { IsFront (λ n. number Kind.Ubyte n) bytes.now result }
@@ -67,7 +70,7 @@ pub fn read_ubyte(bytes: &[u8]) -> Option<(u8, usize)>
     }
 }
 
-/// The ushort in front, and how many octets spell it.
+/// Returns the ushort at the start of `bytes` and the number of its octets, or `None` if there is none (part 1, 1.6.4).
 #[inline]
 pub fn read_ushort(bytes: &[u8]) -> Option<(u16, usize)>
     ensures { IsFront (λ n. number Kind.Ushort n) bytes.now result }
@@ -82,7 +85,7 @@ pub fn read_ushort(bytes: &[u8]) -> Option<(u16, usize)>
     }
 }
 
-/// The uint in front, and how many octets spell it.
+/// Returns the uint at the start of `bytes` and the number of its octets, or `None` if there is none (part 1, 1.6.5).
 #[inline(always)]
 pub fn read_uint(bytes: &[u8]) -> Option<(u32, usize)>
     ensures { IsFront (λ n. number Kind.Uint n) bytes.now result }
@@ -102,7 +105,7 @@ pub fn read_uint(bytes: &[u8]) -> Option<(u32, usize)>
     }
 }
 
-/// The ulong in front, and how many octets spell it.
+/// Returns the ulong at the start of `bytes` and the number of its octets, or `None` if there is none (part 1, 1.6.6).
 #[inline]
 pub fn read_ulong(bytes: &[u8]) -> Option<(u64, usize)>
     ensures { IsFront (λ n. number Kind.Ulong n) bytes.now result }
@@ -122,7 +125,7 @@ pub fn read_ulong(bytes: &[u8]) -> Option<(u64, usize)>
     }
 }
 
-/// The octets of a value of this sort, whether or not the sort may have them, and how many octets spell it.
+/// Does not check that the octets are UTF-8 or ASCII: the callers do, because their result types differ.
 #[inline(always)]
 fn candidate(run: Run, small: u8, large: u8, bytes: &[u8]) -> Option<(&[u8], usize)>
     requires { HasCodes run small large }
@@ -142,7 +145,9 @@ fn candidate(run: Run, small: u8, large: u8, bytes: &[u8]) -> Option<(&[u8], usi
     }
 }
 
-/// The binary in front, as it lies, and how many octets spell it.
+/// Returns the binary at the start of `bytes`, and the number of octets that encode it (part 1, 1.6.19).
+///
+/// Borrows the content from `bytes`. Returns `None` if `bytes` does not begin with a binary.
 #[inline(always)]
 pub fn read_binary(bytes: &[u8]) -> Option<(&[u8], usize)>
     ensures { IsFront (λ text. octets Run.Binary text.now) bytes.now result }
@@ -150,7 +155,10 @@ pub fn read_binary(bytes: &[u8]) -> Option<(&[u8], usize)>
     candidate(Run::Binary, 0xa0, 0xb0, bytes)
 }
 
-/// Its cost grows with its length, since it looks whether the octets are UTF-8.
+/// Returns the string at the start of `bytes`, and the number of octets that encode it (part 1, 1.6.20).
+///
+/// Borrows the content from `bytes`. Returns `None` if `bytes` does not begin with a string. The cost is linear in the
+/// length of the string, because its octets are checked to be UTF-8.
 pub fn read_string(bytes: &[u8]) -> Option<(&str, usize)>
     ensures { IsFront (λ text. octets Run.Str text.now) bytes.now result }
 {
@@ -161,7 +169,10 @@ pub fn read_string(bytes: &[u8]) -> Option<(&str, usize)>
     }
 }
 
-/// Its cost grows with its length, since it looks whether the octets are below 128.
+/// Returns the symbol at the start of `bytes`, and the number of octets that encode it (part 1, 1.6.21).
+///
+/// Borrows the content from `bytes`. Returns `None` if `bytes` does not begin with a symbol. The cost is linear in the
+/// length of the symbol, because its octets are checked to be ASCII.
 pub fn read_symbol(bytes: &[u8]) -> Option<(&str, usize)>
     ensures { IsFront (λ text. octets Run.Symbol text.now) bytes.now result }
 {

@@ -1,4 +1,4 @@
-//! How one level of a value is spelled: its code, and what stands between the code and the content.
+//! Encodes one level of a value: its format code, and the size and count between the code and the content.
 ghost use Rattle.std.specs.Prelude.{◌≡◌, ◌≤◌, Some, None, length, option_map, MatchOption};
 ghost use Rattle.amqp_types.specs.Canon.{Writes, unread_number, field, size_field, number_form, octets_head, compound_head, array_head};
 ghost use Rattle.amqp_types.specs.Writing.{number_code, octets_code, compound_code};
@@ -9,20 +9,19 @@ use crate::fault::WriteFault;
 use crate::leaves::{fits, is_run};
 use crate::parts::{is_element, is_even};
 
-/// One level of a value, with the length of what follows as its content.
+/// Holds one level of a value, with the sizes in octets of its parts in place of the parts.
 #[derive(Drop)]
 pub(crate) enum Head<'a> {
     Number(Kind, u64),
     Octets(Run, &'a [u8]),
-    /// Count and size of the items.
+    /// The count of the items and their size.
     List(u64, u64),
     Map(u64, u64),
-    /// The code of the elements, their count and the size of their bodies.
+    /// The format code of the elements, their count and the size of their bodies.
     Array(u8, u64, u64),
     Described,
 }
 
-/// The number in a body that gives the value.
 fn unread_number(reading: Conversion, n: u64) -> Option<u64>
     ensures { result ≡ unread_number reading n }
 {
@@ -50,7 +49,6 @@ fn unread_number(reading: Conversion, n: u64) -> Option<u64>
     }
 }
 
-/// How many octets a number takes in this width.
 fn field_len(width: Width, n: u64) -> Option<u64>
     ensures { result ≡ option_map (λ h. length h) (field width n) }
 {
@@ -63,7 +61,6 @@ fn field_len(width: Width, n: u64) -> Option<u64>
     }
 }
 
-/// Writes a number in this width, big endian.
 fn put_field(width: Width, n: u64, out: &mut Vec<u8>) -> Result<(), WriteFault>
     ensures { Writes (field width n) result out.old.items out.new.items }
 {
@@ -77,7 +74,6 @@ fn put_field(width: Width, n: u64, out: &mut Vec<u8>) -> Result<(), WriteFault>
     }
 }
 
-/// The width in which a number of this type is kept, and the number there.
 fn number_in(class: Class, kind: Kind, n: u64) -> Option<(Width, u64)>
     ensures { MatchOption result (number_form class kind n ≡ None) (λ kept. number_form class kind n ≡ field kept.0 kept.1) }
 {
@@ -98,7 +94,6 @@ fn number_in(class: Class, kind: Kind, n: u64) -> Option<(Width, u64)>
     }
 }
 
-/// How many octets a size or a count takes in this width.
 fn size_len(width: Width, n: u64) -> Option<u64>
     ensures { result ≡ option_map (λ h. length h) (size_field width n) }
 {
@@ -109,7 +104,6 @@ fn size_len(width: Width, n: u64) -> Option<u64>
     }
 }
 
-/// Writes a size or a count in this width.
 fn put_size(width: Width, n: u64, out: &mut Vec<u8>) -> Result<(), WriteFault>
     ensures { Writes (size_field width n) result out.old.items out.new.items }
 {
@@ -120,7 +114,6 @@ fn put_size(width: Width, n: u64, out: &mut Vec<u8>) -> Result<(), WriteFault>
     }
 }
 
-/// Writes size and count in front of a content of this size.
 fn put_compound(width: Width, count: u64, size: u64, out: &mut Vec<u8>) -> Result<(), WriteFault>
     ensures { Writes (compound_head width count size) result out.old.items out.new.items }
 {
@@ -133,7 +126,6 @@ fn put_compound(width: Width, count: u64, size: u64, out: &mut Vec<u8>) -> Resul
     }
 }
 
-/// How many octets size and count take there.
 fn compound_len(width: Width, count: u64, size: u64) -> Option<u64>
     ensures { result ≡ option_map (λ h. length h) (compound_head width count size) }
 {
@@ -147,7 +139,6 @@ fn compound_len(width: Width, count: u64, size: u64) -> Option<u64>
     }
 }
 
-/// How many octets stand in front of octets of this type under a code of this class.
 fn octets_head_len(class: Class, run: Run, octets: &[u8]) -> Option<u64>
     ensures { result ≡ option_map (λ h. length h) (octets_head class run octets.now) }
 {
@@ -238,7 +229,6 @@ fn put_array_head(
     }
 }
 
-/// How many octets the head takes under a code of this class.
 fn head_len(head: &Head<'_>, class: Class) -> Option<u64>
     ensures { result ≡ option_map (λ h. length h) (head_form head.now class) }
 {
@@ -303,7 +293,6 @@ fn put_head(head: &Head<'_>, class: Class, out: &mut Vec<u8>) -> Result<(), Writ
     }
 }
 
-/// The shortest code for a number of this type.
 fn number_code(kind: Kind, n: u64) -> u8
     ensures { result ≡ number_code kind n }
 {
@@ -351,7 +340,6 @@ fn number_code(kind: Kind, n: u64) -> u8
     }
 }
 
-/// The shortest code for so many octets of this type.
 fn octets_code(run: Run, len: usize) -> u8
     ensures { result ≡ octets_code run len }
 {
@@ -374,7 +362,6 @@ fn compound_code(small: u8, large: u8, count: u64, size: u64) -> u8
     }
 }
 
-/// The shortest code for the head.
 fn head_code(head: &Head<'_>) -> u8
     ensures { result ≡ head_code head.now }
 {
@@ -392,8 +379,10 @@ fn head_code(head: &Head<'_>) -> u8
     }
 }
 
-/// How many octets the head takes with its code, or without one under that of an array, and a content of this size behind it. A size of
-/// `u64::MAX` stands for all from there on.
+/// Returns the length in octets of the head and of a content of `size` octets after it, capped at `u64::MAX`.
+///
+/// If `how` is a code, the head is an element of an array under that code and has none of its own. Returns `None` if
+/// the head has no encoding.
 pub(crate) fn spelled_len(head: &Head<'_>, how: Option<u8>, size: u64) -> Option<u64>
     ensures { result ≡ capped_with size (spelled_head how head.now) }
 {
@@ -409,7 +398,12 @@ pub(crate) fn spelled_len(head: &Head<'_>, how: Option<u8>, size: u64) -> Option
     }
 }
 
-/// Writes the head with its code, or without one under that of an array.
+/// Appends the head to `out`, with its own format code, or without one if `how` is the code of the array around it.
+///
+/// # Errors
+///
+/// [`WriteFault::NotWritable`] if the head has no encoding; [`WriteFault::NoMemory`] if memory runs out. After either,
+/// `out` may have more octets than before.
 pub(crate) fn put_spelled_head(
     head: &Head<'_>,
     how: Option<u8>,

@@ -1,4 +1,4 @@
-//! What stands in front of the parts of a list or of a described value, so that a caller reads the parts one by one.
+//! Reads what comes before the parts of a list or of a described value, so that a caller can read the parts one by one.
 ghost use Rattle.std.specs.Prelude.{◌≡◌, ◌≤◌, ◌+◌, ℕ, List, length, Some, None, MatchOption};
 ghost use Rattle.amqp_types.specs.Heads.{IsListHead, HasNoList, IsDescriptor};
 ghost use Rattle.amqp_types.specs.Reading.{compound_at};
@@ -11,19 +11,22 @@ use crate::class::Width;
 use crate::fields::{read_symbol, read_ulong};
 use crate::parts::compound;
 
-/// Where the items of a list lie.
+/// Locates the items of a list in the octets that the list was read from. Offsets are in octets.
 #[derive(Clone, Copy, Debug, PartialEq, Eq)]
 pub struct ListHead {
-    /// How many items there are.
+    /// The number of items.
     pub count: usize,
-    /// Where the first begins.
+    /// The offset at which the first item begins.
     pub start: usize,
-    /// Where the last must end, and the list with it.
+    /// The offset at which the last item, and so the list, must end.
     pub end: usize,
 }
 
-/// The head of the list in front of the octets (OASIS AMQP 1.0, part 1, section 1.6.22). It says nothing about the items: the list is one
-/// where `count` items, read in turn from `start` on, end exactly at `end`.
+/// Returns the head of the list at the start of `bytes` (part 1, 1.6.22).
+///
+/// Does not read the items: the list is valid only if `count` items, read in turn from `start`, end exactly at `end`.
+/// Returns `None` if `bytes` does not begin with the format code of a list and a valid size and count, or ends before
+/// the content does.
 #[inline(always)]
 pub fn read_list_head(bytes: &[u8]) -> Option<ListHead>
     ensures { MatchOption result (HasNoList bytes.now) (λ head. IsListHead bytes.now head.count head.start head.end) }
@@ -41,7 +44,7 @@ pub fn read_list_head(bytes: &[u8]) -> Option<ListHead>
     }
 }
 
-/// Of a list of many octets: rare, and so out of line.
+/// Out of line, because lists with a size of four octets are rare.
 #[inline(never)]
 fn wide_head(body: &[u8], whole: usize) -> Option<ListHead>
     requires { whole ≡ length body.now + 1 }
@@ -51,7 +54,6 @@ fn wide_head(body: &[u8], whole: usize) -> Option<ListHead>
     read_compound_head(Width::Four, body, whole)
 }
 
-/// The head whose size and count have this width, where the octets with the format code are so many.
 #[inline]
 fn read_compound_head(width: Width, body: &[u8], whole: usize) -> Option<ListHead>
     requires { whole ≡ length body.now + 1 }
@@ -71,15 +73,19 @@ fn read_compound_head(width: Width, body: &[u8], whole: usize) -> Option<ListHea
     }
 }
 
-/// The descriptor of a composite type: its number, or its name as a symbol.
+/// Identifies a composite type, by its number or by its symbolic name (part 1, 1.5).
 #[derive(Clone, Copy, Debug)]
 pub enum Descriptor<'a> {
+    /// The descriptor as a ulong.
     Number(u64),
+    /// The descriptor as a symbol.
     Name(&'a str),
 }
 
-/// The descriptor in front of the octets where a described value begins with one that is a ulong or a symbol (OASIS AMQP 1.0, part 1,
-/// section 1.5), and how many octets it takes with the octet before it. The described value follows.
+/// Returns the descriptor of the described value at the start of `bytes` (part 1, 1.5).
+///
+/// Also returns the number of octets before the value that it describes: the leading 00 and the descriptor. Returns
+/// `None` if `bytes` does not begin with 00 and a ulong or a symbol. The value that follows is not read.
 #[inline(always)]
 pub fn read_descriptor(bytes: &[u8]) -> Option<(Descriptor<'_>, usize)>
     ensures { IsDescriptor bytes.now result }
@@ -97,7 +103,7 @@ pub fn read_descriptor(bytes: &[u8]) -> Option<(Descriptor<'_>, usize)>
     }
 }
 
-/// A descriptor's name: rare, and so out of line.
+/// Out of line, because descriptors are rarely symbols.
 #[inline(never)]
 fn read_name(bytes: &[u8]) -> Option<(&str, usize)>
     ensures { IsFront (λ text. octets Run.Symbol text.now) bytes.now result }

@@ -1,4 +1,4 @@
-//! A list that contracts see as its elements.
+//! Owned lists that contracts see as their elements.
 ghost use Rattle.std.specs.Prelude.{◌≡◌, ◌<◌, ◌^◌, ◌↔◌, [], ◌∷◌, ◌++◌, OnOk, OnErr, IsTrue, length};
 ghost use Rattle.std.specs.Slice.Iter.{iter_rest};
 ghost use Rattle.std.specs.Iterator.Adapters.{IterYieldsInOrder};
@@ -7,13 +7,13 @@ use std::alloc::{AllocError, Global};
 use std::marker::Model;
 use std::slice::Iter;
 
-/// A `Vec` that contracts see as the list of its elements, so that equal lists are equal in contracts whatever room they keep.
+/// A `Vec` that contracts see as the list of its elements, whatever its capacity.
 #[derive(Clone, Debug)]
 pub struct Items<T> {
     pub items: Vec<T>,
 }
 
-// By hand, so that a crate that owns one does not prove its parts' drops again.
+// Written by hand, so that a crate that owns one does not prove the drops of its parts again.
 impl<T: Drop> Drop for Items<T> {
     fn drop(self) {
         let Items { items } = self;
@@ -33,7 +33,7 @@ impl<T> Model for Items<T> {
 }
 
 impl<T> Items<T> {
-    /// No elements. It allocates nothing.
+    /// Returns an empty list that allocates from `alloc`. Allocates nothing yet.
     pub fn new(alloc: Global) -> Items<T>
         ensures { result ≡ [] }
     {
@@ -42,14 +42,14 @@ impl<T> Items<T> {
         }
     }
 
-    /// The elements in their order.
+    /// Returns the elements, in order, as a slice.
     pub fn as_slice(&self) -> &[T]
         ensures { result.now ≡ self.now }
     {
         self.items.as_slice()
     }
 
-    /// The elements in their order.
+    /// Returns an iterator over the elements, in order.
     pub fn iter(&self) -> Iter<'_, T>
         ensures rest { iter_rest result ≡ self.now }
         ensures bound { length (iter_rest result) < 2 ^ 64 }
@@ -58,28 +58,32 @@ impl<T> Items<T> {
         self.items.iter()
     }
 
-    /// How many elements there are.
+    /// Returns the number of elements.
     pub fn len(&self) -> usize
         ensures { result ≡ length self.now }
     {
         self.items.len()
     }
 
-    /// There is no element.
+    /// Returns `true` if the list has no elements.
     pub fn is_empty(&self) -> bool
         ensures { IsTrue result ↔ (self.now ≡ []) }
     {
         self.items.is_empty()
     }
 
-    /// The allocator that the elements lie in.
+    /// Returns the allocator of the elements.
     pub fn allocator(&self) -> Global {
         *self.items.allocator()
     }
 }
 
 impl<T: Drop> Items<T> {
-    /// Adds an element behind the others. For want of memory they are as before.
+    /// Appends `item` to the list.
+    ///
+    /// # Errors
+    ///
+    /// [`AllocError`] if memory runs out; the elements of the list are then unchanged.
     pub fn push(&mut self, item: T) -> Result<(), AllocError>
         ensures ok { OnOk result (self.new ≡ self.old ++ item ∷ []) }
         ensures err { OnErr result (self.new ≡ self.old) }

@@ -1,4 +1,4 @@
-//! Reading a value that has no parts: a number or octets.
+//! Reads values that have no parts: numbers and runs of octets.
 ghost use Rattle.std.specs.Prelude.{◌≡◌, ◌≤◌, ◌<◌, ◌^◌, nat_lt, ℕ, List, length, Option, Some, None, option_map, if◌then◌else◌, IsTrue};
 ghost use Rattle.std.specs.Str.{IsUtf8, is_utf8};
 ghost use Rattle.amqp_types.specs.Datum.{Datum, number, octets};
@@ -15,7 +15,7 @@ use crate::value::Value;
 use bytes::Bytes;
 use std::alloc::Global;
 
-/// The first octets, and the rest.
+/// Splits off the first `count` octets, or returns `None` if there are fewer.
 pub(crate) fn split(octets: &[u8], count: usize) -> Option<(&[u8], &[u8])>
     ensures { option_map (λ x. (x.0.now, x.1.now)) result ≡ split count octets.now }
 {
@@ -25,7 +25,7 @@ pub(crate) fn split(octets: &[u8], count: usize) -> Option<(&[u8], &[u8])>
     Some(octets.split_at(count))
 }
 
-/// The first octet as a number, and the rest; below, of two, four and eight octets, big endian.
+/// Returns the first octet as a number, and the rest.
 #[inline]
 #[tactic(auto, unfolding(crate::specs::Reading::field_at))]
 pub(crate) fn one(octets: &[u8]) -> Option<(u8, &[u8])>
@@ -62,7 +62,7 @@ pub(crate) fn eight(octets: &[u8]) -> Option<(u64, &[u8])>
     Some((u64::from_be_bytes(*first), rest))
 }
 
-/// The number in front, in this many octets, and the rest.
+/// Returns the big-endian number in the first octets, as many as `width` has, and the rest.
 pub(crate) fn field(octets: &[u8], width: Width) -> Option<(u64, &[u8])>
     ensures { option_map (λ x. (x.0, x.1.now)) result ≡ field_at width octets.now }
 {
@@ -75,7 +75,9 @@ pub(crate) fn field(octets: &[u8], width: Width) -> Option<(u64, &[u8])>
     }
 }
 
-/// The number that a field of this many stands for, where it has no more than 64 bits.
+/// Returns the number of a value whose body holds `n`, under the conversion `reading`.
+///
+/// Returns `None` if the number does not fit in 64 bits.
 pub fn read_number(reading: Conversion, n: u64) -> Option<u64>
     ensures { result ≡ (if nat_lt (read_number reading n) (2 ^ 64) then Some (read_number reading n) else None) }
 {
@@ -95,7 +97,6 @@ pub fn read_number(reading: Conversion, n: u64) -> Option<u64>
     }
 }
 
-/// The value of this type and number.
 fn made(kind: Kind, n: u64) -> Result<Value, ReadFault>
     ensures { Gives view result (if fits kind n then Some (number kind n) else None) }
 {
@@ -191,7 +192,7 @@ pub(crate) fn number(
     }
 }
 
-/// Whether a run may have these octets.
+/// Returns whether a value of type `run` can have these octets. Linear in their number for strings and symbols.
 pub(crate) fn is_run(run: Run, bytes: &[u8]) -> bool
     ensures { result ≡ is_run run bytes.now }
 {
@@ -221,7 +222,6 @@ pub(crate) fn run(
     Ok((value, rest))
 }
 
-/// The value of this type with these octets.
 fn made_run(alloc: Global, run: Run, bytes: &[u8]) -> Result<Value, ReadFault>
     requires { IsTrue (is_run run bytes.now) }
     ensures { Gives view result (Some (octets run bytes.now)) }
@@ -303,7 +303,9 @@ pub(crate) fn sized_run(
     run(alloc, kind, count as usize, rest)
 }
 
-/// Whether the type has the number.
+/// Returns whether `n` represents a value of type `kind`.
+///
+/// Signed types are in two's complement, floating-point and decimal types are bits, a char is a Unicode scalar value.
 pub fn fits(kind: Kind, n: u64) -> bool
     ensures { result ≡ fits kind n }
 {

@@ -1,8 +1,9 @@
-//! The values of AMQP 1.0, read and written (OASIS AMQP 1.0, part 1, sections 1.2 and 1.6).
+//! Reads and writes the values of AMQP 1.0 (OASIS AMQP 1.0, part 1, sections 1.2 and 1.6).
 //!
-//! A value is spelled by a format code and a body. The high half of the code says the shape of the body: 4 none, 5 to 9 one, two, four, eight or
-//! sixteen octets, a and b a size of one or four octets and as many octets, c and d size and count and the items, e and f size and count, one
-//! format code and the bodies under it. Code 00 stands before a descriptor and the value that it describes.
+//! A value is encoded as a format code and a body. The high half of the code determines the shape of the body: 4 is
+//! none; 5 to 9 are one, two, four, eight and sixteen octets; a and b are a size of one or four octets and as many
+//! octets; c and d are size, count and items; e and f are size, count, one format code and the bodies of that code.
+//! Code 00 precedes a descriptor and the value that it describes.
 //!
 //! | type | codes | body |
 //! |---|---|---|
@@ -18,25 +19,28 @@
 //! | uuid | 98 | sixteen octets |
 //! | binary, string, symbol | a0 b0, a1 b1, a3 b3 | octets; UTF-8; octets below 128 |
 //! | list, map | c0 d0, c1 d1; 45 an empty list | items; keys and values in turn |
-//! | array | e0, f0 | one code of the table but 00, and bodies |
+//! | array | e0, f0 | one code of the table but 00, and bodies; at most 255 items if they have no body |
 //!
-//! Values are nested at most 32 deep ([`MAX_DEPTH`]). What is written is canonical: each part under its shortest code.
+//! Values are nested at most 32 deep ([`MAX_DEPTH`]). The reader accepts every encoding. The writer uses the canonical
+//! encoding, in which each part has its shortest code.
 //!
-//! | module | what it has |
+//! | module | contents |
 //! |---|---|
 //! | `value`, `text`, `tag` | values |
-//! | `items`, `boxed` | what values own their parts by, which contracts see as the parts |
-//! | `class`, `forms`, `leaves`, `parts` | the table of codes; how one level of a value is spelled; values without parts, and with parts |
-//! | `read`, `skip`, `write` | whole values: read, passed over, written |
-//! | `fields`, `append`, `heads`, `within` | fields of one type, read and written; what stands in front of parts; values inside others |
-//! | `equality`, `fault` | what `==` is to contracts; why a value is not read or written |
+//! | `items`, `boxed` | owners of a value's parts, which contracts see as the parts themselves |
+//! | `class`, `forms`, `leaves`, `parts` | codes; one level of a value; values without parts; values with parts |
+//! | `read`, `skip`, `write` | whole values: read, skipped, written |
+//! | `fields`, `append`, `heads`, `within` | fields of one type, read and written; heads; values inside others |
+//! | `equality`, `fault` | the meaning of `==` in contracts; errors |
 //!
-//! - [`Value`], [`Text`], [`Items`], [`Boxed`], [`Tag`]: values, which contracts see as plain data
-//! - [`read_value`], [`read_within`], [`skip_value`], [`skip_within`]; [`write_value`], [`value_size`]: whole values, in front of octets and behind them
-//! - [`read_uint`], [`write_uint`] and their like, [`read_list_head`], [`read_descriptor`], [`uint_size`], [`ulong_size`]: fields of one type
-//! - [`one_spelling`], [`canon_spells`], [`read_back`], [`canon_is_shortest`]: the laws of spellings
-//! - [`size_within`], [`map_size_within`], [`append_value`], [`append_map`], [`is_symbol`], [`class_of`], [`read_number`], [`fits`], [`is_element`], [`is_even`]: what writers and readers of larger things stand on
-//! - [`equal_is_same`]: `==` of values, texts and tags is `≡` in contracts
+//! - [`Value`], [`Text`], [`Items`], [`Boxed`], [`Tag`]: values, which contracts see as plain data.
+//! - [`read_value`], [`read_within`], [`skip_value`], [`skip_within`], [`write_value`], [`value_size`]: whole values.
+//! - [`read_uint`], [`write_uint`] and the functions for the other types, [`read_list_head`], [`read_descriptor`],
+//!   [`uint_size`], [`ulong_size`]: fields of one type.
+//! - [`one_spelling`], [`canon_spells`], [`read_back`], [`canon_is_shortest`]: the laws of encodings.
+//! - [`size_within`], [`map_size_within`], [`append_value`], [`append_map`], [`is_symbol`], [`class_of`],
+//!   [`read_number`], [`fits`], [`is_element`], [`is_even`]: parts for readers and writers of larger structures.
+//! - [`equal_is_same`]: `==` of values, texts and tags is `≡` in contracts.
 #![tactic(auto)]
 
 mod append;

@@ -1,4 +1,4 @@
-//! Reading a value that has parts.
+//! Reads values that have parts: lists, maps, arrays and described values.
 ghost use Rattle.std.specs.Prelude.{◌≡◌, ◌≤◌, ◌<◌, ◌+◌, ◌*◌, ◌++◌, [], ◌∷◌, IsTrue, Some, None, IfOk, IfErr, is_ok, if◌then◌else◌, option_map, max, vec_len, vec_capacity};
 ghost use Rattle.amqp_types.specs.Codes.{class_of};
 ghost use Rattle.amqp_types.specs.Datum.{array, map};
@@ -14,7 +14,7 @@ use crate::leaves::{field, number, run, sized_run, split};
 use crate::value::Value;
 use std::alloc::{AllocFailed, Global};
 
-/// The count and the content, and what follows.
+/// Returns the count and the content of a list, map or array, and the octets after it.
 #[tactic(auto, unfolding(crate::specs::Reading::compound_at))]
 pub(crate) fn compound(bytes: &[u8], width: Width) -> Option<(u64, &[u8], &[u8])>
     ensures { option_map (λ x. ((x.0, x.1.now), x.2.now)) result ≡ compound_at width bytes.now }
@@ -25,7 +25,10 @@ pub(crate) fn compound(bytes: &[u8], width: Width) -> Option<(u64, &[u8], &[u8])
     Some((count, content, after))
 }
 
-/// Whether the code may stand in front of this many bodies.
+/// Returns whether an array can have `count` elements under a format code of this class (part 1, 1.6.24).
+///
+/// This crate allows at most 255 elements without a body, so that a few octets cannot claim many values. It allows no
+/// described values as elements, and no elements under an unknown code.
 pub fn is_element(class: Class, count: u64) -> bool
     ensures { result ≡ is_element class count }
 {
@@ -36,7 +39,7 @@ pub fn is_element(class: Class, count: u64) -> bool
     }
 }
 
-/// Whether so many parts are keys and values.
+/// Returns whether `n` is even, as the number of keys and values of a map must be (part 1, 1.6.23).
 #[tactic(auto, using(crate::proofs::Even::even_is))]
 pub fn is_even(n: u64) -> bool
     ensures { result ≡ is_even n }
@@ -44,7 +47,13 @@ pub fn is_even(n: u64) -> bool
     n % 2 == 0
 }
 
-/// A part with its own format code, or a body under that of an array.
+/// Reads the value at the start of `bytes`, nested at most `depth` deep, and returns it with the octets after it.
+///
+/// If `how` is a code, the value is an element of an array under that code and has none of its own.
+///
+/// # Errors
+///
+/// [`ReadFault::NoValue`] if there is no such value; [`ReadFault::NoMemory`] if memory runs out.
 #[cycle(reading)]
 pub fn part(
     alloc: Global,
@@ -63,8 +72,8 @@ pub fn part(
     }
 }
 
-/// Puts the value behind the others. Room is for what was read, and never for what the octets tell is to come: four values, or twice as many as
-/// there are.
+/// Reserves room by what was read (four values, or twice as many as there are), never by the count in the octets:
+/// otherwise a peer could make it allocate with a large count.
 fn add<T>(values: &mut Vec<T>, value: T) -> Result<(), AllocFailed<T>>
     requires { vec_capacity values.old ≤ max 4 (2 * vec_len values.old) }
     ensures items { values.new.items ≡ (if is_ok result then values.old.items ++ value ∷ [] else values.old.items) }
@@ -82,7 +91,6 @@ fn add<T>(values: &mut Vec<T>, value: T) -> Result<(), AllocFailed<T>>
     Ok(())
 }
 
-/// The parts that are all of the octets.
 #[cycle(reading)]
 fn parts(
     alloc: Global,
@@ -118,7 +126,6 @@ fn list(alloc: Global, depth: u8, width: Width, bytes: &[u8]) -> Result<(Value, 
     Ok((Value::List(Items { items }), rest))
 }
 
-/// The same, where each two parts are a pair.
 #[cycle(reading)]
 fn pairs(
     alloc: Global,
@@ -209,7 +216,6 @@ fn described(alloc: Global, depth: u8, bytes: &[u8]) -> Result<(Value, &[u8]), R
     Ok((Value::Described(descriptor, value), rest))
 }
 
-/// A body of the format code.
 #[cycle(reading)]
 fn body(alloc: Global, depth: u8, code: u8, bytes: &[u8]) -> Result<(Value, &[u8]), ReadFault>
     ensures { Gives (λ x. (view x.0, x.1.now)) result (body_at depth code bytes.now) }

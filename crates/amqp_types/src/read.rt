@@ -1,4 +1,4 @@
-//! Reading the value in front of octets.
+//! Reads the value at the start of octets.
 ghost use Rattle.std.specs.Prelude.{◌≡◌, ◌≤◌, ◌++◌, ℕ, List, length, take, IfOk, Err};
 ghost use Rattle.amqp_types.specs.Datum.{Datum};
 ghost use Rattle.amqp_types.specs.Grammar.{SpellsWithin, Spells, BeginsWithValue};
@@ -10,31 +10,43 @@ use crate::skip::skip_within;
 use crate::value::{MAX_DEPTH, Value};
 use std::alloc::Global;
 
-/// Reads the value in front of the octets, nested at most 32 deep, and how many octets spell it. Octets may follow it.
+/// Reads the value at the start of `bytes`, and returns it with the number of octets that encode it.
 ///
-/// It takes one pass, and a second one without memory where memory ran out, so that `NoMemory` is answered only where a value is there.
+/// The value is nested at most [`MAX_DEPTH`] deep. Every encoding is accepted. Octets may follow the value.
+///
+/// # Errors
+///
+/// [`ReadFault::NoValue`] if `bytes` does not start with such a value; [`ReadFault::NoMemory`] if it does, but memory
+/// runs out. If memory runs out, a second pass, which allocates nothing, determines the error.
 ///
 /// # Memory
 ///
-/// A `Value` takes 48 octets, and a list of them the room that a `Vec` grows to. So a list of items of one octet takes 50 to 100 octets of
-/// memory for each octet that spells it. An array whose elements have no body, as null, true or zero, takes most: 255 such elements are spelled
-/// by four octets and take 12 KiB, 3,072 octets for each. Who reads what a peer sends bounds it by how many octets it reads at once.
+/// A `Value` takes 48 bytes, and a list takes the capacity to which a `Vec` grows. So a list of one-octet items takes
+/// 50 to 100 bytes of memory for each octet that encodes it. An array whose elements have no body (such as null or zero)
+/// takes most: four octets encode 255 such elements, which take 12 KiB, or 3,072 bytes for each octet. A program that
+/// reads from a peer bounds this memory by the number of octets that it reads at once.
 pub fn read_value(alloc: Global, bytes: &[u8]) -> Result<(Value, usize), ReadFault>
-    // What is read is spelled so.
+    // The octets encode the value that is returned.
     ensures within { IfOk result (λ found. found.1 ≤ length bytes.now) }
     ensures found { IfOk result (λ found. Spells (view found.0) (take found.1 bytes.now)) }
 
-    // No other value is, and none at another length.
+    // No other value is at the start, and none of another length.
     ensures only { (v : Datum) (x rest : List ℕ) → Spells v x → bytes.now ≡ x ++ rest → IfOk result (λ found. (view found.0 ≡ v) × (found.1 ≡ length x)) }
 
-    // Where each error comes.
+    // When each error is returned.
     ensures none { result ≡ Err ReadFault.NoValue → ¬ (BeginsWithValue 32 bytes.now) }
     ensures memory { result ≡ Err ReadFault.NoMemory → BeginsWithValue 32 bytes.now }
 {
     read_within(alloc, MAX_DEPTH, bytes)
 }
 
-/// The same for a value nested at most `depth` deep, as it may be that lies inside of others.
+/// Reads a value nested at most `depth` deep at the start of `bytes`, and returns it with the number of its octets.
+///
+/// Suits a value inside others. [`read_value`] describes the memory that a value takes.
+///
+/// # Errors
+///
+/// [`ReadFault::NoValue`] if `bytes` starts with no such value; [`ReadFault::NoMemory`] if it does but memory runs out.
 pub fn read_within(alloc: Global, depth: u8, bytes: &[u8]) -> Result<(Value, usize), ReadFault>
     ensures within { IfOk result (λ found. found.1 ≤ length bytes.now) }
     ensures found { IfOk result (λ found. SpellsWithin depth (view found.0) (take found.1 bytes.now)) }
@@ -55,7 +67,7 @@ pub fn read_within(alloc: Global, depth: u8, bytes: &[u8]) -> Result<(Value, usi
     }
 }
 
-/// Octets spell at most one value, and no spelling is a proper prefix of another.
+/// Proves that octets encode at most one value, and that no encoding is a proper prefix of another.
 pub fn one_spelling()
     ensures { (v w : Datum) (a b x y : List ℕ) → Spells v a → Spells w b → a ++ x ≡ b ++ y → (v ≡ w) × (a ≡ b) }
 {}

@@ -1,4 +1,4 @@
-//! Passing over a value without memory.
+//! Skips a value without allocation.
 ghost use Rattle.std.specs.Prelude.{◌≤◌, ◌-◌, length, take, MatchOption};
 ghost use Rattle.amqp_types.specs.Datum.{Datum};
 ghost use Rattle.amqp_types.specs.Grammar.{SpellsWithin, BeginsWithValue};
@@ -10,14 +10,20 @@ use crate::leaves::{field, fits, is_run, read_number, split};
 use crate::parts::{compound, is_element, is_even};
 use crate::value::MAX_DEPTH;
 
-/// How many octets spell the value in front, nested at most 32 deep; None exactly where none is there.
+/// Returns the number of octets that encode the value at the start of `bytes`, nested at most 32 deep.
+///
+/// Returns `None` if and only if `bytes` does not begin with such a value. Allocates nothing, but checks the whole
+/// value, with the octets of its strings and symbols.
 pub fn skip_value(bytes: &[u8]) -> Option<usize>
     ensures { MatchOption result (¬ (BeginsWithValue 32 bytes.now)) (λ used. (used ≤ length bytes.now) × (v : Datum) × SpellsWithin 32 v (take used bytes.now)) }
 {
     skip_within(MAX_DEPTH, bytes)
 }
 
-/// The same for a value nested at most `depth` deep.
+/// Returns the number of octets that encode the value at the start of `bytes`, nested at most `depth` deep.
+///
+/// A value without parts has depth 1. Returns `None` if and only if `bytes` does not begin with such a value. Allocates
+/// nothing, but checks the whole value, with the octets of its strings and symbols.
 pub fn skip_within(depth: u8, bytes: &[u8]) -> Option<usize>
     ensures { MatchOption result (¬ (BeginsWithValue depth bytes.now)) (λ used. (used ≤ length bytes.now) × (v : Datum) × SpellsWithin depth v (take used bytes.now)) }
 {
@@ -73,7 +79,6 @@ pub(crate) fn scan_part(depth: u8, how: Option<u8>, bytes: &[u8]) -> Option<&[u8
     }
 }
 
-/// Whether the parts are all of the octets.
 #[cycle(skipping)]
 fn are_parts(depth: u8, how: Option<u8>, count: u64, bytes: &[u8]) -> bool
     ensures { result ≡ is_some (all_parts_at (part_at depth how) count bytes.now) }

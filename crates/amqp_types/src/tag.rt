@@ -1,10 +1,10 @@
-//! The tag of a delivery.
+//! Delivery tags.
 ghost use Rattle.std.specs.Prelude.{◌≡◌, ◌<◌, ◌≤◌, [], length, MatchOption};
 
 use std::fmt;
 use std::marker::Model;
 
-/// A delivery tag: at most 32 octets (OASIS AMQP 1.0, part 2, section 2.8.7). Contracts see it as its octets.
+/// A delivery tag of at most 32 octets (OASIS AMQP 1.0, part 2, section 2.8.7). Contracts see it as its octets.
 #[derive(Clone, Copy)]
 pub struct Tag {
     octets: [u8; Tag::MAX_LEN],
@@ -28,10 +28,10 @@ impl Model for Tag {
 }
 
 impl Tag {
-    /// How many octets a tag has at most.
+    /// The greatest number of octets in a tag.
     pub const MAX_LEN: usize = 32;
 
-    /// The tag of these octets; None where there are more than 32.
+    /// Returns the tag with these octets, or `None` if there are more than [`Tag::MAX_LEN`].
     pub fn new(octets: &[u8]) -> Option<Tag>
         ensures { MatchOption result (32 < length octets.now) (λ t. (t ≡ octets.now) × (length t ≤ 32)) }
     {
@@ -43,7 +43,7 @@ impl Tag {
         Some(tag)
     }
 
-    /// The tag of no octets.
+    /// Returns the tag without octets.
     #[inline(always)]
     pub fn empty() -> Tag
         ensures { result ≡ [] }
@@ -54,7 +54,7 @@ impl Tag {
         }
     }
 
-    /// Makes it the tag of these octets, in its place.
+    /// Replaces the octets of the tag in place. The contract requires at most [`Tag::MAX_LEN`] octets.
     #[inline(always)]
     pub fn set(&mut self, octets: &[u8])
         requires { length octets.now ≤ 32 }
@@ -65,7 +65,7 @@ impl Tag {
         self.used = octets.len() as u8;
     }
 
-    /// The octets of the tag.
+    /// Returns the octets of the tag, at most [`Tag::MAX_LEN`].
     pub fn octets(&self) -> &[u8]
         ensures value { result.now ≡ self.now }
         ensures short { length result.now ≤ 32 }
@@ -74,7 +74,7 @@ impl Tag {
     }
 }
 
-// The standard's length (part 2, 2.8.7).
+// The limit of the standard (part 2, 2.8.7).
 const _: () = prove!(Tag::MAX_LEN == 32);
 
 impl PartialEq for Tag {
@@ -97,7 +97,7 @@ impl Eq for Tag {
     ghost laws = { nat_list_eq_equiv };
 }
 
-/// The octets in hexadecimal.
+/// Prints the octets in hexadecimal, two digits each.
 impl fmt::Debug for Tag {
     fn fmt<W: fmt::Write>(&self, f: &mut fmt::Formatter<W>) -> fmt::Result {
         for octet in self.octets() {

@@ -1,16 +1,16 @@
-//! A text that contracts see as its octets.
+//! Owned text that contracts see as its octets.
 ghost use Rattle.std.specs.Prelude.{◌≡◌, IfOk, string_bytes};
 
 use std::alloc::{AllocError, Global};
 use std::marker::Model;
 
-/// A `String` that contracts see as its octets, in UTF-8.
+/// An owned string that contracts see as its octets, in UTF-8.
 #[derive(Clone, Debug)]
 pub struct Text {
     pub text: String,
 }
 
-// By hand, so that a crate that owns one does not prove its parts' drops again.
+// Written by hand, so that a crate that owns one does not prove the drops of its parts again.
 impl Drop for Text {
     fn drop(self) {
         let Text { text } = self;
@@ -27,7 +27,11 @@ impl Model for Text {
 }
 
 impl Text {
-    /// A copy of the text.
+    /// Copies `text` into memory of `alloc`.
+    ///
+    /// # Errors
+    ///
+    /// [`AllocError`] if memory runs out.
     pub fn new(alloc: Global, text: &str) -> Result<Text, AllocError>
         ensures { IfOk result (λ t. t ≡ text.now) }
     {
@@ -35,21 +39,21 @@ impl Text {
         Ok(Text { text })
     }
 
-    /// The text.
+    /// Returns the text as a string slice.
     pub fn as_str(&self) -> &str
         ensures { result.now ≡ self.now }
     {
         self.text.as_str()
     }
 
-    /// The octets of the text, in UTF-8.
+    /// Returns the octets of the text, in UTF-8.
     pub fn as_bytes(&self) -> &[u8]
         ensures { result.now ≡ self.now }
     {
         self.text.as_bytes()
     }
 
-    /// The text as a `String`.
+    /// Returns the `String` that holds the text, without a copy.
     pub fn into_string(self) -> String
         ensures { string_bytes result ≡ self }
     {

@@ -1,4 +1,4 @@
-//! A value of AMQP's type system.
+//! The values of the AMQP type system.
 ghost use Rattle.std.specs.Prelude.{◌≡◌, IfOk};
 
 use crate::boxed::Boxed;
@@ -7,18 +7,20 @@ use crate::text::Text;
 use bytes::Bytes;
 use std::alloc::AllocError;
 
-/// How deep values are nested at most that are read and written. A value without parts is nested 1 deep, one with parts by 1 more than the
-/// deepest of these.
+/// The greatest nesting depth of a value that is read or written. A value without parts is nested 1 deep, and a value
+/// with parts 1 deeper than its deepest part.
 pub const MAX_DEPTH: u8 = 32;
 
 const _: () = prove!(MAX_DEPTH == 32);
 
 /// Any AMQP value (OASIS AMQP 1.0, part 1, section 1.6).
 ///
-/// Floating-point and decimal numbers are kept as bits, a timestamp in milliseconds since the Unix epoch, and a map's pairs as they lie, also
-/// where two have one key. An array has the format code of its elements, and is a value that can be written only where each is of that code.
+/// Floating-point and decimal numbers are kept as bits, and a timestamp is in milliseconds since the Unix epoch. A map
+/// keeps its pairs in their order, even if two of them have the same key. An array holds the format code of its
+/// elements; it can be written only if that code can encode each element.
 ///
-/// Two values are equal where they are of one variant and their parts are: numbers of different types are not, nor are maps of another order.
+/// Two values are equal if they are the same variant and their parts are equal. Numbers of different types are never
+/// equal, and neither are maps whose pairs are in a different order.
 #[derive(Debug, PartialEq, Eq)]
 pub enum Value {
     Null,
@@ -48,7 +50,7 @@ pub enum Value {
     Described(Boxed<Value>, Boxed<Value>),
 }
 
-// By hand, so that a crate that owns one does not prove its parts' drops again.
+// Written by hand, so that a crate that owns one does not prove the drops of its parts again.
 impl Drop for Value {
     #[cycle(value)]
     fn drop(self) {

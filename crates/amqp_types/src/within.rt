@@ -1,4 +1,4 @@
-//! Values that lie inside of others, sized and written in place.
+//! Measures and writes values that lie inside others.
 ghost use Rattle.std.specs.Prelude.{◌≡◌, None, nat_le, if◌then◌else◌};
 ghost use Rattle.amqp_types.specs.Datum.{map, depth_of};
 ghost use Rattle.amqp_types.specs.Canon.{Writes, part_form, capped};
@@ -11,8 +11,10 @@ use crate::leaves::is_ascii;
 use crate::value::Value;
 use crate::write::{is_within, pairs_are_within, pairs_len, part_len, put_pairs, put_part};
 
-/// How many octets spell the value, without memory; None where it has no canonical spelling or is nested more than `depth` deep. `u64::MAX`
-/// stands for all sizes from there on. It looks at each part once, and at the octets of symbols alone.
+/// Returns the number of octets in the canonical encoding of `value`.
+///
+/// Returns `None` if the value has no canonical encoding or is nested more than `depth` deep, and `u64::MAX` if the
+/// number is that or more. Allocates nothing. The cost grows with the number of parts and the length of symbols.
 pub fn size_within(depth: u8, value: &Value) -> Option<u64>
     ensures { result ≡ capped (if nat_le (depth_of (view value.now)) depth then part_form None (view value.now) else None) }
 {
@@ -23,7 +25,10 @@ pub fn size_within(depth: u8, value: &Value) -> Option<u64>
     }
 }
 
-/// The same for a map of these pairs.
+/// Returns the number of octets in the canonical encoding of a map of `pairs`.
+///
+/// Returns `None` if the map has no canonical encoding or is nested more than `depth` deep, and `u64::MAX` if the
+/// number is that or more. Allocates nothing. The cost is that of [`size_within`].
 pub fn map_size_within(depth: u8, pairs: &[(Value, Value)]) -> Option<u64>
     ensures { result ≡ capped (if nat_le (depth_of (map (views_of_pairs pairs.now))) depth then part_form None (map (views_of_pairs pairs.now)) else None) }
 {
@@ -34,15 +39,24 @@ pub fn map_size_within(depth: u8, pairs: &[(Value, Value)]) -> Option<u64>
     spelled_len(&Head::Map(2 * pairs.len() as u64, size), None, size)
 }
 
-/// Writes the canonical spelling of the value at the end, without a test of its depth and into no room but that of `out`. On an error some of
-/// the octets may stand there. Room is taken as parts are written, so `NoMemory` may come where a later part has no spelling.
+/// Appends the canonical encoding of `value` to `out`, without a check of its depth and without another buffer.
+///
+/// # Errors
+///
+/// [`WriteFault::NotWritable`] if the value has no canonical encoding at any depth; [`WriteFault::NoMemory`] if memory
+/// runs out, even if a later part has no encoding. After an error, `out` may end with a part of the encoding.
 pub fn append_value(value: &Value, out: &mut Vec<u8>) -> Result<(), WriteFault>
     ensures { Writes (part_form None (view value.now)) result out.old.items out.new.items }
 {
     put_part(value, None, out)
 }
 
-/// The same for a map of these pairs.
+/// Appends the canonical encoding of a map of `pairs` to `out`, without a check of depth and without another buffer.
+///
+/// # Errors
+///
+/// [`WriteFault::NotWritable`] if the map has no canonical encoding at any depth; [`WriteFault::NoMemory`] if memory
+/// runs out. After an error, `out` may end with a part of the encoding.
 pub fn append_map(pairs: &[(Value, Value)], out: &mut Vec<u8>) -> Result<(), WriteFault>
     ensures { Writes (part_form None (map (views_of_pairs pairs.now))) result out.old.items out.new.items }
 {
@@ -51,7 +65,7 @@ pub fn append_map(pairs: &[(Value, Value)], out: &mut Vec<u8>) -> Result<(), Wri
     put_pairs(pairs, out)
 }
 
-/// Whether the text can be a symbol: each octet is below 128.
+/// Returns `true` if `text` can be a symbol, that is, if each octet is below 128 (part 1, 1.6.21).
 pub fn is_symbol(text: &str) -> bool
     ensures { result ≡ is_ascii text.now }
 {

@@ -1,4 +1,4 @@
-//! Writing the canonical spelling of a value.
+//! Writes the canonical encoding of a value.
 ghost use Rattle.std.specs.Prelude.{◌≡◌, ◌<◌, ◌≤◌, ◌++◌, ◌↔◌, ℕ, List, length, All, None, Some, Err, IsTrue, OnOk, OnErr};
 ghost use Rattle.amqp_types.specs.Datum.{Datum, depth_of, greatest_depth_of};
 ghost use Rattle.amqp_types.specs.Grammar.{Spells, BeginsWithValue};
@@ -12,7 +12,7 @@ use crate::fault::WriteFault;
 use crate::forms::{Head, put_spelled_head, spelled_len};
 use crate::value::{MAX_DEPTH, Value};
 
-/// A value as the writer sees it: by its sort and not by its type.
+/// Groups the types of a value by how they are encoded.
 enum Shape<'a> {
     Number(Kind, u64),
     Octets(Run, &'a [u8]),
@@ -54,7 +54,8 @@ fn shape_of(value: &Value) -> Shape<'_>
     }
 }
 
-/// How many octets spell the value, with its own code or under that of an array; `u64::MAX` stands for all from there on.
+/// Returns the length in octets of the value, with its own format code, or without one if `how` is the code of the
+/// array around it. The length is capped at `u64::MAX`.
 #[cycle(measuring)]
 pub(crate) fn part_len(value: &Value, how: Option<u8>) -> Option<u64>
     ensures { result ≡ capped (part_form how (view value.now)) }
@@ -109,7 +110,9 @@ pub(crate) fn pairs_len(pairs: &[(Value, Value)]) -> Option<u64>
     Some(size)
 }
 
-/// Writes the value with its own code, or under that of an array.
+/// Appends the value to `out`, with its own format code, or without one if `how` is the code of the array around it.
+///
+/// On an error, `out` may hold a part of the value.
 #[cycle(putting)]
 pub(crate) fn put_part(value: &Value, how: Option<u8>, out: &mut Vec<u8>) -> Result<(), WriteFault>
     ensures { Writes (part_form how (view value.now)) result out.old.items out.new.items }
@@ -165,7 +168,7 @@ pub(crate) fn put_pairs(pairs: &[(Value, Value)], out: &mut Vec<u8>) -> Result<(
     Ok(())
 }
 
-/// Whether the value is nested at most so deep.
+/// Returns whether the value is nested at most `depth` deep. A value without parts has depth 1.
 #[cycle(depth)]
 pub(crate) fn is_within(value: &Value, depth: u8) -> bool
     ensures { IsTrue result ↔ (depth_of (view value.now) ≤ depth) }
@@ -211,8 +214,10 @@ pub(crate) fn pairs_are_within(pairs: &[(Value, Value)], depth: u8) -> bool
     true
 }
 
-/// How many octets the canonical spelling of the value takes, without memory; None exactly where it has none. `u64::MAX` stands for all from
-/// there on. It looks at each part once, and at the octets of symbols alone.
+/// Returns the length in octets of the canonical encoding of `value`, capped at `u64::MAX`.
+///
+/// Returns `None` if and only if the value has no canonical encoding (see [`WriteFault::NotWritable`]). Allocates
+/// nothing. The cost is linear in the number of parts and in the octets of strings and symbols, which are checked.
 pub fn value_size(value: &Value) -> Option<u64>
     ensures { result ≡ capped (canon (view value.now)) }
 {
@@ -223,11 +228,16 @@ pub fn value_size(value: &Value) -> Option<u64>
     }
 }
 
-/// Writes the canonical spelling of the value at the end: each part under the shortest format code that fits. On an error the octets are as
-/// they were.
+/// Appends the canonical encoding of `value` to `out`, with each part under the shortest format code that fits.
 ///
-/// The spelling is made beside `out` in room that is asked for once, so each octet is copied twice. A part is measured once for each value
-/// that it lies in, at most 32 times; no octets are looked at for that but those of symbols.
+/// The elements of an array have the code that the array holds. The value is first encoded into a buffer of its exact
+/// size, so each octet is copied twice. A part is measured again for each list, map or array around it: at most 32
+/// times in all, with a check of the octets of strings and symbols.
+///
+/// # Errors
+///
+/// [`WriteFault::NotWritable`] if and only if the value has no canonical encoding; [`WriteFault::NoMemory`] if memory
+/// runs out. On an error, `out` is unchanged.
 pub fn write_value(value: &Value, out: &mut Vec<u8>) -> Result<(), WriteFault>
     ensures ok { OnOk result (AppendsCanon (view value.now) out.old.items out.new.items) }
     ensures refused { (result ≡ Err WriteFault.NotWritable) ↔ (canon (view value.now) ≡ None) }
@@ -246,19 +256,22 @@ pub fn write_value(value: &Value, out: &mut Vec<u8>) -> Result<(), WriteFault>
     }
 }
 
-/// The canonical spelling is a spelling.
+/// States that the canonical encoding of a value is an encoding of that value.
 pub fn canon_spells()
     ensures { (v : Datum) (x : List ℕ) → canon v ≡ Some x → Spells v x }
 {}
 
-/// What is written is read back, whatever follows it: that value is in front, and no other value and no other spelling.
+/// States that a written value is read back, whatever octets follow it.
+///
+/// The octets begin with a value; it is the written one, and its encoding is the written one.
 pub fn read_back()
     ensures there { (v : Datum) (x rest : List ℕ) → canon v ≡ Some x → BeginsWithValue 32 (x ++ rest) }
     ensures alone { (v w : Datum) (x rest y after : List ℕ) → canon v ≡ Some x → Spells w y → x ++ rest ≡ y ++ after → (w ≡ v) × (y ≡ x) }
 {}
 
-/// The canonical spelling is the shortest, of each value without an empty array of nulls. That array may be spelled without its constructor,
-/// which the canonical spelling has.
+/// States that the canonical encoding is the shortest, for each value that contains no empty array of nulls.
+///
+/// Such an array may be encoded without its constructor, which the canonical encoding has.
 pub fn canon_is_shortest()
     ensures { (v : Datum) (x y : List ℕ) → HasNoEmptyNulls v → canon v ≡ Some x → Spells v y → All (λ o. o < 256) y → length x ≤ length y }
 {}
