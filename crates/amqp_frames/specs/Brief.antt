@@ -1,4 +1,4 @@
--- Frames that can always be written, in no more octets than each peer takes (part 2, 2.4.1: 512).
+-- Frames that can always be written, in at most the 512 octets that each peer accepts (part 2, 2.4.1).
 use Rattle.std.specs.Prelude.{ℕ, ◌≡◌, ◌^◌, ◌<◌, ◌≤◌, Option, Some, None, Ok, List, [], length}
 use Rattle.amqp_performatives.specs.declared.performative.Performative.{Performative}
 use Rattle.amqp_performatives.specs.declared.bodies.FlowBody.{FlowBody}
@@ -21,6 +21,6 @@ pub record IsBriefFlow (b : FlowBody) : Type 0 where
   pub available : Is32 b.available
   pub properties : b.properties ≡ None
 
--- a frame of the performative alone is written, in at most 512 octets, whatever more the peer takes
+-- a frame of only the performative is written in at most 512 octets, if the peer accepts 512 or more
 abbrev pub IsBrief : Performative → Type 0
 IsBrief p = (channel max : ℕ) → 512 ≤ max → (octets : List ℕ) × (write_answer (record { channel = channel; body = Some p; payload = [] }) max ≡ Ok octets) × (length octets ≤ 512)

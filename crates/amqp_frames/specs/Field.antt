@@ -9,7 +9,7 @@ use Rattle.amqp_frames.specs.declared.fault.FrameRefusal.{FrameRefusal}
 use Rattle.amqp_frames.specs.declared.fault.FrameRefusal.TheVariants as refusal
 use Rattle.amqp_frames.specs.Written.{within_size, framed}
 
--- the canonical spelling of a value nested at most so deep, and of values one after the other
+-- the canonical encoding of a value nested at most `depth` deep, and of values one after the other
 abbrev pub form_within : ℕ → Datum → Option (List ℕ)
 form_within depth d = if nat_le (depth_of d) depth then part_form None d else None
 
@@ -31,7 +31,7 @@ run_octets small large text =
     else if nat_lt (length text) (2 ^ 32) then Some (large ∷ to_be_bytes w32 (length text) ++ text)
     else None
 
--- what stands in front of so many items of so many octets together
+-- the head of a list of `count` items that take `size` octets together
 abbrev pub list_octets : ℕ → ℕ → Option (List ℕ)
 list_octets count size =
     if count == 0 then Some (0x45 ∷ [])
@@ -39,7 +39,7 @@ list_octets count size =
     else if nat_lt (4 + size) (2 ^ 32) && nat_lt count (2 ^ 32) then Some (0xd0 ∷ to_be_bytes w32 (4 + size) ++ to_be_bytes w32 count)
     else None
 
--- how many octets those and the items are
+-- how many octets the head and the items take
 abbrev pub list_size : ℕ → ℕ → Option ℕ
 list_size count size =
     if count == 0 then Some 1
@@ -61,6 +61,6 @@ size_answer size max = if nat_lt size (2 ^ 32) then (if nat_le size max then Ok 
 abbrev pub with_payload : Option (List ℕ) → List ℕ → Option (List ℕ)
 with_payload form payload = form >>= λ x. Some (x ++ payload)
 
--- of a performative with this spelling, and a payload
+-- the answer for a frame of a performative with this encoding, and a payload
 abbrev pub body_answer : ℕ → ℕ → Option (List ℕ) → List ℕ → Result (List ℕ) FrameRefusal
 body_answer channel max form payload = within_size max (with_payload form payload >>= framed channel)

@@ -13,7 +13,7 @@ abbrev pub is_transfer : Performative → Bool
 is_transfer (Transfer b) = true
 is_transfer _ = false
 
--- a payload follows a transfer alone
+-- only a transfer has a payload
 abbrev pub MayFollow : List ℕ → Performative → Type 0
 MayFollow payload p = IsTrue (is_transfer p) ⊎ (payload ≡ [])
 
@@ -55,8 +55,8 @@ pub record IsHeader (max : ℕ) (x : List ℕ) : Type 0 where
   pub small : size_of x ≤ max
   pub kind : type_of x ≡ 0
 
--- The octets show the fault, as the first of its order: the size once four octets are there, the rest of the header once eight are, the body
--- once the frame is whole. Want of memory is nothing that octets show.
+-- The octets show the fault, as the first of its order: the size once four octets are there, the rest of the header
+-- once eight are, the body once the frame is whole. Octets never show an allocation failure.
 abbrev pub Shows : FrameFault → ℕ → List ℕ → Type 0
 Shows ShortSize max x = (4 ≤ length x) × (size_of x < 8)
 Shows BadDoff max x = (8 ≤ length x) × (8 ≤ size_of x) × ((doff_of x < 2) ⊎ (size_of x < 4 * doff_of x))
@@ -65,7 +65,7 @@ Shows BadKind max x = (8 ≤ length x) × (8 ≤ size_of x) × (2 ≤ doff_of x)
 Shows BadBody max x = IsHeader max x × (size_of x ≤ length x) × ((f : Frame) → IsFrame f (take (size_of x) x) → ⊥)
 Shows NoMemory max x = ⊥
 
--- the octets are a beginning of a frame that shows no fault: fewer than its size says, or than say it
+-- the octets begin a frame and show no fault: they are fewer than its size, or too few to say the size
 abbrev pub IsUnfinished : ℕ → List ℕ → Type 0
 IsUnfinished max x = (length x < 4) ⊎ (((4 ≤ length x) × (length x < 8) × (8 ≤ size_of x)) ⊎ (IsHeader max x × (length x < size_of x)))
 

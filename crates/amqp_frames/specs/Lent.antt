@@ -1,4 +1,4 @@
--- The bodies of parts that are lent; a field that is not among the parts is absent.
+-- The bodies made of borrowed parts; a field that is not among the parts is absent.
 use Rattle.std.specs.Prelude.{ℕ, Bool, true, Option, Some, None}
 use Rattle.amqp_performatives.specs.declared.bodies.Role.{Role}
 use Rattle.amqp_performatives.specs.declared.bodies.AttachBody.{AttachBody}

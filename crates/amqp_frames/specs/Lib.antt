@@ -1,24 +1,25 @@
--- What a reader must believe of frames, in the order to read it. Which octets spell a performative is amqp_performatives' (Spelling), and a value amqp_types' (Grammar).
+-- What a reader must believe of frames, in reading order. amqp_performatives (Spelling) defines which octets encode a
+-- performative, and amqp_types (Grammar) which encode a value.
 
 -- which octets are a frame, are unfinished or show a fault, and the frames of a stream
 pub mod Framing
--- the frame that is written, and what is answered where there is none
+-- the octets of a written frame, or the refusal
 pub mod Written
--- what measuring answers: the size of a frame, or why it is not written
+-- the result of measuring: the size of a frame, or why it is not written
 pub mod Measuring
--- the bodies of parts that are lent
+-- the bodies of borrowed parts
 pub mod Lent
 -- frames that can always be written
 pub mod Brief
 -- a framer, and what a piece of octets makes of it
 pub mod Framer
--- the same over all frames of a piece
+-- what a framer makes of all frames of a piece
 pub mod Stream
--- octets that came, lent or shared
+-- octets that arrived, lent or shared
 pub mod Octets
--- the same with the frame left in a slot
+-- feeding with the frame left in a slot
 pub mod Slots
--- a frame behind other octets (`Appended`, at the end; the rest is of the private writer's small buffer)
+-- a frame behind other octets (`Appended`, at the end; the rest describes the private writer's small buffer)
 pub mod Plain
 -- the numbers of faults and refusals
 pub mod Numbers

@@ -1,4 +1,4 @@
--- What measuring a frame answers: why it cannot be written, or its size and what its fields measure.
+-- The result of measuring a frame: why it cannot be written, or its size and the measure of its fields.
 use Rattle.std.specs.Prelude.{ℕ, ◌≡◌, ◌≤◌, Option, Some, None, Result, Ok, Err, List, length}
 use Rattle.amqp_types.specs.Datum.{Data, none, count_of}
 use Rattle.amqp_types.specs.Reading.{◌>>=◌}
@@ -18,7 +18,7 @@ abbrev pub listed : Option Performative → Data
 listed None = none
 listed (Some p) = canonical_fields (fields_of p)
 
--- how many values there are, and how many octets they take, each nested at most so deep
+-- how many values there are, and how many octets they take, each nested at most `depth` deep
 abbrev pub IsListMeasure : ℕ → Measure → Data → Type 0
 IsListMeasure depth m ds = Some (m.count, m.size) ≡ measured (count_of ds) (forms_within depth ds)
 
@@ -38,7 +38,7 @@ abbrev pub Measures : Result Measured FrameRefusal → Frame → ℕ → Type 0
 Measures (Ok m) f max = IsMeasureOf f m × (m.size ≤ max)
 Measures (Err e) f max = write_answer f max ≡ Err e
 
--- of a frame with the described list of these values and a payload
+-- the result for a frame with the described list of these values and a payload
 abbrev pub MeasuresList : Result Measured FrameRefusal → ℕ → ℕ → ℕ → Data → List ℕ → Type 0
 MeasuresList (Ok m) channel max code ds payload = IsMeasured m ds (with_payload (canon (composite_datum code ds)) payload >>= framed channel) × (m.size ≤ max)
 MeasuresList (Err e) channel max code ds payload = body_answer channel max (canon (composite_datum code ds)) payload ≡ Err e

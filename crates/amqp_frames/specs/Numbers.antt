@@ -1,4 +1,4 @@
--- The numbers by which programs tell faults and refusals: the order in which they are tested.
+-- The numbers by which programs report faults and refusals: the order in which they are tested.
 use Rattle.std.specs.Prelude.{ℕ}
 use Rattle.amqp_frames.specs.declared.fault.FrameFault.{FrameFault}
 use Rattle.amqp_frames.specs.declared.fault.FrameFault.TheVariants.{ShortSize, BadDoff, TooBig, BadKind, BadBody, NoMemory}

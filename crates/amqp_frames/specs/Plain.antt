@@ -1,4 +1,4 @@
--- Fields that are written one after the other into a small buffer: each is its octets, or none where it is absent.
+-- Fields that are written one after the other into a small buffer: each is its octets, or none if it is absent.
 use Rattle.std.specs.Prelude.{ℕ, Bool, true, false, if◌then◌else◌, nat_eq, nat_lt, ◌≡◌, ◌≤◌, Option, Some, None, Result, Ok, Err, List, [], ◌∷◌, ◌++◌, length, take}
 use Rattle.std.specs.Int.{to_be_bytes, w32}
 use Rattle.amqp_types.specs.Datum.{depth_of}
@@ -21,13 +21,13 @@ abbrev pub before_others : List (Option (List ℕ)) → List (Option (List ℕ))
 before_others [] = []
 before_others (o ∷ os) = None ∷ o ∷ os
 
--- those up to the last that is present
+-- the fields up to the last that is present
 abbrev pub trim : List (Option (List ℕ)) → List (Option (List ℕ))
 trim [] = []
 trim (Some x ∷ os) = Some x ∷ trim os
 trim (None ∷ os) = before_others (trim os)
 
--- behind what stands in front, all fields so far are written up to one place, and those up to the last present one up to another
+-- behind the front, all fields so far are written up to `at`, and those up to the last present one up to `end`
 pub record Holds (front head : List ℕ) (at end count : ℕ) (os : List (Option (List ℕ))) : Type 0 where
   pub low : 14 ≤ end
   pub order : end ≤ at
@@ -59,7 +59,7 @@ state_of bare.Absent = None
 state_of bare.Accepted = Some state.Accepted
 state_of bare.Released = Some state.Released
 
--- the octets are the field's canonical spelling
+-- the octets are the field's canonical encoding
 abbrev pub IsShown : Part → Option (List ℕ) → Type 0
 IsShown absent None = Unit {0}
 IsShown absent (Some x) = ⊥
@@ -74,18 +74,18 @@ AreShown no_field (o ∷ os) = ⊥
 AreShown (field p fs) [] = ⊥
 AreShown (field p fs) (o ∷ os) = IsShown p o × AreShown fs os
 
--- What was returned is the answer, and its octets stand behind the old ones; else these stand alone.
+-- On success the octets of the answer are appended to the old ones. On an error the old ones are unchanged.
 abbrev pub Appended : Result (Unit {0}) FrameRefusal → Result (List ℕ) FrameRefusal → List ℕ → List ℕ → Type 0
 Appended (Ok u) answer old new = (x : List ℕ) × (answer ≡ Ok x) × (new ≡ old ++ x)
 Appended (Err refusal.NoMemory) (Ok x) old new = new ≡ old
 Appended (Err e) answer old new = (answer ≡ Err e) × (new ≡ old)
 
--- The same where the payload stays apart: it would make the octets whole.
+-- `Appended` if the payload stays apart: the octets and then the payload are the old ones and then the answer.
 abbrev pub AppendedHead : List ℕ → Result (Unit {0}) FrameRefusal → Result (List ℕ) FrameRefusal → List ℕ → List ℕ → Type 0
 AppendedHead payload (Ok u) answer old new = (x : List ℕ) × (answer ≡ Ok x) × (new ++ payload ≡ old ++ x)
 AppendedHead payload (Err e) answer old new = Appended (Err e) answer old new
 
--- The one where the payload stays apart, and the other where it does not.
+-- `AppendedHead` if the payload stays apart, and otherwise `Appended`.
 abbrev pub AppendedSo : Bool → List ℕ → Result (Unit {0}) FrameRefusal → Result (List ℕ) FrameRefusal → List ℕ → List ℕ → Type 0
 AppendedSo true payload = AppendedHead payload
 AppendedSo false payload = Appended

@@ -17,16 +17,16 @@ abbrev pub used_in : Filled → ℕ
 used_in (Part used) = used
 used_in (Whole used) = used
 
--- what a feed into a slot tells, with the frame where one was whole
+-- what a feed into a slot returns, with the frame if one is complete
 abbrev pub told_with : Result Filled FrameFault → Frame → Result (ℕ × Option Frame) FrameFault
 told_with (Ok (Part used)) slot = Ok (used, None)
 told_with (Ok (Whole used)) slot = Ok (used, Some slot)
 told_with (Err fault) slot = Err fault
 
--- What a feed answers and leaves: the slot has the frame where one was whole.
+-- What a feed returns and leaves: the slot holds the frame if one is complete.
 abbrev pub FeedsSlot : FramerState → List ℕ → Result Filled FrameFault → Frame → FramerState → Type 0
 FeedsSlot old piece result slot new = Feeds old piece (told_with result slot) new
 
--- the memory that the framer then has
+-- the memory that the framer has after a feed into a slot
 abbrev pub RoomySlot : FramerView → List ℕ → Result Filled FrameFault → Frame → FramerView → Type 0
 RoomySlot old piece result slot new = Roomy old piece (told_with result slot) new

@@ -6,8 +6,8 @@ use Rattle.amqp_frames.specs.declared.stream.Stopped.{Stopped}
 use Rattle.amqp_frames.specs.Framing.{IsUnfinished, AreFrames}
 use Rattle.amqp_frames.specs.Framer.{FramerState, Faulty}
 
--- So many octets of the piece were taken, and these frames put behind those of before: what was kept and the piece are those frames, then what is kept now, then
--- the rest of the piece.
+-- `used` octets of the piece were taken, and the frames `given` appended to those before: what was kept and the piece
+-- are those frames, then what is kept now, then the rest of the piece.
 pub record Takes (old : FramerState) (piece : List ℕ) (before : List Frame) (used : ℕ) (new : FramerState) (after : List Frame) : Type 0 where
   pub given : List Frame
   pub put : after ≡ before ++ given
@@ -24,7 +24,8 @@ FeedsInto old piece before (Err fault) new after = Faulty fault old.max_size old
 abbrev pub EndsAFrame : FramerState → ℕ → FramerState → Type 0
 EndsAFrame old used new = ((used ≡ 0) × (new.kept ≡ old.kept)) ⊎ (new.kept ≡ [])
 
--- all of them: the whole piece is taken and what is kept is no whole frame, or all is taken up to the frame's place where what is kept and left shows a fault
+-- feeding all: the whole piece is taken and what is kept is no whole frame, or the piece is taken up to a frame, and
+-- what is kept and what is left show a fault
 abbrev pub FeedsAll : FramerState → List ℕ → List Frame → Result (Unit {0}) Stopped → FramerState → List Frame → Type 0
 FeedsAll old piece before (Ok done) new after = Takes old piece before (length piece) new after × IsUnfinished old.max_size new.kept
 FeedsAll old piece before (Err stopped) new after =

@@ -1,4 +1,4 @@
--- The frame that is written, and what is answered where there is none (part 2, 2.3).
+-- The octets of a written frame, and the refusal if there are none (part 2, 2.3).
 use Rattle.std.specs.Prelude.{ℕ, ◌≡◌, ◌+◌, ◌^◌, ◌<◌, ◌&&◌, nat_lt, nat_le, Bool, true, Option, Some, None, Result, Ok, Err, List, [], ◌∷◌, ◌++◌, length, if◌then◌else◌}
 use Rattle.std.specs.Int.{w16, w32, to_be_bytes}
 use Rattle.amqp_types.specs.Canon.{canon}
@@ -12,12 +12,13 @@ use Rattle.amqp_performatives.specs.Bodies.{part_of}
 use Rattle.amqp_performatives.specs.Fair.{is_fair}
 use Rattle.amqp_frames.specs.Framing.{is_transfer, IsFrame}
 
--- a payload follows a transfer alone
+-- only a transfer has a payload
 abbrev pub may_follow : List ℕ → Performative → Bool
 may_follow [] p = true
 may_follow (o ∷ os) p = is_transfer p
 
--- what comes after a frame's header: nothing, or the canonical spelling of a performative that can be read again, and the payload
+-- what follows a frame header: nothing, or the canonical encoding of a performative that can be read again, and the
+-- payload
 abbrev pub contents_octets : Option Performative → List ℕ → Option (List ℕ)
 contents_octets None [] = Some []
 contents_octets None (o ∷ os) = None
@@ -42,7 +43,7 @@ within_size max (Some x) = if nat_le (length x) max then Ok x else Err refusal.F
 abbrev pub write_answer : Frame → ℕ → Result (List ℕ) FrameRefusal
 write_answer f max = within_size max (frame_octets f)
 
--- What was returned is the answer. Only in place of octets may it be that memory was refused.
+-- The result is the answer, except that memory may run out if the answer is octets.
 abbrev pub Answers : Result (List ℕ) FrameRefusal → Result (List ℕ) FrameRefusal → Type 0
 Answers (Ok octets) answer = answer ≡ Ok octets
 Answers (Err refusal.NoMemory) (Ok x) = Unit {0}

@@ -1,4 +1,7 @@
-//! Frames written behind octets: transfers, flows and dispositions of plain fields by way of a small buffer, any other as `write_frame` does.
+//! Appends frames to octets.
+//!
+//! Transfers, flows and dispositions of plain fields go through a small buffer on the stack, others through
+//! `write_frame`.
 ghost use Rattle.std.specs.Prelude.{◌≡◌, ◌≤◌, ◌<◌, ◌+◌, ◌-◌, ◌++◌, [], ◌∷◌, ℕ, List, Option, Some, None, IfSome, length, take, option_map, if◌then◌else◌, nat_lt, nat_eq, IfNone, OnOk, false, vec_len, vec_capacity};
 ghost use Rattle.std.specs.Int.{to_be_bytes, w32};
 ghost use Rattle.amqp_frames.specs.Plain.{Holds, full, trim, uint_octets, boolean_octets, ubyte_octets, binary_octets, bare_octets, state_of, IsShown, AreShown, Appended, AppendedHead, AppendedSo};
@@ -20,7 +23,6 @@ use amqp_performatives::{
 };
 use amqp_types::Tag;
 
-/// What a frame has besides its performative, and how long it may be.
 #[derive(Clone, Copy)]
 struct Envelope<'a> {
     channel: u16,
@@ -28,7 +30,7 @@ struct Envelope<'a> {
     max: u32,
 }
 
-/// A state without fields, or none.
+/// A delivery state without fields, or none.
 #[derive(Clone, Copy)]
 pub(crate) enum PlainState {
     Absent,
@@ -48,10 +50,10 @@ fn bare_state(state: &Option<DeliveryState>) -> Option<PlainState>
     }
 }
 
-/// Room for the octets of a frame without its payload.
+/// The size of the buffer for a frame without its payload, in bytes.
 const ROOM: usize = 96;
 
-/// Writes the octets at their place, and answers where they end.
+/// Returns the place where the octets end.
 #[inline(always)]
 fn put(head: &mut [u8; ROOM], at: usize, octets: &[u8]) -> usize
     requires { at + length octets.now ≤ 96 }
@@ -63,7 +65,7 @@ fn put(head: &mut [u8; ROOM], at: usize, octets: &[u8]) -> usize
     end
 }
 
-/// Where fields are written: where the next one goes, where the last one that is present ended, and how many there were then.
+/// Where the next field goes, where the last present field ended, and how many fields there were then.
 #[derive(Clone, Copy)]
 struct Spot {
     at: usize,
@@ -71,7 +73,6 @@ struct Spot {
     count: usize,
 }
 
-/// An absent field.
 #[inline(always)]
 fn absent(head: &mut [u8; ROOM], spot: Spot) -> Spot
     requires { spot.at + 1 ≤ 96 }
@@ -86,7 +87,6 @@ fn absent(head: &mut [u8; ROOM], spot: Spot) -> Spot
     }
 }
 
-/// The octets of a uint, written at their place.
 #[inline(always)]
 fn put_uint(head: &mut [u8; ROOM], at: usize, n: u32) -> usize
     requires { at + 5 ≤ 96 }
@@ -103,7 +103,7 @@ fn put_uint(head: &mut [u8; ROOM], at: usize, n: u32) -> usize
     put(head, at, &[0x70, a, b, c, d])
 }
 
-/// A uint, where it is there, as the field of this number.
+/// Writes field `number`, as null if it is absent.
 #[inline(always)]
 fn uint(head: &mut [u8; ROOM], spot: Spot, number: usize, n: Option<u32>) -> Spot
     requires { spot.at + 5 ≤ 96 }
@@ -131,7 +131,6 @@ fn boolean_code(b: bool) -> u8
     if b { 0x41 } else { 0x42 }
 }
 
-/// A boolean, where it is there, as the field of this number.
 #[inline(always)]
 fn boolean(head: &mut [u8; ROOM], spot: Spot, number: usize, b: Option<bool>) -> Spot
     requires { spot.at + 1 ≤ 96 }
@@ -152,7 +151,6 @@ fn boolean(head: &mut [u8; ROOM], spot: Spot, number: usize, b: Option<bool>) ->
     }
 }
 
-/// A ubyte, where it is there, as the field of this number.
 #[inline(always)]
 fn ubyte(head: &mut [u8; ROOM], spot: Spot, number: usize, n: Option<u8>) -> Spot
     requires { spot.at + 2 ≤ 96 }
@@ -173,7 +171,6 @@ fn ubyte(head: &mut [u8; ROOM], spot: Spot, number: usize, n: Option<u8>) -> Spo
     }
 }
 
-/// The octets of a short binary, written at their place.
 #[inline(always)]
 fn put_binary(head: &mut [u8; ROOM], at: usize, octets: &[u8]) -> usize
     requires short { length octets.now ≤ 32 }
@@ -185,7 +182,6 @@ fn put_binary(head: &mut [u8; ROOM], at: usize, octets: &[u8]) -> usize
     put(head, start, octets)
 }
 
-/// A tag, where it is there, as the field of this number.
 #[inline(always)]
 fn tag(head: &mut [u8; ROOM], spot: Spot, number: usize, tag: &Option<Tag>) -> Spot
     requires { spot.at + 34 ≤ 96 }
@@ -206,7 +202,6 @@ fn tag(head: &mut [u8; ROOM], spot: Spot, number: usize, tag: &Option<Tag>) -> S
     }
 }
 
-/// A state without fields, where it is there, as the field of this number.
 #[inline(always)]
 fn state(head: &mut [u8; ROOM], spot: Spot, number: usize, state: PlainState) -> Spot
     requires { spot.at + 4 ≤ 96 }
@@ -242,14 +237,14 @@ fn state(head: &mut [u8; ROOM], spot: Spot, number: usize, state: PlainState) ->
     }
 }
 
-/// Before the first field.
+/// The first field's place, behind the frame header, the descriptor and the head of the list.
 const START: Spot = Spot {
     at: 14,
     end: 14,
     count: 0,
 };
 
-/// A transfer's fields, from the fifteenth place on: where they end, and how many are shown.
+/// Returns where the fields end, and how many are written: those up to the last that is present.
 #[inline(never)]
 fn put_transfer(body: &TransferBody, reached: PlainState, head: &mut [u8; ROOM]) -> (usize, usize)
     requires bare { body.now.state ≡ state_of reached }
@@ -271,7 +266,6 @@ fn put_transfer(body: &TransferBody, reached: PlainState, head: &mut [u8; ROOM])
     (last.end, last.count)
 }
 
-/// A flow's fields.
 #[inline(never)]
 fn put_flow(body: &FlowBody, head: &mut [u8; ROOM]) -> (usize, usize)
     requires bare { body.now.properties ≡ None }
@@ -293,7 +287,6 @@ fn put_flow(body: &FlowBody, head: &mut [u8; ROOM]) -> (usize, usize)
     (last.end, last.count)
 }
 
-/// A disposition's fields.
 #[inline(never)]
 fn put_disposition(
     body: &DispositionBody,
@@ -314,7 +307,6 @@ fn put_disposition(
     (end.end, end.count)
 }
 
-/// A role as it is spelled.
 #[inline(always)]
 fn is_receiver(role: Role) -> bool
     ensures { role_part role ≡ boolean result }
@@ -325,7 +317,7 @@ fn is_receiver(role: Role) -> bool
     }
 }
 
-/// A frame's header, the descriptor and the head of a short list.
+/// Returns the frame header, the descriptor and the head of a short list.
 #[inline(always)]
 fn plain_head(size: u32, channel: u16, code: u8, end: usize, count: usize) -> [u8; 14]
     requires end { (14 ≤ end) × (end ≤ 96) }
@@ -352,7 +344,7 @@ fn plain_head(size: u32, channel: u16, code: u8, end: usize, count: usize) -> [u
     ]
 }
 
-/// For how many octets room is made: for those before the payload alone where it stays apart, else for all.
+/// If the payload stays apart, only the octets before it need room.
 #[inline(always)]
 fn room_of(apart: bool, end: usize, size: usize) -> usize
     ensures { result ≡ (if apart then end else size) }
@@ -360,8 +352,8 @@ fn room_of(apart: bool, end: usize, size: usize) -> usize
     if apart { end } else { size }
 }
 
-/// Appends the frame whose fields stand in the buffer from its fifteenth place on, so many as are shown: all of it, or what stands before a payload that stays
-/// apart.
+/// Appends the frame whose fields lie in the buffer from `START` on. `shown` says where they end and how many there
+/// are; if `apart`, the payload is not appended.
 #[inline(always)]
 fn append_plain(
     envelope: &Envelope<'_>,
@@ -393,7 +385,6 @@ fn append_plain(
     Ok(())
 }
 
-/// Appends the frame with the transfer, with its payload or but that.
 #[inline(always)]
 fn append_transfer(
     envelope: &Envelope<'_>,
@@ -446,7 +437,6 @@ fn append_disposition(
     )
 }
 
-/// Appends the frame's octets as `write_frame` writes them.
 #[inline(never)]
 fn append_written(frame: &Frame, max: u32, out: &mut Vec<u8>) -> Result<(), FrameRefusal>
     ensures { Appended result (write_answer frame.now max) out.old.items out.new.items }
@@ -460,11 +450,15 @@ fn append_written(frame: &Frame, max: u32, out: &mut Vec<u8>) -> Result<(), Fram
     }
 }
 
-/// Writes the frame behind the octets that are there: the octets that `write_frame` gives. On an error these stand alone, as they were.
+/// Appends the frame to `out`, in the same octets that [`write_frame`] returns.
+///
+/// A transfer or disposition whose state has no fields, and a flow without properties, are written without an
+/// allocation besides that of `out`. Other frames are written by `write_frame` and then copied.
 ///
 /// # Errors
 ///
-/// Those of `write_frame`.
+/// [`FrameRefusal::NotWritable`], [`FrameRefusal::FrameTooBig`] if the frame is longer than `max` octets, and
+/// [`FrameRefusal::NoMemory`], as for `write_frame`. After an error `out` holds what it held before.
 pub fn append_frame(frame: &Frame, max: u32, out: &mut Vec<u8>) -> Result<(), FrameRefusal>
     ensures { Appended result (write_answer frame.now max) out.old.items out.new.items }
 {
@@ -502,12 +496,15 @@ pub fn append_frame(frame: &Frame, max: u32, out: &mut Vec<u8>) -> Result<(), Fr
     append_written(frame, max, out)
 }
 
-/// Writes what stands before the payload of a transfer behind the octets that are there: what `append_frame` writes but the payload, which so is not copied.
-/// It answers none, and writes nothing, where it is no transfer, or one with a state that has fields: `append_frame` writes these.
+/// Appends to `out` the octets of a transfer frame that come before its payload, so that the payload is not copied.
+///
+/// The size in the frame header includes the payload, which the caller sends next. Returns `None`, and appends nothing,
+/// if the frame is not a transfer, its state has fields, or a field holds a value that no reader would find there:
+/// [`append_frame`] writes or refuses these.
 ///
 /// # Errors
 ///
-/// Those of `append_frame`.
+/// Those of [`append_frame`]; the size is that of the frame with its payload. `out` then holds what it held before.
 pub fn append_head(frame: &Frame, max: u32, out: &mut Vec<u8>) -> Option<Result<(), FrameRefusal>>
     ensures some { IfSome result (λ r. AppendedHead frame.now.payload r (write_answer frame.now max) out.old.items out.new.items) }
     ensures none { IfNone result (out.new.items ≡ out.old.items) }

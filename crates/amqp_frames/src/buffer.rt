@@ -1,16 +1,16 @@
-//! Octets in room of a known size.
+//! A buffer of octets that grows to exactly the size that is requested.
 ghost use Rattle.std.specs.Prelude.{◌≡◌, ◌<◌, ◌≤◌, ◌+◌, ◌++◌, [], length, take, max, OnOk, OnErr};
 ghost use Rattle.std.specs.Vec.{vec_len, vec_capacity};
 
 use std::alloc::{AllocError, Global};
 use std::marker::Model;
 
-/// Octets in memory that grows when it is asked for alone, to just as much as is asked. A `Vec` that octets
-/// are put into may take more, for all that its clauses say: so this one is filled to its capacity as soon as
-/// it has grown, and octets are copied over what stands there.
+/// Octets in memory that grows only on `reserve`, and to exactly the requested size. A `Vec` may take more when octets
+/// are pushed, as far as its contract says. This one is therefore filled to its capacity as soon as it has grown, and
+/// octets are copied over its contents.
 #[derive(Debug, Drop)]
 pub(crate) struct Buffer {
-    /// The octets, then zeros or what is left of others, up to the capacity.
+    /// The octets, followed up to the capacity by zeros or the remains of earlier octets.
     place: Vec<u8>,
     count: usize,
 }
@@ -28,7 +28,7 @@ impl Model for Buffer {
 }
 
 impl Buffer {
-    /// No octets, in no memory.
+    /// Creates an empty buffer without allocating.
     pub(crate) fn new(alloc: Global) -> Buffer
         ensures { result ≡ record { octets = []; room = 0 } }
     {
@@ -48,14 +48,14 @@ impl Buffer {
         &self.place[..self.count]
     }
 
-    /// For how many octets there is memory.
+    /// Returns the capacity in bytes.
     pub(crate) fn room(&self) -> usize
         ensures { result ≡ self.now.room }
     {
         self.place.capacity()
     }
 
-    /// Makes room for so many octets in all.
+    /// Grows the capacity to `room` bytes if it is smaller.
     pub(crate) fn reserve(&mut self, room: usize) -> Result<(), AllocError>
         ensures octets { self.new.octets ≡ self.old.octets }
         ensures more { self.old.room ≤ self.new.room }
@@ -73,7 +73,7 @@ impl Buffer {
         }
     }
 
-    /// Puts octets for which there is room behind the others.
+    /// Appends octets, for which there must be room.
     pub(crate) fn append(&mut self, octets: &[u8])
         requires { length self.old.octets + length octets.now ≤ self.old.room }
         ensures octets { self.new.octets ≡ self.old.octets ++ octets.now }
@@ -84,7 +84,7 @@ impl Buffer {
         self.count = end;
     }
 
-    /// Keeps at most so many of the octets.
+    /// Keeps the first `count` octets, or all if there are fewer.
     pub(crate) fn truncate(&mut self, count: usize)
         ensures octets { self.new.octets ≡ take count self.old.octets }
         ensures room { self.new.room ≡ self.old.room }
@@ -93,7 +93,7 @@ impl Buffer {
     }
 }
 
-/// Zeros up to the capacity.
+/// Appends zeros up to the capacity.
 fn fill(place: &mut Vec<u8>)
     requires { vec_len place.old ≤ vec_capacity place.old }
     ensures front { take (vec_len place.old) place.new.items ≡ place.old.items }

@@ -1,4 +1,4 @@
-//! What follows a frame's header: nothing, or a performative and a transfer's payload (part 2, 2.3.2).
+//! Reads what follows a frame header: nothing, or a performative and a transfer's payload (part 2, 2.3.2).
 ghost use Rattle.std.specs.Prelude.{◌≡◌, ◌≤◌, ◌<◌, ◌-◌, ◌↔◌, ◌++◌, ℕ, List, Ok, IsTrue, IfOk, MatchResult, length, take, drop};
 ghost use Rattle.amqp_performatives.specs.declared.performative.Performative.{Performative};
 ghost use Rattle.amqp_frames.specs.Framing.{is_transfer, MayFollow, AreContents};
@@ -18,8 +18,10 @@ use amqp_types::{Descriptor, read_descriptor, skip_value};
 use bytes::Bytes;
 use std::alloc::Global;
 
-/// Leaves the frame of contents in the slot that lie in the octets from one place up to another; the piece is their slice. An octet after a performative that
-/// is no transfer is a fault, also where memory is refused; after a fault the slot may hold anything.
+/// Reads the contents between two places in the octets into the slot; `piece` is the slice of the octets.
+///
+/// An octet after a performative that is not a transfer is a fault, even if memory runs out. After an error the slot
+/// may hold anything.
 #[inline(always)]
 pub(crate) fn read_contents(
     alloc: Global,
@@ -53,7 +55,7 @@ pub(crate) fn read_contents(
     }
 }
 
-/// The payload after the performative in the slot, which so many octets spell.
+/// Reads the payload behind the performative in the slot, which is `size` octets long.
 #[inline(always)]
 fn read_payload(
     alloc: Global,
@@ -82,8 +84,8 @@ fn read_payload(
     }
 }
 
-/// Leaves the frame in the slot whose contents lie in two places, a transfer's performative in the head and the payload in the octets, up to this place, and
-/// tells whether it did. Where the head is anything else, or memory is refused, the slot may hold anything.
+/// Reads a frame whose contents lie in two places: a transfer's performative in `head`, and the payload in the octets
+/// up to `end`. Returns whether it did. If `head` is anything else, or memory runs out, the slot may hold anything.
 pub(crate) fn read_behind(
     alloc: Global,
     channel: u16,
@@ -115,7 +117,8 @@ fn holds_transfer(body: &Option<Performative>) -> bool
     matches!(body, Some(Performative::Transfer(_)))
 }
 
-/// Whether the octets after the performative in front may follow it. It takes no memory, and is asked only where memory was refused.
+/// Returns whether the octets behind the first performative may follow it. It does not allocate, and is called only
+/// after an allocation failed.
 fn may_follow(octets: &[u8]) -> bool
     requires { BeginsWithPerformative octets.now }
     ensures { (p : Performative) (x rest : List ℕ) → IsPerformative p x → octets.now ≡ x ++ rest → IsTrue result ↔ MayFollow rest p }
@@ -123,7 +126,6 @@ fn may_follow(octets: &[u8]) -> bool
     names_transfer(octets) || skip_value(octets) == Some(octets.len())
 }
 
-/// Whether the performative in front is a transfer, by its descriptor.
 fn names_transfer(octets: &[u8]) -> bool
     ensures { (p : Performative) (x rest : List ℕ) → IsPerformative p x → octets.now ≡ x ++ rest → result ≡ is_transfer p }
 {
@@ -134,7 +136,7 @@ fn names_transfer(octets: &[u8]) -> bool
     }
 }
 
-/// Why contents are refused that lie in two places, one after the other, where there is no memory to join them. They are judged where they lie.
+/// Returns the fault of contents that lie in two places and that there is no memory to join. It reads them in place.
 #[inline(never)]
 pub(crate) fn front_fault(octets: &[u8], others: &[u8]) -> FrameFault
     requires { 0 < length octets.now }

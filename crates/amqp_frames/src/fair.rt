@@ -1,4 +1,4 @@
-//! Whether the fields hold what a reader can find there (part 2, 2.8.2 and 2.8.3; part 3, 3.4).
+//! Decides whether fields hold values that a reader can find there (part 2, 2.8.2 and 2.8.3; part 3, 3.4).
 ghost use Rattle.std.specs.Prelude.{◌≡◌};
 ghost use Rattle.amqp_types.specs.View.{view};
 ghost use Rattle.amqp_performatives.specs.Composite.{type_of};
@@ -18,7 +18,7 @@ fn is_present(value: &Value) -> bool
     }
 }
 
-/// The descriptor of the type, by its number or its name.
+/// Returns whether this is the type's descriptor, as a number or as a name.
 fn is_descriptor(composite: Composite, descriptor: &Value) -> bool
     ensures { result ≡ is_descriptor (type_of composite) (view descriptor.now) }
 {
@@ -29,7 +29,7 @@ fn is_descriptor(composite: Composite, descriptor: &Value) -> bool
     }
 }
 
-/// The descriptor of one of the five delivery states.
+/// Returns whether this is the descriptor of one of the five delivery states.
 fn names_state(descriptor: &Value) -> bool
     ensures { result ≡ names_state (view descriptor.now) }
 {
@@ -94,7 +94,10 @@ pub(crate) fn is_fair_error(failed: &Option<Boxed<AmqpError>>) -> bool
     }
 }
 
-/// Whether a frame could carry the state: its values are there, and one that is none of the five has another descriptor (part 3, 3.4).
+/// Returns whether a frame can carry the delivery state (part 3, 3.4).
+///
+/// It cannot if a value in the state is present but null, or if a state other than the five of the standard has the
+/// descriptor of one of them. A frame can always carry no state.
 pub fn is_fair_state(reached: &Option<DeliveryState>) -> bool
     ensures { result ≡ where_present is_fair_state reached.now }
 {
@@ -150,8 +153,8 @@ fn is_fair_attach(body: &AttachBody) -> bool
         && any_present(&body.properties)
 }
 
-/// Whether each field holds what a reader can find there: no present field is null, a tag has at most 32 octets, a settle mode is one of
-/// those there are, and no other state has the descriptor of a delivery state.
+/// Returns whether each field holds a value that a reader can find there: no present field is null, a tag has at most
+/// 32 octets, a settle mode is one of the standard's, and no other state has the descriptor of a delivery state.
 pub(crate) fn is_fair(performative: &Performative) -> bool
     ensures { result ≡ is_fair performative.now }
 {

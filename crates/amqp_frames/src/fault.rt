@@ -1,4 +1,4 @@
-//! What is wrong with octets, and why a frame is not written.
+//! The errors of reading a frame and of writing one.
 ghost use Rattle.std.specs.Prelude.{◌≡◌};
 ghost use Rattle.amqp_frames.specs.Numbers.{fault_number, refusal_number};
 ghost use Rattle.amqp_frames.specs.declared.fault.FrameFault.TheVariants as fault;
@@ -7,24 +7,27 @@ ghost use Rattle.amqp_frames.specs.declared.fault.FrameRefusal.TheVariants as re
 use std::alloc::AllocError;
 use thiserror::Error;
 
-/// What is wrong with the octets in the place of a frame (part 2, 2.3). The one with the lowest number is told.
+/// The reason why octets cannot be read as a frame (part 2, 2.3).
+///
+/// If several apply, the one with the lowest [`number`](FrameFault::number) is reported.
 #[derive(Clone, Copy, Debug, PartialEq, Eq, Error)]
 pub enum FrameFault {
-    /// The size is below 8.
+    /// The size is below 8, the length of the frame header.
     #[error("a frame's size is below 8")]
     ShortSize,
-    /// The data offset is below 2, or past the frame's end.
+    /// The data offset is below 2, or past the end of the frame.
     #[error("a frame's data offset is out of its range")]
     BadDoff,
-    /// The size is above the most that is taken.
+    /// The size is above the framer's `max_size`.
     #[error("a frame is longer than is taken")]
     TooBig,
-    /// The type is not 0, that of AMQP frames.
+    /// The type is not 0, that of AMQP frames (a SASL frame has type 1).
     #[error("a frame is of another type")]
     BadKind,
-    /// The body does not begin with a performative, or octets follow one that is no transfer.
+    /// The body does not begin with a performative, or octets follow a performative that is not a transfer.
     #[error("a frame's body is no performative")]
     BadBody,
+    /// Memory ran out.
     #[error("out of memory")]
     NoMemory,
 }
@@ -38,7 +41,7 @@ impl From<AllocError> for FrameFault {
 }
 
 impl FrameFault {
-    /// The number by which programs tell it: the order in which faults are tested, from 1.
+    /// Returns the number by which programs report the fault: its place in the order of the tests, from 1.
     pub fn number(self) -> u32
         ensures { result ≡ fault_number self }
     {
@@ -53,15 +56,19 @@ impl FrameFault {
     }
 }
 
-/// Why a frame is not written. The one with the lowest number is told.
+/// The reason why a frame is not written.
+///
+/// If several apply, the one with the lowest [`number`](FrameRefusal::number) is reported.
 #[derive(Clone, Copy, Debug, PartialEq, Eq, Error)]
 pub enum FrameRefusal {
-    /// A field holds what no reader would find there, or there is no such frame.
+    /// A field holds a value that no reader would find there, a value has no encoding, a payload comes without a
+    /// transfer, or the size does not fit 32 bits.
     #[error("there is no such frame")]
     NotWritable,
-    /// The frame is longer than allowed.
+    /// The frame is longer than the caller's `max`, the most that the peer accepts.
     #[error("the frame is longer than the peer takes")]
     FrameTooBig,
+    /// Memory ran out.
     #[error("out of memory")]
     NoMemory,
 }
@@ -75,7 +82,7 @@ impl From<AllocError> for FrameRefusal {
 }
 
 impl FrameRefusal {
-    /// The number by which programs tell it: the order in which refusals are tested, from 1.
+    /// Returns the number by which programs report the refusal: its place in the order of the tests, from 1.
     pub fn number(self) -> u32
         ensures { result ≡ refusal_number self }
     {

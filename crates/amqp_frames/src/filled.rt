@@ -1,10 +1,10 @@
-//! A slot that a frame is left in.
+//! The outcome of feeding a slot.
 
-/// What a feed into a slot came to, with how many octets of the piece it took.
+/// The outcome of [`Framer::feed_into`](crate::Framer::feed_into), with the number of octets that it took.
 #[derive(Clone, Copy, Debug, PartialEq, Eq)]
 pub enum Filled {
-    /// No frame is whole yet.
+    /// No frame is complete yet; all octets were taken.
     Part(usize),
-    /// The slot has the frame that these octets made whole.
+    /// The slot holds the frame that these octets completed.
     Whole(usize),
 }

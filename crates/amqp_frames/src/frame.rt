@@ -1,20 +1,24 @@
-//! A frame.
+//! The frame that is read and written.
 ghost use Rattle.std.specs.Prelude.{◌≡◌, [], None, IfOk};
 
 use amqp_performatives::Performative;
 use bytes::Bytes;
 use std::alloc::AllocError;
 
-/// A frame (part 2, 2.3): a performative on a channel, and a transfer's payload. Without a performative it is an empty frame.
+/// An AMQP frame (part 2, 2.3): a performative on a channel, with the payload of a transfer.
+/// Without a performative it is an empty frame, which only shows that the peer is alive (part 2, 2.4.5).
 #[derive(Debug, PartialEq, Eq, Drop)]
 pub struct Frame {
     pub channel: u16,
     pub body: Option<Performative>,
+    /// The octets behind the performative; only a transfer can have some.
     pub payload: Bytes,
 }
 
 impl Frame {
-    /// An empty frame on channel 0, as a slot that a frame is read into.
+    /// Creates an empty frame on channel 0, for use as the slot of [`Framer::feed_into`](crate::Framer::feed_into).
+    ///
+    /// It does not allocate.
     #[inline(always)]
     pub fn empty() -> Frame
         ensures { result ≡ record { channel = 0; body = None; payload = [] } }
@@ -35,7 +39,6 @@ impl Clone for Frame {
     }
 }
 
-/// A frame of copies of these parts.
 fn copy(channel: u16, body: &Option<Performative>, payload: &Bytes) -> Result<Frame, AllocError>
     ensures { IfOk result (λ frame. frame ≡ record { channel = channel; body = body.now; payload = payload.now }) }
 {

@@ -1,4 +1,4 @@
-//! Frames out of octets that come in pieces (part 2, 2.3).
+//! Reads frames from octets that arrive in pieces (part 2, 2.3).
 ghost use Rattle.std.specs.Prelude.{◌≡◌, ◌≢◌, ◌≤◌, ◌<◌, ◌*◌, ◌++◌, [], ℕ, List, Some, None, Ok, Err, MatchOption, MatchResult, IsSome, IfOk, IfSome, OnOk, OnErr, ◌+◌, length, take, drop, min, max};
 ghost use Rattle.amqp_frames.specs.Framing.{IsUnfinished, AreContents, size_of};
 ghost use Rattle.amqp_frames.specs.Header.{BeginsWith, IsHeaderPart, IsHeaderFault};
@@ -17,22 +17,24 @@ use crate::octets::Octets;
 use std::alloc::{AllocError, Global};
 use std::marker::Model;
 
-/// The standard's MIN-MAX-FRAME-SIZE (part 2, 2.8.19): each peer takes frames of so many octets.
+/// The standard's MIN-MAX-FRAME-SIZE (part 2, 2.8.19): every peer accepts frames of at most this many octets.
 const MIN_MAX_FRAME_SIZE: usize = 512;
 
-/// Takes octets in pieces of any length and gives the frames in them. What has come of the next frame is kept until it is whole. Memory is taken
-/// as octets come: room for at most 512 octets, or for twice as many as are kept, whatever size the header tells.
+/// Reads the frames of a stream whose octets arrive in pieces of any length.
+///
+/// The framer keeps the octets of the next frame until the frame is complete. Its memory grows with the octets that
+/// arrive, whatever size a frame header announces: at most to 512 bytes, or to twice the octets that came of one frame.
 #[derive(Debug)]
 pub struct Framer {
     max_size: u32,
-    /// What has come of the next frame; or, where `is_done`, octets of the one that was given last.
+    /// The octets of the next frame; if `is_done`, octets of the frame that was returned last.
     buffer: Buffer,
     is_done: bool,
     /// How many octets of the buffer `unread` keeps.
     before: Option<usize>,
 }
 
-// By hand, so that a crate that owns one does not prove its parts' drops again.
+// By hand, so that a crate that owns one does not prove the drops of its parts again.
 impl Drop for Framer {
     fn drop(self) {
         let Framer {
@@ -57,7 +59,7 @@ impl Model for Framer {
 }
 
 impl Framer {
-    /// A framer that takes frames of at most `max_size` octets. It takes no memory.
+    /// Creates a framer that accepts frames of at most `max_size` octets. It does not allocate.
     pub fn new(alloc: Global, max_size: u32) -> Framer
         ensures { result ≡ record { state = record { max_size = max_size; kept = []; before = None }; room = 0 } }
     {
@@ -69,7 +71,15 @@ impl Framer {
         }
     }
 
-    /// Takes octets of the piece, as `feed_into`, and answers how many, with the frame where it is whole.
+    /// Takes octets of the piece, at most to the end of one frame.
+    ///
+    /// Returns how many octets it took, and the frame if they complete one. Without a frame it took the whole piece.
+    /// The payload is copied; [`feed_into`](Framer::feed_into) can share it instead.
+    ///
+    /// # Errors
+    ///
+    /// The first [`FrameFault`] that the octets show, as soon as they show it, or [`FrameFault::NoMemory`]. The framer
+    /// still keeps what it kept before.
     pub fn feed(&mut self, piece: &[u8]) -> Result<(usize, Option<Frame>), FrameFault>
         ensures fed { Feeds self.old.state piece.now result self.new.state }
         ensures room { Roomy self.old piece.now result self.new }
@@ -90,13 +100,20 @@ impl Framer {
         }
     }
 
-    /// Takes some of the octets, at most to the end of one frame, and answers how many, with the frame left in the caller's slot: it has the frame where the
-    /// answer is `Whole`, and else may hold anything.
+    /// Takes octets of the piece, at most to the end of one frame, and leaves a complete frame in `slot`.
     ///
-    /// A fault is answered as soon as the octets show it (`FrameFault`): the size once four octets of the frame are there, the rest of its
-    /// header once eight are, its body once it is whole. After a fault the framer is as before. A frame that lies whole in the octets is
-    /// read in place; its payload is a slice of shared octets, which it keeps alive, and of lent ones is copied once. So is a payload that lies whole in the
-    /// octets, behind a performative that was kept. Want of memory is told of octets that show no fault.
+    /// Returns [`Filled::Whole`] if `slot` holds the frame. After [`Filled::Part`], which takes all octets, and after
+    /// an error, `slot` may hold anything.
+    ///
+    /// A frame that lies whole in the octets is read in place. Its payload is a slice of shared octets, which it keeps
+    /// alive, or one copy of lent octets. This also holds for a payload that lies whole in the octets behind a kept
+    /// performative, if at most 512 octets are kept.
+    ///
+    /// # Errors
+    ///
+    /// A [`FrameFault`] as soon as the octets show it: in the size once four octets of the frame are there, in the rest
+    /// of the header once eight are, in the body once the frame is complete. [`FrameFault::NoMemory`] if memory runs
+    /// out and the octets show no fault. After an error the framer still keeps what it kept before.
     #[inline(always)]
     pub fn feed_into(&mut self, octets: &Octets<'_>, slot: &mut Frame) -> Result<Filled, FrameFault>
         ensures fed { FeedsSlot self.old.state octets.now result slot.new self.new.state }
@@ -107,7 +124,8 @@ impl Framer {
         self.feed_piece(octets.as_slice(), octets, slot)
     }
 
-    /// As `feed_into`, with the slice of the octets beside them: it comes in registers, where a first read of what an `Octets` in memory has waits for its stores.
+    /// Takes the slice beside the octets, because it is passed in registers: a first read from an `Octets` in memory
+    /// waits for its stores.
     fn feed_piece(
         &mut self,
         piece: &[u8],
@@ -126,7 +144,6 @@ impl Framer {
         }
     }
 
-    /// The header of a frame that lies whole in the piece, where no octets are kept.
     #[inline(always)]
     fn whole_front(&self, piece: &[u8]) -> Option<Header>
         ensures none { IfSome result (λ _. self.now.state.kept ≡ []) }
@@ -147,7 +164,7 @@ impl Framer {
         }
     }
 
-    /// As `feed_into`, also where octets are kept, where the frame does not end in those that come, and where they show a fault.
+    /// Also handles kept octets, a frame that does not end in this piece, and octets that show a fault.
     #[inline(never)]
     fn feed_apart(&mut self, octets: &Octets<'_>, slot: &mut Frame) -> Result<Filled, FrameFault>
         ensures fed { FeedsSlot self.old.state octets.now result slot.new self.new.state }
@@ -167,21 +184,22 @@ impl Framer {
         }
     }
 
-    /// How many octets have come of a frame that is not whole.
+    /// Returns the number of octets that are kept of an unfinished frame.
     pub fn pending(&self) -> usize
         ensures { result ≡ length self.now.state.kept }
     {
         self.kept().len()
     }
 
-    /// For how many octets it has memory: at most for 512, or for twice as many as ever came of a frame that was cut.
+    /// Returns the size of the framer's memory in bytes.
+    ///
+    /// It is at most 512, or twice the most octets that ever arrived of one frame that was cut.
     pub fn room(&self) -> usize
         ensures { result ≡ self.now.room }
     {
         self.buffer.room()
     }
 
-    /// The octets that are kept.
     fn kept(&self) -> &[u8]
         ensures value { result.now ≡ self.now.state.kept }
         ensures unfinished { IsUnfinished self.now.state.max_size self.now.state.kept }
@@ -193,7 +211,7 @@ impl Framer {
         }
     }
 
-    /// Keeps octets that do not make the next frame whole. The frame has so many octets, or the header that tells it has.
+    /// Keeps octets that do not complete the next frame. `size` is that of the frame, or 8 if its header is unfinished.
     fn keep(&mut self, octets: &Octets<'_>, size: usize) -> Result<Filled, FrameFault>
         requires unfinished { IsUnfinished self.old.state.max_size (self.old.state.kept ++ octets.now) }
         requires within { length (self.old.state.kept ++ octets.now) ≤ size }
@@ -213,7 +231,6 @@ impl Framer {
         Ok(Filled::Part(piece.len()))
     }
 
-    /// Keeps the octets after a header that shows no fault, or leaves the frame in the slot that they make whole.
     fn take(
         &mut self,
         header: Header,
@@ -242,7 +259,7 @@ impl Framer {
         self.finish(header, octets, missing, slot)
     }
 
-    /// Leaves the frame in the slot that the octets make whole, where all contents lie in them, and so many octets are kept.
+    /// Reads a frame whose contents all lie in the octets; `count` octets of its header are kept.
     #[inline(always)]
     fn finish_in_place(
         &mut self,
@@ -279,8 +296,9 @@ impl Framer {
         }
     }
 
-    /// Leaves the frame in the slot that the octets make whole, where what is kept ends with a transfer's performative, and tells whether it did: so nothing is
-    /// joined, and the payload is read where it lies. A frame of which more is kept was most likely cut within its payload, and would be read twice.
+    /// Reads a frame whose kept octets end with a transfer's performative, and returns whether it did. Nothing is
+    /// joined, and the payload is read where it lies. If more than 512 octets are kept, the frame was most likely cut
+    /// within its payload, and would be read twice.
     #[inline(never)]
     fn reads_behind(
         &self,
@@ -302,7 +320,6 @@ impl Framer {
         read_behind(alloc, header.channel, head, octets, missing, slot)
     }
 
-    /// Leaves the frame in the slot that the octets make whole, where contents are kept.
     #[inline(never)]
     fn finish(
         &mut self,
@@ -346,7 +363,10 @@ impl Framer {
         }
     }
 
-    /// Puts the framer back to before the last feed that succeeded.
+    /// Restores what the framer kept before the last successful feed.
+    ///
+    /// Requires a successful feed since the framer was created and since the last `unread`. The octets of that feed can
+    /// then be fed again. The cost is constant, and the memory is kept.
     pub fn unread(&mut self)
         requires { IsSome self.old.state.before }
         ensures { IfSome self.old.state.before (λ octets. self.new ≡ record { state = record { max_size = self.old.state.max_size; kept = octets; before = None }; room = self.old.room }) }
@@ -359,7 +379,7 @@ impl Framer {
     }
 }
 
-/// Makes room for so many octets of a frame of this size: for the whole frame where it is short, else for some of what is to come.
+/// Reserves a short frame whole, and a long one in steps, so that the size in a header alone costs at most 512 bytes.
 fn make_room(buffer: &mut Buffer, count: usize, size: usize) -> Result<(), AllocError>
     requires { count ≤ size }
     ensures octets { buffer.new.octets ≡ buffer.old.octets }
@@ -376,7 +396,7 @@ fn make_room(buffer: &mut Buffer, count: usize, size: usize) -> Result<(), Alloc
     buffer.reserve(room)
 }
 
-/// What the header of the octets that are kept and then come says. Nothing is copied where none are kept.
+/// Examines the header across the kept octets and the piece, without a copy if none are kept.
 fn examine_front(max: u32, kept: &[u8], piece: &[u8]) -> Result<Option<Header>, FrameFault>
     ensures { MatchResult result (λ found. MatchOption found (IsHeaderPart (kept.now ++ piece.now)) (λ header. BeginsWith header max (kept.now ++ piece.now))) (λ fault. IsHeaderFault fault max (kept.now ++ piece.now)) }
 {
@@ -391,7 +411,6 @@ fn examine_front(max: u32, kept: &[u8], piece: &[u8]) -> Result<Option<Header>, 
     }
 }
 
-/// The first eight of the octets that are kept and then come, or all of them where they are fewer.
 fn first_octets(kept: &[u8], piece: &[u8]) -> ([u8; 8], usize)
     ensures octets { take result.1 result.0 ≡ take 8 (kept.now ++ piece.now) }
     ensures within { result.1 ≤ 8 }

@@ -1,22 +1,22 @@
-//! A frame's header: its first eight octets (part 2, 2.3.1).
+//! Reads the frame header, the first eight octets of a frame (part 2, 2.3.1).
 ghost use Rattle.std.specs.Prelude.{◌≡◌, ◌*◌, ◌≤◌, length, MatchOption, MatchResult};
 ghost use Rattle.amqp_frames.specs.Framing.{Shows};
 ghost use Rattle.amqp_frames.specs.Header.{BeginsWith, IsHeaderPart, IsHeaderFault};
 
 use crate::fault::FrameFault;
 
-/// What the header of an AMQP frame says.
+/// The header of an AMQP frame.
 #[derive(Clone, Copy, Debug)]
 pub struct Header {
-    /// Of the whole frame, in octets.
+    /// The size of the whole frame, in octets.
     pub size: u32,
-    /// Where the contents begin, in words of four octets.
+    /// The data offset: where the contents begin, in words of four octets.
     pub doff: u8,
     pub channel: u16,
 }
 
 impl Header {
-    /// Where the contents begin, in octets from the frame's first.
+    /// Returns where the contents begin, in octets from the start of the frame.
     pub fn start(&self) -> usize
         ensures { result ≡ 4 * self.now.doff }
     {
@@ -24,7 +24,12 @@ impl Header {
     }
 }
 
-/// The header at the front of the octets. The size is tested once four octets are there, and the rest once eight are.
+/// Reads the header at the start of the octets, or returns `None` if it is not complete.
+///
+/// # Errors
+///
+/// The first fault of the header, in the order of [`FrameFault::number`]: in the size once four octets are there, in
+/// the rest once eight are.
 pub fn examine(max: u32, octets: &[u8]) -> Result<Option<Header>, FrameFault>
     ensures { MatchResult result (λ found. MatchOption found (IsHeaderPart octets.now) (λ header. BeginsWith header max octets.now)) (λ fault. IsHeaderFault fault max octets.now) }
 {

@@ -1,4 +1,6 @@
-//! Laws of framing: what octets in a frame's place are, and that it does not matter how a stream is cut.
+//! Laws of framing: what octets in the place of a frame are, and that the cuts of a stream make no difference.
+//!
+//! The functions are proofs. They do nothing at run time.
 ghost use Rattle.std.specs.Prelude.{◌≡◌, ◌<◌, ◌≤◌, ◌^◌, ℕ, List, None, ◌++◌, length};
 ghost use Rattle.amqp_frames.specs.declared.fault.FrameFault.{FrameFault};
 ghost use Rattle.amqp_frames.specs.declared.frame.Frame.{Frame};
@@ -10,8 +12,10 @@ ghost use Rattle.amqp_performatives.specs.declared.bodies.EndBody.{EndBody};
 ghost use Rattle.amqp_performatives.specs.declared.performative.Performative.TheVariants as said;
 ghost use Rattle.amqp_frames.specs.Brief.{IsBriefFlow, IsBrief};
 
-/// Octets in a frame's place begin with a frame, are unfinished or show a fault: no two of these, and no two faults. A
-/// stream begins with at most one frame's octets.
+/// Proves that octets in the place of a frame have one meaning.
+///
+/// They begin with a frame, are unfinished, or show a fault: no two of these, and no two faults. A stream begins with
+/// the octets of at most one frame.
 pub fn one_answer()
     ensures unfinished { (fault : FrameFault) (max : ℕ) (x : List ℕ) → IsUnfinished max x → Shows fault max x → ⊥ }
     ensures framed { (fault : FrameFault) (f : Frame) (max : ℕ) (x rest : List ℕ) → IsFrame f x → length x ≤ max → Shows fault max (x ++ rest) → ⊥ }
@@ -20,8 +24,11 @@ pub fn one_answer()
     ensures one_front { (f g : Frame) (x y a b : List ℕ) → IsFrame f x → IsFrame g y → x ++ a ≡ y ++ b → x ≡ y }
 {}
 
-/// However a stream is cut, its frames are the same: those of a piece and then those of what it left and the next piece are those of
-/// both; and one stream has one list of frames and one rest, up to where no frame is in front, as where octets are unfinished or show a fault.
+/// Proves that the frames of a stream do not depend on how it is cut.
+///
+/// The frames of a piece, and then those of what it left and the next piece, are the frames of both pieces together. A
+/// stream has one list of frames and one rest, up to where no frame follows, because the octets are unfinished or show
+/// a fault.
 pub fn cutting()
     ensures joined { (max : ℕ) (x y r s : List ℕ) (fs gs : List Frame) → AreFrames max x fs r → AreFrames max (r ++ y) gs s → AreFrames max (x ++ y) (fs ++ gs) s }
     ensures unique { (max : ℕ) (x r s : List ℕ) (fs gs : List Frame) → AreFrames max x fs r → (BeginsWithFrame max r → ⊥) → AreFrames max x gs s → (BeginsWithFrame max s → ⊥) → (r ≡ s) × (fs ≡ gs) }
@@ -29,13 +36,15 @@ pub fn cutting()
     ensures faulty { (fault : FrameFault) (max : ℕ) (x : List ℕ) → Shows fault max x → BeginsWithFrame max x → ⊥ }
 {}
 
-/// Octets are at most one frame.
+/// Proves that octets are at most one frame.
 pub fn one_frame()
     ensures { (f g : Frame) (x : List ℕ) → IsFrame f x → IsFrame g x → f ≡ g }
 {}
 
-/// A flow without properties, a detach without an error and an end without one can always be written, in octets that each peer takes: at
-/// most 512 (part 2, 2.4.1).
+/// Proves that short frames can always be written.
+///
+/// A flow without properties, a detach without an error and an end without an error take at most 512 octets, which each
+/// peer accepts (part 2, 2.4.1).
 pub fn always_written()
     ensures flow { (b : FlowBody) → IsBriefFlow b → IsBrief (said.Flow b) }
     ensures detach { (b : DetachBody) → b.handle < 2 ^ 32 → b.error ≡ None → IsBrief (said.Detach b) }

@@ -1,4 +1,4 @@
-//! Runs of octets and what stands in front of lists: how many octets each takes, and the octets, under the shortest code that fits (part 1, 1.6).
+//! Writes and measures runs of octets and the heads of lists, with the shortest code that fits (part 1, 1.6).
 ghost use Rattle.std.specs.Prelude.{◌≡◌, ℕ, List, length, Some, None, OnOk};
 ghost use Rattle.amqp_types.specs.declared.class.Kind.TheVariants as kind;
 ghost use Rattle.amqp_types.specs.Datum.{number};
@@ -23,7 +23,7 @@ pub(crate) fn ushort_size(_n: u16) -> u64
     3
 }
 
-/// How many octets a run of so many takes, with its code and its size.
+/// Returns the encoded length of a run of `len` octets, with its code and its size.
 #[inline]
 pub(crate) fn run_len(len: usize) -> Option<u64>
     ensures { (small large : ℕ) (text : List ℕ) → length text ≡ len → result ≡ capped (run_octets small large text) }
@@ -37,7 +37,7 @@ pub(crate) fn run_len(len: usize) -> Option<u64>
     }
 }
 
-/// Writes the octets under one of two codes, the first with a size of one octet.
+/// Writes the octets under the code `small`, with a size of one octet, or `large`, with a size of four.
 #[inline]
 pub(crate) fn put_run(
     small: u8,
@@ -60,7 +60,7 @@ pub(crate) fn put_run(
     Ok(())
 }
 
-/// How many octets a list of so many items takes that take so many octets.
+/// Returns the encoded length of a list of `count` items that take `size` octets together.
 #[inline]
 pub(crate) fn list_len(count: u64, size: u64) -> Option<u64>
     ensures { result ≡ list_size count size }
@@ -76,7 +76,7 @@ pub(crate) fn list_len(count: u64, size: u64) -> Option<u64>
     }
 }
 
-/// Writes what stands in front of so many items of so many octets.
+/// Writes the head of a list of `count` items that take `size` octets together.
 #[inline]
 pub(crate) fn put_list_head(count: u64, size: u64, out: &mut Vec<u8>) -> Result<(), WriteFault>
     ensures { OnOk result (added out.old.items (list_octets count size) ≡ Some out.new.items) }

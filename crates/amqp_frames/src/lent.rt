@@ -1,4 +1,4 @@
-//! The measures of frames whose bodies own memory, from parts that are lent: so a frame can be refused before anything is copied into its body.
+//! Measures frames from borrowed parts, so that a frame can be refused before anything is copied into its body.
 ghost use Rattle.std.specs.Prelude.{◌≡◌, ℕ, Some, None, []};
 ghost use Rattle.amqp_performatives.specs.Bodies.{attach_fields, transfer_fields, disposition_fields, detach_fields, end_fields};
 ghost use Rattle.amqp_performatives.specs.Fair.{is_fair, is_fair_attach};
@@ -19,7 +19,9 @@ use amqp_performatives::listed::{begin_fields, open_fields};
 use amqp_performatives::{AmqpError, BeginBody, DeliveryState, OpenBody, Performative, Role};
 use amqp_types::{Boxed, Items, Tag, Value};
 
-/// What an attach says, as `AttachBody`, with its name, its ends and its map of unsettled deliveries lent. Its other fields are absent.
+/// The fields of an attach, with its name, its source and target, and its map of unsettled deliveries borrowed.
+///
+/// The other fields of `AttachBody` are absent.
 #[derive(Clone, Copy)]
 pub struct AttachParts<'a> {
     pub name: &'a str,
@@ -34,7 +36,12 @@ pub struct AttachParts<'a> {
     pub max_message_size: Option<u64>,
 }
 
-/// As `measure_frame` of this begin, which no performative holds yet, on any channel.
+/// Measures a frame with this begin, on any channel, as [`measure_frame`](crate::measure_frame) does.
+///
+/// # Errors
+///
+/// [`FrameRefusal::NotWritable`] if a field cannot be written; [`FrameRefusal::FrameTooBig`] if the frame is longer
+/// than `max` octets.
 pub fn measure_begin(body: &BeginBody, max: u32) -> Result<Measured, FrameRefusal>
     ensures { (channel : ℕ) → Measures result (record { channel = channel; body = Some (Performative.Begin body.now); payload = [] }) max }
 {
@@ -44,7 +51,12 @@ pub fn measure_begin(body: &BeginBody, max: u32) -> Result<Measured, FrameRefusa
     measure_list(&begin_fields(body), 0, max)
 }
 
-/// As `measure_frame` of an attach of these parts, on any channel.
+/// Measures a frame with an attach of these parts, on any channel, as [`measure_frame`](crate::measure_frame) does.
+///
+/// # Errors
+///
+/// [`FrameRefusal::NotWritable`] if a field cannot be written; [`FrameRefusal::FrameTooBig`] if the frame is longer
+/// than `max` octets.
 pub fn measure_attach(parts: &AttachParts<'_>, max: u32) -> Result<Measured, FrameRefusal>
     ensures { (channel : ℕ) → Measures result (record { channel = channel; body = Some (Performative.Attach (attach_of parts.now)); payload = [] }) max }
 {
@@ -54,7 +66,12 @@ pub fn measure_attach(parts: &AttachParts<'_>, max: u32) -> Result<Measured, Fra
     measure_list(&attach_fields(parts), 0, max)
 }
 
-/// As `measure_frame` of an open, on any channel.
+/// Measures a frame with this open, on any channel, as [`measure_frame`](crate::measure_frame) does.
+///
+/// # Errors
+///
+/// [`FrameRefusal::NotWritable`] if a field cannot be written; [`FrameRefusal::FrameTooBig`] if the frame is longer
+/// than `max` octets.
 pub fn measure_open(body: &OpenBody, max: u32) -> Result<Measured, FrameRefusal>
     ensures { (channel : ℕ) → Measures result (record { channel = channel; body = Some (Performative.Open body.now); payload = [] }) max }
 {
@@ -64,8 +81,9 @@ pub fn measure_open(body: &OpenBody, max: u32) -> Result<Measured, FrameRefusal>
     measure_list(&open_fields(body), 0, max)
 }
 
-/// What a transfer says that resumes a delivery, as `TransferBody`, with its tag and its state lent. It has no payload, and its other fields are absent
-/// (part 2, 2.6.13 and 2.7.5).
+/// The fields of a transfer that resumes a delivery, with its tag and its state borrowed (part 2, 2.6.13 and 2.7.5).
+///
+/// `resume` is true, and the other fields of `TransferBody` are absent. The frame has no payload.
 #[derive(Clone, Copy)]
 pub struct ResumingParts<'a> {
     pub handle: u32,
@@ -76,7 +94,12 @@ pub struct ResumingParts<'a> {
     pub aborted: Option<bool>,
 }
 
-/// As `measure_frame` of a transfer of these parts, on any channel.
+/// Measures a frame with a resuming transfer of these parts, on any channel, as `measure_frame` does.
+///
+/// # Errors
+///
+/// [`FrameRefusal::NotWritable`] if a field cannot be written; [`FrameRefusal::FrameTooBig`] if the frame is longer
+/// than `max` octets.
 pub fn measure_resuming(parts: &ResumingParts<'_>, max: u32) -> Result<Measured, FrameRefusal>
     ensures { (channel : ℕ) → Measures result (record { channel = channel; body = Some (Performative.Transfer (resuming_of parts.now)); payload = [] }) max }
 {
@@ -86,7 +109,12 @@ pub fn measure_resuming(parts: &ResumingParts<'_>, max: u32) -> Result<Measured,
     measure_list(&resuming_fields(parts), 0, max)
 }
 
-/// As `measure_frame` of a disposition that says this and no `batchable`, on any channel.
+/// Measures a frame with a disposition of these fields and no `batchable`, on any channel, as `measure_frame` does.
+///
+/// # Errors
+///
+/// [`FrameRefusal::NotWritable`] if the state cannot be written; [`FrameRefusal::FrameTooBig`] if the frame is longer
+/// than `max` octets.
 pub fn measure_disposition(
     role: Role,
     first: u32,
@@ -107,7 +135,12 @@ pub fn measure_disposition(
     )
 }
 
-/// As `measure_frame` of a detach that says this, on any channel.
+/// Measures a frame with a detach of these fields, on any channel, as [`measure_frame`](crate::measure_frame) does.
+///
+/// # Errors
+///
+/// [`FrameRefusal::NotWritable`] if the error cannot be written; [`FrameRefusal::FrameTooBig`] if the frame is longer
+/// than `max` octets.
 pub fn measure_detach(
     handle: u32,
     closed: Option<bool>,
@@ -122,7 +155,12 @@ pub fn measure_detach(
     measure_list(&detach_fields(handle, closed, error), 0, max)
 }
 
-/// As `measure_frame` of an end that says this, on any channel.
+/// Measures a frame with an end of this error, on any channel, as [`measure_frame`](crate::measure_frame) does.
+///
+/// # Errors
+///
+/// [`FrameRefusal::NotWritable`] if the error cannot be written; [`FrameRefusal::FrameTooBig`] if the frame is longer
+/// than `max` octets.
 pub fn measure_end(error: &Option<Boxed<AmqpError>>, max: u32) -> Result<Measured, FrameRefusal>
     ensures { (channel : ℕ) → Measures result (record { channel = channel; body = Some (Performative.End (end_of error.now)); payload = [] }) max }
 {

@@ -1,19 +1,27 @@
-//! Frames (OASIS AMQP 1.0 part 2, 2.3): written into one buffer, and read from a stream however it is cut.
+//! Reads and writes the frames of AMQP 1.0 (OASIS AMQP 1.0, part 2, 2.3).
 //!
-//! | module | what it has |
+//! Frames are written into one buffer, and read from a stream in pieces of any length. The crate does no I/O.
+//!
+//! - [`Frame`]: a channel, a performative and the payload of a transfer
+//! - Reading: [`Framer`] takes the stream in pieces ([`Octets`], lent or shared), by `feed_into`, `feed` or `feed_all`,
+//!   and reports a [`FrameFault`] if the octets are not a frame
+//! - Writing: [`write_frame`] returns a frame's octets; [`append_frame`] appends them to a buffer, as for a batch;
+//!   [`append_head`] appends those before a transfer's payload. The reason for a refusal is a [`FrameRefusal`].
+//! - Measuring, without allocation: [`measure_frame`] returns the refusal, or the size of a frame that
+//!   [`write_measured`] then writes; [`frame_refusal`] returns only the refusal
+//! - Measuring before a body is built, from borrowed parts: [`measure_open`], [`measure_begin`], [`measure_attach`],
+//!   [`measure_resuming`], [`measure_disposition`], [`measure_detach`], [`measure_end`]
+//! - Laws, proved and without effect at run time: [`written_is_framed`], [`always_written`], [`one_answer`],
+//!   [`one_frame`], [`cutting`]
+//!
+//! | module | contents |
 //! |---|---|
-//! | `frame`, `fault` | a frame; what is wrong with octets, and why a frame is not written |
-//! | `octets`, `framer`, `stream`, `header`, `contents`, `filled` | frames out of pieces: what came, kept octets, a whole piece, the header, what follows it, a slot for the frame |
-//! | `written`, `append`, `writing`, `leaf` | frames written: alone, behind others, by field, by run of octets |
-//! | `measured`, `measure`, `lent`, `fair` | how long a frame will be, without memory, also from lent parts; whether it can be written |
-//! | `laws` | what octets in a frame's place are, and that cutting makes no difference |
-//!
-//! - [`Frame`]: a channel, a performative and a transfer's payload
-//! - Writing: [`write_frame`] into octets of its own; [`append_frame`] behind others, as for a batch; [`append_head`] what stands before a transfer's payload. [`measure_frame`] tells without memory whether
-//!   and in how many octets a frame is written, and [`write_measured`] writes it then; [`frame_refusal`] tells the refusal alone.
-//! - Measures before a body is made, from lent parts: [`measure_open`], [`measure_begin`], [`measure_attach`], [`measure_resuming`], [`measure_disposition`], [`measure_detach`], [`measure_end`]
-//! - Reading: [`Framer`] takes pieces of a stream ([`Octets`], lent or shared), by `feed_into`, `feed` or `feed_all`, and tells a [`FrameFault`]
-//! - Laws: [`written_is_framed`], [`always_written`], [`one_answer`], [`one_frame`], [`cutting`]
+//! | `frame`, `fault` | a frame; the errors of reading and of writing |
+//! | `framer`, `stream`, `filled`, `octets` | reading one frame, or all frames, of a piece |
+//! | `header`, `contents`, `buffer` | the frame header, what follows it, the octets of an unfinished frame |
+//! | `written`, `append`, `writing`, `leaf` | writing a frame alone, behind others, by field, by run of octets |
+//! | `measured`, `measure`, `lent`, `fair` | the size of a frame, also from borrowed parts; whether it can be written |
+//! | `laws` | what octets can be, and that the cuts of a stream make no difference |
 #![tactic(auto)]
 
 mod append;

@@ -1,4 +1,4 @@
-//! How many octets fields take, without memory. A size of `u64::MAX` stands for all from there on.
+//! Measures the octets that fields take, without allocating. A sum that does not fit a `u64` is `u64::MAX`.
 ghost use Rattle.std.specs.Prelude.{◌≡◌, ◌≤◌, ℕ, None, length, option_map};
 ghost use Rattle.amqp_types.specs.Canon.{capped, part_form};
 ghost use Rattle.amqp_types.specs.Datum.{count_of};
@@ -19,14 +19,14 @@ use amqp_types::{
 /// How deep a field may be nested: it lies in a list, which lies in a described value.
 pub(crate) const FIELD_DEPTH: u8 = MAX_DEPTH - 2;
 
-/// The count of fields and how many octets they take together.
+/// The count of fields, and how many octets they take together.
 #[derive(Clone, Copy)]
 pub(crate) struct Measure {
     pub(crate) count: u64,
     pub(crate) size: u64,
 }
 
-/// How many octets the field takes; None where it is nested more than `depth` deep or holds what has no spelling.
+/// Returns `None` if the field is nested more than `depth` deep, or holds a value that has no encoding.
 #[cycle(measuring)]
 fn field_len(field: &Field<'_>, depth: u8) -> Option<u64>
     ensures { result ≡ capped (form_within depth (canonical (part_at field.now))) }
@@ -51,7 +51,7 @@ fn field_len(field: &Field<'_>, depth: u8) -> Option<u64>
     }
 }
 
-/// Of a symbol; this and the next out of line, so that the common fields are measured without what these need.
+/// Out of line, as are `map_len` and `any_len`: the common fields are then measured without the work that these need.
 #[inline(never)]
 fn symbol_len(text: &str) -> Option<u64>
     ensures { result ≡ capped (part_form None (canonical (symbol text.now))) }
@@ -96,7 +96,6 @@ fn state_len(reached: &DeliveryState, depth: u8) -> Option<u64>
     }
 }
 
-/// How many octets a described list of the fields takes.
 #[cycle(measuring)]
 fn composite_len(composite: Composite, fields: &[Field<'_>], depth: u8) -> Option<u64>
     ensures { result ≡ capped (form_within depth (composite_datum (type_of composite).0 (shown_fields fields.now))) }
@@ -111,7 +110,7 @@ fn composite_len(composite: Composite, fields: &[Field<'_>], depth: u8) -> Optio
     Some(size + 3)
 }
 
-/// The fields up to the last that is present; None where one has no spelling nested at most `depth` deep.
+/// Measures the fields up to the last present one. Returns `None` if one has no encoding nested at most `depth` deep.
 #[cycle(measuring)]
 pub(crate) fn fields_len(fields: &[Field<'_>], depth: u8) -> Option<Measure>
     ensures { option_map (λ m. (m.count, m.size)) result ≡ measured (count_of (shown_fields fields.now)) (forms_within depth (shown_fields fields.now)) }

@@ -1,4 +1,4 @@
-//! What a frame measures, told before anything is written and without memory.
+//! Measures a frame before anything is written, without allocating.
 ghost use Rattle.std.specs.Prelude.{◌≡◌, ◌<◌, ◌+◌, ℕ, List, None, length};
 ghost use Rattle.std.specs.Result.{result_err};
 ghost use Rattle.amqp_performatives.specs.Part.{canonical_fields};
@@ -15,7 +15,7 @@ use crate::measure::{FIELD_DEPTH, Measure, fields_len};
 use amqp_performatives::Performative;
 use amqp_performatives::field::Field;
 
-/// The measure of a frame that can be written: how many octets the whole frame takes, and the fields of its performative.
+/// The size of a frame that can be written, and the measure of its performative's fields.
 #[derive(Clone, Copy)]
 pub struct Measured {
     pub(crate) size: u32,
@@ -23,7 +23,7 @@ pub struct Measured {
 }
 
 impl Measured {
-    /// How many octets the whole frame takes.
+    /// Returns the size of the whole frame, in octets.
     pub fn size(&self) -> u32
         ensures { result ≡ self.now.size }
     {
@@ -31,13 +31,15 @@ impl Measured {
     }
 }
 
-/// The measure of a frame with this performative and so many octets of payload, whatever its channel, where it can be written in at most `max`
-/// octets. It asks for no memory, and costs what the fields' sizes cost.
+/// Returns the measure of a frame with this performative and `payload_len` octets of payload, on any channel.
+///
+/// It does not allocate or read the payload. The cost is that of measuring the performative's fields.
 ///
 /// # Errors
 ///
-/// In this order: `NotWritable` where a field holds what no reader would find there, a payload stands without a transfer, a value has no spelling,
-/// or the size would not fit 32 bits; `FrameTooBig` where the frame is longer than `max` octets. Never `NoMemory`.
+/// In this order: [`FrameRefusal::NotWritable`] if a field holds a value that no reader would find there, a payload
+/// comes without a transfer, a value has no encoding, or the size does not fit 32 bits;
+/// [`FrameRefusal::FrameTooBig`] if the frame is longer than `max` octets. Never [`FrameRefusal::NoMemory`].
 pub fn measure_frame(
     body: &Option<Performative>,
     payload_len: usize,
@@ -54,8 +56,10 @@ pub fn measure_frame(
     measure_performative(performative, payload_len, max)
 }
 
-/// The refusal that `write_frame` would answer to a frame of these parts, want of memory aside; none where it would write it. It asks for
-/// no memory, and costs what the fields' sizes cost: the payload's octets are not looked at.
+/// Returns the refusal that [`write_frame`](crate::write_frame) reports for a frame of these parts, or `None` if only
+/// an allocation can fail.
+///
+/// It does not allocate or read the payload. The cost is that of measuring the performative's fields.
 pub fn frame_refusal(
     channel: u16,
     body: &Option<Performative>,
@@ -68,7 +72,6 @@ pub fn frame_refusal(
     measure_frame(body, payload.len(), max).err()
 }
 
-/// Of a frame with this performative and so many octets of payload, whatever they hold.
 fn measure_performative(
     performative: &Performative,
     payload_len: usize,
@@ -82,7 +85,7 @@ fn measure_performative(
     measure_list(listed.fields(), payload_len, max)
 }
 
-/// Whether so many octets of payload may follow: some follow a transfer alone.
+/// Only a transfer has a payload.
 fn may_follow(payload_len: usize, performative: &Performative) -> bool
     ensures { (payload : List ℕ) → length payload ≡ payload_len → result ≡ may_follow payload performative.now }
 {
@@ -95,7 +98,6 @@ fn may_follow(payload_len: usize, performative: &Performative) -> bool
     }
 }
 
-/// Of a frame without a performative.
 fn measure_empty(payload_len: usize, max: u32) -> Result<Measured, FrameRefusal>
     ensures { (channel : ℕ) (payload : List ℕ) → length payload ≡ payload_len → Measures result (record { channel = channel; body = None; payload = payload }) max }
 {
@@ -109,7 +111,7 @@ fn measure_empty(payload_len: usize, max: u32) -> Result<Measured, FrameRefusal>
     })
 }
 
-/// Of a frame with a described list of these fields.
+/// Measures a frame whose performative is a described list of these fields.
 pub(crate) fn measure_list(
     fields: &[Field<'_>],
     payload_len: usize,
@@ -129,7 +131,7 @@ pub(crate) fn measure_list(
     }
 }
 
-/// The size of a frame with so many octets of a body and of payload.
+/// Returns the size of a frame whose performative takes `body` octets.
 pub(crate) fn frame_size(body: u64, payload: usize, max: u32) -> Result<u32, FrameRefusal>
     ensures { result ≡ size_answer (8 + (body + payload)) max }
 {

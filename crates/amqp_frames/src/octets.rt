@@ -1,15 +1,15 @@
-//! Octets of a stream, as they come.
+//! The octets of a stream, as they arrive.
 ghost use Rattle.std.specs.Prelude.{◌≡◌, ◌≤◌, ◌-◌, OnOk, length, take, drop};
 
 use bytes::Bytes;
 use std::alloc::{AllocError, Global};
 use std::marker::Model;
 
-/// Octets that came, in a piece that is lent or as a part of shared ones.
+/// Octets of a stream: a borrowed slice, or the rest of shared octets.
 #[derive(Drop)]
 pub struct Octets<'a> {
     slice: &'a [u8],
-    /// The shared octets of which they are the rest, from this place on.
+    /// The shared octets, of which the slice is the rest from this place on.
     shared: Option<(&'a Bytes, usize)>,
 }
 
@@ -25,7 +25,7 @@ impl<'a> Model for Octets<'a> {
 }
 
 impl<'a> Octets<'a> {
-    /// Octets that are lent for a call: what is kept of them is copied.
+    /// Borrows the octets for one call: a framer copies what it keeps of them.
     #[inline(always)]
     pub fn lent(slice: &'a [u8]) -> Octets<'a>
         ensures { result ≡ slice.now }
@@ -36,7 +36,10 @@ impl<'a> Octets<'a> {
         }
     }
 
-    /// The shared octets from a place on: a payload that lies whole in them is a slice of them, without a copy, and keeps all of them alive.
+    /// Uses the shared octets from the place `from` on.
+    ///
+    /// A payload that lies whole in them becomes a slice of them, without a copy, and keeps all of them alive. `from`
+    /// must be at most their length.
     #[inline(always)]
     pub fn shared(octets: &'a Bytes, from: usize) -> Octets<'a>
         requires { from ≤ length octets.now }
@@ -48,7 +51,7 @@ impl<'a> Octets<'a> {
         }
     }
 
-    /// The octets.
+    /// Returns the octets.
     #[inline(always)]
     pub fn as_slice(&self) -> &'a [u8]
         ensures { result.now ≡ self.now }
@@ -56,7 +59,7 @@ impl<'a> Octets<'a> {
         self.slice
     }
 
-    /// Leaves those from one place up to another in the slot: a slice of shared ones, or else a copy.
+    /// Leaves the octets from `start` to `end` in the slot: a slice of shared octets, or a copy of lent ones.
     #[inline(always)]
     pub(crate) fn part_into(
         &self,
@@ -81,7 +84,6 @@ impl<'a> Octets<'a> {
     }
 }
 
-/// Leaves a copy of the octets in the slot.
 #[inline(never)]
 fn copy_into(alloc: Global, octets: &[u8], slot: &mut Bytes) -> Result<(), AllocError>
     ensures { OnOk result (slot.new ≡ octets.now) }
@@ -91,7 +93,7 @@ fn copy_into(alloc: Global, octets: &[u8], slot: &mut Bytes) -> Result<(), Alloc
     Ok(())
 }
 
-/// Leaves a part of the octets in the slot, which are not copied. Out of line, where its parts go from registers to their places.
+/// Out of line, so that its parts go from registers to their places.
 #[inline(never)]
 fn slice_into(octets: &Bytes, start: usize, end: usize, slot: &mut Bytes) -> Result<(), AllocError>
     requires order { start ≤ end }

@@ -1,4 +1,4 @@
-//! All frames of a piece of a stream (part 2, 2.3).
+//! Reads all frames of a piece of a stream (part 2, 2.3).
 ghost use Rattle.std.specs.Prelude.{◌≡◌, ◌≢◌, ◌<◌, ◌≤◌, ◌+◌, ◌*◌, ◌++◌, [], ◌∷◌, max, length, is_ok, if◌then◌else◌, IsOk, IfOk, OnOk};
 ghost use Rattle.std.specs.Vec.{vec_len, vec_capacity};
 ghost use Rattle.amqp_frames.specs.Stream.{FeedsInto, FeedsAll};
@@ -9,26 +9,27 @@ use crate::framer::Framer;
 use std::alloc::AllocError;
 use thiserror::Error;
 
-/// The fault that stopped a piece.
+/// The error at which [`Framer::feed_all`] stopped.
 #[derive(Clone, Copy, Debug, PartialEq, Eq, Error)]
 #[error("{fault}")]
 pub struct Stopped {
     pub fault: FrameFault,
-    /// How many octets of the piece were used before.
+    /// How many octets of the piece were taken before.
     pub used: usize,
 }
 
 impl Framer {
-    /// Takes the whole piece, and puts the frames that become whole behind `frames`, in their order.
+    /// Takes the whole piece, and appends the frames that it completes to `frames`, in their order.
     ///
     /// # Errors
     ///
-    /// The first fault, with the number of octets that were used before, which is fewer than the piece has. The frames before it stand behind
-    /// `frames`, and nothing of the frame that shows it is taken from the piece: after `NoMemory` the octets from there on may be fed again.
-    /// The framer keeps what it kept before the piece where none were used, and else nothing.
+    /// The first fault, with the number of octets taken before it, which is less than the length of the piece. The
+    /// frames before the fault are in `frames`. Nothing of the frame that shows it is taken from the piece, so after
+    /// [`FrameFault::NoMemory`] the octets from there on can be fed again. If no octets were taken, the framer keeps
+    /// what it kept before the piece; otherwise it keeps nothing.
     ///
-    /// Memory is asked for as octets and frames come: the framer for twice the octets, the list for twice the
-    /// frames, whatever sizes the frames' headers tell.
+    /// Memory grows with the octets and frames that arrive, whatever size a frame header announces: the framer's at
+    /// most to twice the octets (or 512 bytes), and the list's to twice the frames (or four).
     pub fn feed_all(&mut self, piece: &[u8], frames: &mut Vec<Frame>) -> Result<(), Stopped>
         ensures fed { FeedsAll self.old.state piece.now frames.old.items result self.new.state frames.new.items }
         ensures room { self.new.room ≤ max self.old.room (max 512 (2 * (length self.old.state.kept + length piece.now))) }
@@ -46,7 +47,6 @@ impl Framer {
         }
     }
 
-    /// Feeds the piece once, and puts the frame that becomes whole behind the others.
     fn feed_front(&mut self, piece: &[u8], frames: &mut Vec<Frame>) -> Result<usize, FrameFault>
         ensures fed { FeedsInto self.old.state piece.now frames.old.items result self.new.state frames.new.items }
         ensures room { self.new.room ≤ max self.old.room (max 512 (2 * (length self.old.state.kept + length piece.now))) }
@@ -69,7 +69,6 @@ impl Framer {
     }
 }
 
-/// Puts the frame behind the others.
 fn push(frames: &mut Vec<Frame>, frame: Frame) -> Result<(), AllocError>
     ensures items { frames.new.items ≡ (if is_ok result then frames.old.items ++ frame ∷ [] else frames.old.items) }
     ensures list { vec_capacity frames.new ≤ max (vec_capacity frames.old) (max 4 (2 * length frames.new.items)) }
@@ -86,7 +85,7 @@ fn push(frames: &mut Vec<Frame>, frame: Frame) -> Result<(), AllocError>
     }
 }
 
-/// Makes room for one frame more: where the list is full, for twice as many, and for four at least.
+/// Doubles the capacity of a full list, so that appending is amortised, with at least four places.
 fn make_place(frames: &mut Vec<Frame>) -> Result<(), AllocError>
     ensures items { frames.new.items ≡ frames.old.items }
     ensures len { vec_len frames.new ≡ vec_len frames.old }

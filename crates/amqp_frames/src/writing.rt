@@ -1,4 +1,4 @@
-//! Writing fields and composite types behind octets. On an error some of what was to be written may stand there.
+//! Appends fields and composite types to octets. After an error a part of them may have been appended.
 ghost use Rattle.std.specs.Prelude.{◌≡◌, Some, None, OnOk};
 ghost use Rattle.amqp_types.specs.Canon.{canon, part_form, parts_form};
 ghost use Rattle.amqp_types.specs.Datum.{count_of};
@@ -19,7 +19,7 @@ use amqp_types::{
     write_uint, write_ulong, write_ushort,
 };
 
-/// Writes the field, nested at most `depth` deep; an absent one as null.
+/// Writes the field, nested at most `depth` deep; an absent field is written as null.
 #[cycle(writing)]
 fn put_field(field: &Field<'_>, depth: u8, out: &mut Vec<u8>) -> Result<(), WriteFault>
     ensures { OnOk result (added out.old.items (part_form None (canonical (part_at field.now))) ≡ Some out.new.items) }
@@ -41,7 +41,7 @@ fn put_field(field: &Field<'_>, depth: u8, out: &mut Vec<u8>) -> Result<(), Writ
     }
 }
 
-/// Writes the symbol; this and the next out of line, so that the common fields are written without what these need.
+/// Out of line, as are `put_map` and `put_any`: the common fields are then written without the work that these need.
 #[inline(never)]
 fn put_symbol(text: &str, out: &mut Vec<u8>) -> Result<(), WriteFault>
     ensures { OnOk result (added out.old.items (part_form None (canonical (symbol text.now))) ≡ Some out.new.items) }
@@ -86,7 +86,6 @@ fn put_state(reached: &DeliveryState, depth: u8, out: &mut Vec<u8>) -> Result<()
     }
 }
 
-/// Writes a described list of the fields.
 #[cycle(writing)]
 fn put_composite(
     composite: Composite,
@@ -105,7 +104,6 @@ fn put_composite(
     }
 }
 
-/// Writes a described list of the fields, each nested at most `depth` deep, whose measure is known.
 #[cycle(writing)]
 fn put_described(
     composite: Composite,
@@ -122,7 +120,7 @@ fn put_described(
     put_fields(fields, measure.count as usize, depth, out)
 }
 
-/// Writes the described list of a performative's fields, whose measure is known.
+/// Appends the described list of a performative's fields, whose measure is known.
 pub(crate) fn put_list(
     composite: Composite,
     fields: &[Field<'_>],
@@ -135,7 +133,7 @@ pub(crate) fn put_list(
     put_described(composite, fields, list, FIELD_DEPTH, out)
 }
 
-/// Writes so many of the fields, those up to the last that is present.
+/// Writes the first `count` fields: absent fields at the end of a list are not written (part 1, 1.4).
 #[cycle(writing)]
 fn put_fields(
     fields: &[Field<'_>],

@@ -1,4 +1,4 @@
-//! Writing a frame.
+//! Writes a frame.
 ghost use Rattle.std.specs.Prelude.{◌≡◌, ◌++◌, Some, IfOk, OnOk};
 ghost use Rattle.amqp_types.specs.Canon.{canon};
 ghost use Rattle.amqp_performatives.specs.Part.{canonical};
@@ -17,15 +17,18 @@ use amqp_types::WriteFault;
 use bytes::Bytes;
 use std::alloc::{AllocError, Global};
 
-/// Writes the frame: its size, the data offset 2, the type 0, the channel, the canonical spelling of the performative without absent fields at
-/// the end, and the payload (OASIS AMQP 1.0, part 2, 2.3).
+/// Returns the octets of the frame (part 2, 2.3).
 ///
-/// The size is known before memory is asked for, and the octets are written once, into room for just as many.
+/// They are the size, the data offset 2, the type 0, the channel, the canonical encoding of the performative without
+/// absent fields at the end, and the payload. The size is computed first, and the octets are written once, into memory
+/// of exactly that size.
 ///
 /// # Errors
 ///
-/// In this order: `NotWritable` where a field holds what no reader would find there, a payload stands without a transfer, a value has no spelling,
-/// or the size would not fit 32 bits; `FrameTooBig` where the frame is longer than `max` octets; `NoMemory`.
+/// In this order: [`FrameRefusal::NotWritable`] if a field holds a value that no reader would find there, a payload
+/// comes without a transfer, a value has no encoding, or the size does not fit 32 bits;
+/// [`FrameRefusal::FrameTooBig`] if the frame is longer than `max` octets; [`FrameRefusal::NoMemory`] if memory runs
+/// out.
 pub fn write_frame(alloc: Global, frame: &Frame, max: u32) -> Result<Bytes, FrameRefusal>
     ensures { Answers result (write_answer frame.now max) }
 {
@@ -38,11 +41,13 @@ pub fn write_frame(alloc: Global, frame: &Frame, max: u32) -> Result<Bytes, Fram
     }
 }
 
-/// Writes a frame whose measure is known, as `write_frame` does, into room for just as many octets.
+/// Returns the octets of a frame that [`measure_frame`] has measured, as [`write_frame`] does.
+///
+/// `measured` must be the measure of this frame.
 ///
 /// # Errors
 ///
-/// Memory was refused.
+/// [`AllocError`] if memory runs out.
 pub fn write_measured(alloc: Global, frame: &Frame, measured: Measured) -> Result<Bytes, AllocError>
     requires { IsMeasureOf frame.now measured }
     ensures { IfOk result (λ octets. frame_octets frame.now ≡ Some octets) }
@@ -54,12 +59,12 @@ pub fn write_measured(alloc: Global, frame: &Frame, measured: Measured) -> Resul
     }
 }
 
-/// A written frame is a frame of its octets.
+/// Proves that the octets of a written frame encode that frame. It does nothing at run time.
 pub fn written_is_framed()
     ensures { WrittenIsFramed }
 {}
 
-/// Writes the frame behind the octets that are there. On an error some of it may stand there.
+/// Appends the frame to the octets. After an error a part of it may have been appended.
 pub(crate) fn put_frame(
     frame: &Frame,
     measured: Measured,
@@ -86,7 +91,6 @@ fn put_header(size: u32, channel: u16, out: &mut Vec<u8>) -> Result<(), WriteFau
     Ok(())
 }
 
-/// The performative and the payload.
 fn put_contents(
     performative: &Performative,
     list: Measure,
@@ -102,7 +106,6 @@ fn put_contents(
     Ok(())
 }
 
-/// The octets, without a copy.
 fn finish(out: Vec<u8>) -> Result<Bytes, AllocError>
     ensures { IfOk result (λ octets. octets ≡ out.items) }
 {

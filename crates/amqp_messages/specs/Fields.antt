@@ -1,4 +1,4 @@
--- The fields of a list, read one after the other from its values.
+-- The fields of a composite type, read one after the other from the values of a list.
 use Rattle.std.specs.Prelude.{ℕ, zero, ℤ, ◌≡◌, Bool, true, false, not, Option, Some, None, if◌then◌else◌, List}
 use Rattle.std.specs.Borrow.{Bor}
 use Rattle.amqp_types.specs.declared.class.Kind.TheVariants as Kind
@@ -14,7 +14,7 @@ use Rattle.amqp_performatives.specs.Fair.{is_null, where_present}
 abbrev pub timestamp : ℤ → Part
 timestamp z = value (number Kind.Timestamp (twos 64 z))
 
--- ---- fields that are lent
+-- ---- borrowed fields
 
 abbrev pub lent_string : Option (Bor (List ℕ)) → Part
 lent_string text = optional (λ t. string t.now) text
@@ -72,18 +72,18 @@ is_mapping _ = false
 abbrev pub is_present : Datum → Bool
 is_present d = not (is_null d)
 
--- a field that is null is absent; nothing is there where it is of another type
+-- the field that a value spells: null is absent; None if the value has another type
 abbrev pub field_in : (Datum → Bool) → Datum → Option Part
 field_in test (number Kind.Null zero) = Some absent
 field_in test d = if test d then Some (value d) else None
 
--- absent, or such a value
+-- the part is absent, or a value that passes the test
 abbrev pub IsOf : (Datum → Bool) → Part → Type 0
 IsOf test absent = Unit {0}
 IsOf test (value d) = test d ≡ true
 IsOf test (composite type fs) = ⊥
 
--- the first of the fields is this part, and these values are the others
+-- the first field is this part, and the other fields are these values
 pub record Taken (test : Datum → Bool) (ds : Data) (p : Part) (rest : Data) : Type 0 where
   pub of : IsOf test p
   pub there : (fs : Fields) → FitInOrder fs rest → FitInOrder (p ▸ fs) ds

@@ -1,4 +1,4 @@
--- The fields of header and properties, in their order (part 3, 3.2.1 and 3.2.4).
+-- The fields of the header and properties sections, in order (part 3, 3.2.1 and 3.2.4).
 use Rattle.std.specs.Prelude.{IsTrue}
 use Rattle.amqp_performatives.specs.Part.{Fields, no_field}
 use Rattle.amqp_performatives.specs.Bodies.{boolean, ubyte, uint, optional, ◌▸◌}

@@ -1,4 +1,4 @@
--- A section that is found where it lies, before any memory is asked for.
+-- A section that is found in the octets before any memory is allocated.
 use Rattle.std.specs.Prelude.{ℕ, ◌≤◌, ◌-◌, Bool, true, false, List, length, take, drop}
 use Rattle.amqp_types.specs.declared.class.Class.{Class}
 use Rattle.amqp_types.specs.declared.class.Run.TheVariants as Run
@@ -35,7 +35,7 @@ begins AmqpSequence c = of_lists c
 begins AmqpValue c = true
 begins Footer c = of_maps c
 
--- in front of the octets is a section of this kind whose body lies between these places, with nothing behind it
+-- the octets begin with a section of this kind: its body lies between these offsets, and the section ends with it
 pub record IsFound (os : List ℕ) (place : Place) : Type 0 where
   pub order : place.start ≤ place.end
   pub within : place.end ≤ length os

@@ -4,17 +4,17 @@
 pub mod Sections
 -- the order of sections, and which octets spell a message
 pub mod Messages
--- which octets are written of a message
+-- which octets are written for a message
 pub mod Written
 -- the fields of header and properties
 pub mod Headers
 -- source and target
 pub mod Termini
--- the types of these fields, of which the words for private functions need no belief
+-- the types of these fields; the definitions for private functions in it need no belief
 pub mod Fields
--- # What only private functions and proofs speak of: nothing here needs belief
+-- # What only private functions and proofs use: nothing here needs belief
 
--- a data section that is left where it lies
+-- a section that is found in the octets without copying it
 pub mod InPlace
--- fields that are to be written, lent
+-- borrowed fields that are to be written
 pub mod Lending

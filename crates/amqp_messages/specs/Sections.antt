@@ -11,7 +11,7 @@ use Rattle.amqp_messages.specs.declared.section.Section.{Section}
 use Rattle.amqp_messages.specs.declared.fault.SectionFault.{SectionFault}
 use Rattle.amqp_messages.specs.declared.fault.SectionFault.TheVariants as fault
 
--- the number and the name of its descriptor
+-- the number and the name of the descriptor of this kind
 abbrev pub type_of : SectionKind → ℕ × List ℕ
 type_of Header = (0x70, codes "amqp:header:list")
 type_of DeliveryAnnotations = (0x71, codes "amqp:delivery-annotations:map")
@@ -39,7 +39,7 @@ abbrev pub is_binary : Datum → Bool
 is_binary (octets Run.Binary os) = true
 is_binary _ = false
 
--- whether the value can be the body of such a section
+-- whether the value can be the body of a section of this kind
 abbrev pub is_body : SectionKind → Datum → Bool
 is_body Header v = is_list v
 is_body DeliveryAnnotations v = is_map v
@@ -58,18 +58,19 @@ SectionData = SectionKind × Datum
 abbrev pub seen : Section → SectionKind × Datum
 seen s = (s.kind, view s.body)
 
--- the octets spell a section of this kind with this body, in any of the spellings that a described value has
+-- the octets spell a section of this kind with this body, in any spelling that a described value has
 pub record IsSection (s : SectionKind × Datum) (x : List ℕ) : Type 0 where
   pub formed : IsTrue (is_body s.0 s.1)
   pub descriptor : Datum
   pub named : IsDescriptor (type_of s.0) descriptor
   pub spelled : Spells (described descriptor s.1) x
 
--- no front of the octets spells a section
+-- no prefix of the octets spells a section
 abbrev pub HasNoSection : List ℕ → Type 0
 HasNoSection os = (s : SectionKind × Datum) (x rest : List ℕ) → IsSection s x → os ≡ x ++ rest → ⊥
 
--- what is answered of the section in front of the octets: it and how many octets spell it; that none is there; or that one is, and memory ran out
+-- what reading the section at the front of the octets returns: the section and its length in octets; NoSection if no
+-- section is there; NoMemory only if one is
 abbrev pub ReadsSection : List ℕ → Result (Section × ℕ) SectionFault → Type 0
 ReadsSection os (Ok found) = (found.1 ≤ length os) × IsSection (seen found.0) (take found.1 os)
 ReadsSection os (Err fault.NoSection) = HasNoSection os

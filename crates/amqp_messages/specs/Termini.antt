@@ -1,4 +1,4 @@
--- The ends of a link: source and target (part 3, 3.5.3 and 3.5.4).
+-- The termini of a link: source and target (part 3, 3.5.3 and 3.5.4).
 use Rattle.std.specs.Prelude.{ℕ, ◌≡◌, IsTrue, Option, Some, None, List, codes}
 use Rattle.amqp_types.specs.declared.class.Kind.TheVariants as Kind
 use Rattle.amqp_types.specs.Datum.{Datum, number, list, described, Data}
@@ -8,7 +8,7 @@ use Rattle.amqp_messages.specs.declared.terminus.Source.{Source}
 use Rattle.amqp_messages.specs.declared.terminus.Target.{Target}
 use Rattle.amqp_messages.specs.Fields.{lent_symbol, lent_mapping, lent_any, where_lent}
 
--- the number and the name of its descriptor
+-- the number and the name of the descriptor
 abbrev pub source_type : ℕ × List ℕ
 source_type = (0x28, codes "amqp:source:list")
 

@@ -1,4 +1,7 @@
-//! The fields of a list, read one after the other from its values (part 1, 1.4): lent, without memory. A field that is null or left off is absent.
+//! Readers for the fields of a composite type, which take them one after the other from a list's values (part 1, 1.4).
+//!
+//! Each reader returns the first field and the values after it, or `None` if the first value has another type. A field
+//! that is null or left off is absent. Fields are borrowed from the values, so that nothing is allocated.
 ghost use Rattle.std.specs.Prelude.{◌≡◌, ◌↔◌, IsTrue, option_map};
 ghost use Rattle.amqp_types.specs.View.{view, views};
 ghost use Rattle.amqp_performatives.specs.Part.{no_field, null, FitInOrder};
@@ -7,7 +10,7 @@ ghost use Rattle.amqp_messages.specs.Fields.{timestamp, lent_string, lent_symbol
 
 use amqp_types::Value;
 
-/// Whether each value is null, as those are past the last field.
+/// Returns true if each of the values is null, as values past the last field must be.
 pub(crate) fn are_null(items: &[Value]) -> bool
     ensures { IsTrue result ↔ FitInOrder no_field (views items.now) }
 {
@@ -38,7 +41,7 @@ fn boolean_of(value: &Value) -> Option<Option<bool>>
     }
 }
 
-/// A boolean, and the fields behind it.
+/// Reads a boolean field and returns it with the values after it.
 pub(crate) fn boolean(items: &[Value]) -> Option<(Option<bool>, &[Value])>
     ensures { TakesField is_boolean (views items.now) (option_map (λ x. (optional boolean x.0, views x.1.now)) result) }
 {
@@ -61,7 +64,7 @@ fn ubyte_of(value: &Value) -> Option<Option<u8>>
     }
 }
 
-/// A ubyte, and the fields behind it.
+/// Reads a ubyte field and returns it with the values after it.
 pub(crate) fn ubyte(items: &[Value]) -> Option<(Option<u8>, &[Value])>
     ensures { TakesField is_ubyte (views items.now) (option_map (λ x. (optional ubyte x.0, views x.1.now)) result) }
 {
@@ -84,7 +87,7 @@ fn uint_of(value: &Value) -> Option<Option<u32>>
     }
 }
 
-/// A uint, and the fields behind it.
+/// Reads a uint field and returns it with the values after it.
 pub(crate) fn uint(items: &[Value]) -> Option<(Option<u32>, &[Value])>
     ensures { TakesField is_uint (views items.now) (option_map (λ x. (optional uint x.0, views x.1.now)) result) }
 {
@@ -107,7 +110,7 @@ fn timestamp_of(value: &Value) -> Option<Option<i64>>
     }
 }
 
-/// A timestamp, and the fields behind it.
+/// Reads a timestamp field and returns it with the values after it.
 pub(crate) fn timestamp(items: &[Value]) -> Option<(Option<i64>, &[Value])>
     ensures { TakesField is_timestamp (views items.now) (option_map (λ x. (optional timestamp x.0, views x.1.now)) result) }
 {
@@ -130,7 +133,7 @@ fn string_of(value: &Value) -> Option<Option<&str>>
     }
 }
 
-/// A string, and the fields behind it.
+/// Reads a string field and returns it with the values after it.
 pub(crate) fn string(items: &[Value]) -> Option<(Option<&str>, &[Value])>
     ensures { TakesField is_string (views items.now) (option_map (λ x. (lent_string x.0, views x.1.now)) result) }
 {
@@ -153,7 +156,7 @@ fn symbol_of(value: &Value) -> Option<Option<&str>>
     }
 }
 
-/// A symbol, and the fields behind it.
+/// Reads a symbol field and returns it with the values after it.
 pub(crate) fn symbol(items: &[Value]) -> Option<(Option<&str>, &[Value])>
     ensures { TakesField is_symbol (views items.now) (option_map (λ x. (lent_symbol x.0, views x.1.now)) result) }
 {
@@ -176,7 +179,7 @@ fn binary_of(value: &Value) -> Option<Option<&[u8]>>
     }
 }
 
-/// A binary, and the fields behind it.
+/// Reads a binary field and returns it with the values after it.
 pub(crate) fn binary(items: &[Value]) -> Option<(Option<&[u8]>, &[Value])>
     ensures { TakesField is_binary (views items.now) (option_map (λ x. (lent_binary x.0, views x.1.now)) result) }
 {
@@ -199,7 +202,7 @@ fn mapping_of(value: &Value) -> Option<Option<&[(Value, Value)]>>
     }
 }
 
-/// A map, and the fields behind it.
+/// Reads a map field and returns it with the values after it.
 pub(crate) fn mapping(items: &[Value]) -> Option<(Option<&[(Value, Value)]>, &[Value])>
     ensures { TakesField is_mapping (views items.now) (option_map (λ x. (lent_mapping x.0, views x.1.now)) result) }
 {
@@ -221,7 +224,7 @@ fn any_of(value: &Value) -> Option<Option<&Value>>
     }
 }
 
-/// A value of any type, and the fields behind it.
+/// Reads a field of any type and returns it with the values after it. Never returns `None`.
 pub(crate) fn any(items: &[Value]) -> Option<(Option<&Value>, &[Value])>
     ensures { TakesField is_present (views items.now) (option_map (λ x. (lent_any x.0, views x.1.now)) result) }
 {

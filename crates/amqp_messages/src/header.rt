@@ -1,4 +1,4 @@
-//! The header of a message.
+//! The header section of a message by its fields.
 ghost use Rattle.std.specs.Prelude.{◌≡◌, MatchOption, IfOk};
 ghost use Rattle.amqp_types.specs.Datum.{list};
 ghost use Rattle.amqp_types.specs.View.{views};
@@ -14,24 +14,26 @@ use crate::section::Section;
 use amqp_types::Value;
 use std::alloc::{AllocError, Global};
 
-/// How a message is to be carried (part 3, 3.2.1). No default is filled in.
+/// The fields of a header section (part 3, 3.2.1). An absent field is `None`: the default is not filled in.
 #[derive(Clone, Copy, Debug, PartialEq, Eq)]
 pub struct Header {
-    /// False where absent.
+    /// Whether the message is durable. The default is false.
     pub durable: Option<bool>,
-    /// 4 where absent.
+    /// The priority; a higher number is more urgent. The default is 4.
     pub priority: Option<u8>,
-    /// In milliseconds.
+    /// The time to live, in milliseconds.
     pub ttl: Option<u32>,
-    /// False where absent.
+    /// Whether no other link acquired the message before. The default is false.
     pub first_acquirer: Option<bool>,
-    /// 0 where absent.
+    /// The number of earlier delivery attempts that failed. The default is 0.
     pub delivery_count: Option<u32>,
 }
 
 impl Header {
-    /// The header whose fields these values are, as a header section's list has them; None exactly where they are no header's. Fields may be left
-    /// off at the end.
+    /// Reads a header from the values of a header section's list.
+    ///
+    /// Fields may be null, and fields at the end may be left off. Returns `None` exactly if the values are not
+    /// the fields of a header: a field has another type, or a value that is not null follows the last field.
     pub fn read(items: &[Value]) -> Option<Header>
         ensures { MatchOption result ((h : Header) → FitInOrder (header_fields h) (views items.now) → ⊥) (λ h. FitInOrder (header_fields h) (views items.now)) }
     {
@@ -52,7 +54,11 @@ impl Header {
         })
     }
 
-    /// The section that has these fields.
+    /// Returns the header section that has these fields. An absent field is null, or left off at the end.
+    ///
+    /// # Errors
+    ///
+    /// [`AllocError`] if memory runs out.
     pub fn to_section(&self, alloc: Global) -> Result<Section, AllocError>
         ensures { IfOk result (λ section. seen section ≡ (SectionKind.Header, list (canonical_fields (header_fields self.now)))) }
     {

@@ -1,4 +1,4 @@
-//! The kinds of sections that a message has.
+//! The kinds of sections and their descriptors.
 ghost use Rattle.std.specs.Prelude.{◌≡◌, ◌↔◌, IsTrue, MatchOption};
 ghost use Rattle.amqp_types.specs.Heads.{datum_of};
 ghost use Rattle.amqp_types.specs.View.{view};
@@ -7,7 +7,7 @@ ghost use Rattle.amqp_messages.specs.Sections.{type_of, is_body, NamesNone};
 
 use amqp_types::{Descriptor, Value};
 
-/// A kind of section (part 3, 3.2.1 to 3.2.9), in the order in which they stand.
+/// The kind of a section (part 3, 3.2.1 to 3.2.9). The variants are in the order of the sections in a message.
 #[derive(Clone, Copy, Debug, PartialEq, Eq)]
 pub enum SectionKind {
     Header,
@@ -22,7 +22,7 @@ pub enum SectionKind {
 }
 
 impl SectionKind {
-    /// The number of its descriptor, a ulong.
+    /// Returns the numeric code of the descriptor, which is written as a ulong.
     pub fn number(self) -> u8
         ensures { result ≡ (type_of self).0 }
     {
@@ -39,7 +39,7 @@ impl SectionKind {
         }
     }
 
-    /// The name of its descriptor, a symbol.
+    /// Returns the symbolic name of the descriptor.
     pub fn name(self) -> &'static str
         ensures { result.now ≡ (type_of self).1 }
     {
@@ -56,7 +56,7 @@ impl SectionKind {
         }
     }
 
-    /// Whether the descriptor is that of the kind: its number or its name.
+    /// Returns true if the descriptor is the number or the name of this kind.
     pub(crate) fn is_named(self, descriptor: Descriptor<'_>) -> bool
         ensures { IsTrue result ↔ IsDescriptor (type_of self) (datum_of descriptor.entry) }
     {
@@ -66,7 +66,7 @@ impl SectionKind {
         }
     }
 
-    /// The kind that the descriptor names.
+    /// Returns the kind that has the descriptor as its number or name, or `None` if there is none.
     pub fn named(descriptor: Descriptor<'_>) -> Option<SectionKind>
         ensures { MatchOption result (NamesNone (datum_of descriptor.entry)) (λ kind. IsDescriptor (type_of kind) (datum_of descriptor.entry)) }
     {
@@ -100,7 +100,7 @@ impl SectionKind {
         None
     }
 
-    /// Whether the value can be the body of such a section.
+    /// Returns true if `body` has the type that this kind requires. The types of the values in it are not checked.
     pub fn takes(self, body: &Value) -> bool
         ensures { result ≡ is_body self (view body.now) }
     {

@@ -1,4 +1,4 @@
-//! Fields that are to be written, lent, and the values that they are written as (part 1, 1.4).
+//! Borrowed fields of a composite type and the list of values that they are written as (part 1, 1.4).
 ghost use Rattle.std.specs.Prelude.{◌≡◌, ◌↔◌, [], IsTrue, IfOk, OnOk, reverse};
 ghost use Rattle.amqp_types.specs.View.{view, views};
 ghost use Rattle.amqp_performatives.specs.Part.{Fields, FitInOrder, absent, shown, canonical, canonical_fields};
@@ -10,7 +10,7 @@ use amqp_types::{Items, Text, Value};
 use bytes::Bytes;
 use std::alloc::{AllocError, Global};
 
-/// A field.
+/// A field to be written, which borrows its content.
 #[derive(Clone, Copy)]
 pub(crate) enum Lent<'a> {
     Absent,
@@ -118,7 +118,6 @@ fn pairs_of(alloc: Global, pairs: &[(Value, Value)]) -> Result<Items<(Value, Val
     Ok(Items { items: copies })
 }
 
-/// A field as a value.
 fn value_of(alloc: Global, field: &Lent<'_>) -> Result<Value, AllocError>
     ensures { IfOk result (λ value. view value ≡ canonical (part_of field.now)) }
 {
@@ -145,14 +144,14 @@ fn is_absent(field: &Lent<'_>) -> bool
     }
 }
 
-/// Whether the field is left off in front of these.
+// A null at the end of a list may be left off, and the canonical spelling leaves it off.
 fn is_left_off(field: &Lent<'_>, behind: &[Value]) -> bool
     ensures { IsTrue result ↔ ((behind.now ≡ []) × (part_of field.now ≡ absent)) }
 {
     behind.is_empty() && is_absent(field)
 }
 
-/// Puts a field in front of others, which stand in reverse order.
+// Fields are put from last to first, because an absent field is left off only if no field after it is written.
 fn put_field(alloc: Global, field: &Lent<'_>, values: &mut Vec<Value>) -> Result<(), AllocError>
     ensures { OnOk result (views (reverse values.new.items) ≡ shown (part_of field.now) (canonical (part_of field.now)) (views (reverse values.old.items))) }
 {
@@ -164,7 +163,7 @@ fn put_field(alloc: Global, field: &Lent<'_>, values: &mut Vec<Value>) -> Result
     Ok(())
 }
 
-/// The fields as a list: null for one that is absent, and those at the end that are absent left off.
+/// Returns the list of the fields' values, copied. An absent field is null, or left off at the end.
 pub(crate) fn list_of(alloc: Global, fields: &[Lent<'_>]) -> Result<Items<Value>, AllocError>
     ensures { IfOk result (λ items. views items ≡ canonical_fields (fields_at fields.now)) }
 {
@@ -176,7 +175,10 @@ pub(crate) fn list_of(alloc: Global, fields: &[Lent<'_>]) -> Result<Items<Value>
     Ok(Items { items: values })
 }
 
-/// Fields that are built (`to_section`, `to_value`) are found when they are read: `read` answers none only of values that no fields fit.
+/// States that the values built from fields (`to_section`, `to_value`) fit these fields.
+///
+/// `read` returns `None` only if no fields fit the values, so it accepts values that were built. This is a law for
+/// proofs: a call does nothing.
 pub fn built_fields_fit()
     ensures { (fs : Fields) → FitInOrder fs (canonical_fields fs) }
 {}

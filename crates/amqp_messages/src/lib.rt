@@ -1,6 +1,7 @@
-//! Messages of AMQP 1.0, read and written, and the ends of links (OASIS AMQP 1.0, part 3, sections 3.2 and 3.5).
+//! Reads and writes messages, link sources and link targets (OASIS AMQP 1.0, part 3, sections 3.2 and 3.5).
 //!
-//! A message is the octets that a delivery's transfers carry, one after the other: sections, each a described value, in one order.
+//! The payloads of a delivery's transfers, joined, are one message. A message is a sequence of sections in a fixed
+//! order, and each section is a described value. The numbers of this table are hexadecimal.
 //!
 //! | section | number | body | how often |
 //! |---|---|---|---|
@@ -14,13 +15,14 @@
 //! | amqp-value | 77 | any value | once |
 //! | footer | 78 | a map | once at most |
 //!
-//! - [`Section`], [`SectionKind`]: a section, and the table of their kinds
-//! - [`read_section`]: the section in front of octets; a data section's payload stays where it is
-//! - [`Message`], [`read_message`]: a whole message, its sections in their order
-//! - [`Header`], [`Properties`]: the fields of these sections by name, lent, and the sections that are built of them
-//! - [`Source`], [`Target`]: the ends of a link by their fields, lent, and the values that an attach carries of them
-//! - [`built_fields_fit`]: what is built of fields is read as fields
-//! - [`write_message`], [`message_size`], [`message_read_back`]: messages written in their canonical spelling, which is read back
+//! - [`Section`], [`SectionKind`]: a section and its kind
+//! - [`read_section`]: reads one section, without copying the payload of a data section
+//! - [`Message`], [`read_message`]: a whole message, and the function that reads it
+//! - [`Header`], [`Properties`]: the fields of these sections by name, to read and to build the sections
+//! - [`Source`], [`Target`]: the fields of a link's termini by name, to read and to build the values of an attach
+//! - [`built_fields_fit`]: the law that values built from fields are read as fields
+//! - [`write_message`], [`message_size`]: write a message in its canonical spelling, and compute its size
+//! - [`message_read_back`]: the law that a written message is read back
 #![tactic(auto)]
 
 mod fault;

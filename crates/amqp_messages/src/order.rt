@@ -1,4 +1,4 @@
-//! The order of a message's sections.
+//! The order of a message's sections (part 3, 3.2).
 ghost use Rattle.std.specs.Prelude.{◌≡◌, MatchResult};
 ghost use Rattle.amqp_messages.specs.Messages.{rank, repeats, may_follow, is_of_body, IsSome, Refuses};
 
@@ -6,7 +6,7 @@ use crate::fault::MessageFault;
 use crate::kind::SectionKind;
 use crate::section::find_section;
 
-/// The place of a kind in a message: data, amqp-sequence and amqp-value have one place.
+// Data, amqp-sequence and amqp-value share a rank, because a message has only one of these kinds.
 fn rank(kind: SectionKind) -> u8
     ensures { result ≡ rank kind }
 {
@@ -21,7 +21,7 @@ fn rank(kind: SectionKind) -> u8
     }
 }
 
-/// Whether a section of the kind may stand behind one of its own kind.
+// A body may be several data sections or several amqp-sequence sections; every other section comes once at most.
 fn repeats(before: SectionKind, kind: SectionKind) -> bool
     ensures { result ≡ repeats before kind }
 {
@@ -32,7 +32,7 @@ fn repeats(before: SectionKind, kind: SectionKind) -> bool
     }
 }
 
-/// Whether a section of the kind may stand behind one of the last kind, or first of all.
+/// Returns true if a section of this kind may follow one of kind `last`. `None` means that the section is the first.
 pub(crate) fn may_follow(last: Option<SectionKind>, kind: SectionKind) -> bool
     ensures { result ≡ may_follow last kind }
 {
@@ -42,7 +42,6 @@ pub(crate) fn may_follow(last: Option<SectionKind>, kind: SectionKind) -> bool
     }
 }
 
-/// Whether a section of the kind is part of the body.
 pub(crate) fn is_of_body(kind: SectionKind) -> bool
     ensures { result ≡ is_of_body kind }
 {
@@ -52,7 +51,7 @@ pub(crate) fn is_of_body(kind: SectionKind) -> bool
     }
 }
 
-/// Goes over the sections that the octets spell, without memory.
+/// Checks that the octets spell a message, in one pass and without allocating. Never returns `NoMemory`.
 pub(crate) fn check_octets(octets: &[u8]) -> Result<(), MessageFault>
     ensures { MatchResult result (λ _. IsSome octets.now) (λ fault. Refuses octets.now fault) }
 {

@@ -1,4 +1,4 @@
-//! The properties of a message.
+//! The properties section of a message by its fields.
 ghost use Rattle.std.specs.Prelude.{◌≡◌, MatchOption, IfOk};
 ghost use Rattle.amqp_types.specs.Datum.{list};
 ghost use Rattle.amqp_types.specs.View.{views};
@@ -14,31 +14,40 @@ use crate::section::Section;
 use amqp_types::Value;
 use std::alloc::{AllocError, Global};
 
-/// What the sender says of a message (part 3, 3.2.4), lent. Of an identifier and an address the type is not looked at.
+/// The fields of a properties section, borrowed (part 3, 3.2.4).
+///
+/// A field that is absent is `None`. The types of identifiers (`message_id`, `correlation_id`) and addresses (`to`,
+/// `reply_to`) are not checked.
 #[derive(Clone, Copy, Debug)]
 pub struct Properties<'a> {
-    /// A ulong, a uuid, a binary or a string (part 3, 3.2.11 to 3.2.14).
+    /// The identifier of the message: a ulong, a uuid, a binary or a string (part 3, 3.2.11 to 3.2.14).
     pub message_id: Option<&'a Value>,
+    /// The identity of the user who created the message.
     pub user_id: Option<&'a [u8]>,
-    /// A string, as addresses are (part 3, 3.2.15).
+    /// The address of the node that the message is for: a string (part 3, 3.2.15).
     pub to: Option<&'a Value>,
     pub subject: Option<&'a str>,
+    /// The address of the node that replies are for: a string (part 3, 3.2.15).
     pub reply_to: Option<&'a Value>,
+    /// The identifier that relates this message to another: a ulong, a uuid, a binary or a string.
     pub correlation_id: Option<&'a Value>,
     pub content_type: Option<&'a str>,
     pub content_encoding: Option<&'a str>,
-    /// In milliseconds since the Unix epoch.
+    /// The time when the message expires, in milliseconds since the Unix epoch.
     pub absolute_expiry_time: Option<i64>,
-    /// In milliseconds since the Unix epoch.
+    /// The time when the message was created, in milliseconds since the Unix epoch.
     pub creation_time: Option<i64>,
     pub group_id: Option<&'a str>,
     pub group_sequence: Option<u32>,
+    /// The group that replies belong to.
     pub reply_to_group_id: Option<&'a str>,
 }
 
 impl<'a> Properties<'a> {
-    /// The properties whose fields these values are, as a properties section's list has them; None exactly where they are none's. Fields may be
-    /// left off at the end.
+    /// Reads properties from the values of a properties section's list. Does not copy them.
+    ///
+    /// Fields may be null, and fields at the end may be left off. Returns `None` exactly if the values are not
+    /// the fields of properties: a field has another type, or a value that is not null follows the last field.
     pub fn read(items: &'a [Value]) -> Option<Properties<'a>>
         ensures { MatchOption result ((p : Properties) → IsFairProperties p → FitInOrder (properties_fields p) (views items.now) → ⊥) (λ p. IsFairProperties p × FitInOrder (properties_fields p) (views items.now)) }
     {
@@ -75,7 +84,12 @@ impl<'a> Properties<'a> {
         })
     }
 
-    /// The section that has these fields.
+    /// Returns the properties section that has these fields, which are copied. An absent field is null, or left off
+    /// at the end.
+    ///
+    /// # Errors
+    ///
+    /// [`AllocError`] if memory runs out.
     pub fn to_section(&self, alloc: Global) -> Result<Section, AllocError>
         ensures { IfOk result (λ section. seen section ≡ (SectionKind.Properties, list (canonical_fields (properties_fields self.now)))) }
     {

@@ -1,4 +1,4 @@
-//! One section, read where it lies.
+//! Sections and how one is read.
 ghost use Rattle.std.specs.Prelude.{◌≡◌, ◌≤◌, ◌-◌, length, take, drop, IfOk, MatchOption};
 ghost use Rattle.amqp_types.specs.Codes.{class_of};
 ghost use Rattle.amqp_types.specs.Datum.{Datum};
@@ -15,15 +15,15 @@ use amqp_types::{
 use bytes::Bytes;
 use std::alloc::{AllocError, Global};
 
-/// A section of a message (part 3, 3.2): its kind and the value that it describes.
+/// A section of a message: its kind and its body (part 3, 3.2).
 #[derive(Debug, PartialEq, Eq, Drop)]
 pub struct Section {
     pub kind: SectionKind,
-    /// A list, a map, a binary or any value, as the kind asks.
+    /// The described value: a list, a map, a binary or any value, as [`SectionKind::takes`] says.
     pub body: Value,
 }
 
-/// Whether a body of the kind may begin with the format code.
+// The format code alone shows whether the body has the right type, so that a wrong one is refused without reading it.
 fn begins(kind: SectionKind, code: u8) -> bool
     ensures { result ≡ begins kind (class_of code) }
 {
@@ -46,17 +46,17 @@ fn begins(kind: SectionKind, code: u8) -> bool
     }
 }
 
-/// Where a section lies that octets begin with.
+/// The position of a section at the front of some octets. Offsets are in octets.
 #[derive(Clone, Copy)]
 pub(crate) struct Place {
     pub(crate) kind: SectionKind,
-    /// Where its body begins.
+    /// The offset of the body.
     pub(crate) start: usize,
-    /// Where its body ends, and the section with it.
+    /// The offset after the body, which is the end of the section.
     pub(crate) end: usize,
 }
 
-/// The section in front of the octets, found without memory.
+/// Finds the section at the front of the octets, without allocating. Returns `None` if no section begins there.
 pub(crate) fn find_section(octets: &[u8]) -> Option<Place>
     ensures { MatchOption result (HasNoSection octets.now) (λ place. IsFound octets.now place) }
 {
@@ -83,7 +83,7 @@ pub(crate) fn find_section(octets: &[u8]) -> Option<Place>
     })
 }
 
-/// The value that octets between two places spell; a binary is a slice of them.
+/// Reads the value between two offsets. A binary is a slice of `octets`; other values are copied.
 pub(crate) fn body_at(
     alloc: Global,
     octets: &Bytes,
@@ -104,10 +104,16 @@ pub(crate) fn body_at(
     }
 }
 
-/// Reads the section that begins at `from`, and how many octets spell it. Others may follow.
+/// Reads the section that begins at offset `from`, and returns it with its length in octets (part 3, 3.2).
 ///
-/// A data section's payload is a slice of the octets; the body of another is copied. Before memory is asked for, one pass over the section says
-/// whether it is one.
+/// `from` must not exceed the length of `octets`; any octets may follow the section. A first pass checks the section
+/// before memory is allocated. The payload of a data section is a slice of `octets`; lists and maps are copied.
+///
+/// # Errors
+///
+/// - [`SectionFault::NoSection`] if no section begins at `from`: for example, the descriptor is unknown, the body has
+///   the wrong type, is incomplete, or is nested more than 31 deep
+/// - [`SectionFault::NoMemory`] if a section begins there but memory runs out
 pub fn read_section(
     alloc: Global,
     octets: &Bytes,

@@ -1,4 +1,4 @@
-//! The ends of a link: where its messages come from, and where they go.
+//! The two termini of a link: its source and its target (part 3, 3.5).
 ghost use Rattle.std.specs.Prelude.{◌≡◌, MatchOption, IfOk, option_map};
 ghost use Rattle.amqp_types.specs.Datum.{described, list};
 ghost use Rattle.amqp_types.specs.View.{view, views};
@@ -12,45 +12,55 @@ use crate::lent::{self, Lent, list_of};
 use amqp_types::{Boxed, Items, Value};
 use std::alloc::{AllocError, Global};
 
-/// Where the messages of a link come from (part 3, 3.5.3), lent. No default is filled in.
+/// The source of a link, from which its messages come, with borrowed fields (part 3, 3.5.3).
+///
+/// A field that is absent is `None`: the standard's default is not filled in. The types of `address`,
+/// `default_outcome`, `outcomes` and `capabilities` are not checked.
 #[derive(Clone, Copy, Debug)]
 pub struct Source<'a> {
-    /// A string, as addresses are (part 3, 3.2.15).
+    /// The address of the node: a string (part 3, 3.2.15).
     pub address: Option<&'a Value>,
-    /// 0 nothing, 1 its configuration, 2 unsettled states as well (part 3, 3.5.5); 0 where absent.
+    /// What is kept durably: 0 nothing (the default), 1 the configuration, 2 unsettled states too (part 3, 3.5.5).
     pub durable: Option<u32>,
-    /// When it goes (part 3, 3.5.6); `session-end` where absent.
+    /// The event after which the terminus expires (part 3, 3.5.6). The default is `session-end`.
     pub expiry_policy: Option<&'a str>,
-    /// In seconds; 0 where absent.
+    /// How long an expiring terminus is kept, in seconds. The default is 0.
     pub timeout: Option<u32>,
-    /// False where absent.
+    /// Whether the peer is asked to create the node. The default is false.
     pub dynamic: Option<bool>,
+    /// The properties of the node to be created (part 3, 3.5.9).
     pub dynamic_node_properties: Option<&'a [(Value, Value)]>,
-    /// `move` or `copy` (part 3, 3.5.7).
+    /// How the messages are distributed: `move` or `copy` (part 3, 3.5.7).
     pub distribution_mode: Option<&'a str>,
+    /// The filters that choose messages (part 3, 3.5.8).
     pub filter: Option<&'a [(Value, Value)]>,
+    /// The outcome of a delivery that is settled without a terminal state.
     pub default_outcome: Option<&'a Value>,
-    /// A symbol, or an array of them.
+    /// The descriptors of the outcomes that may be chosen: a symbol, or an array of symbols.
     pub outcomes: Option<&'a Value>,
-    /// A symbol, or an array of them.
+    /// Extension capabilities: a symbol, or an array of symbols.
     pub capabilities: Option<&'a Value>,
 }
 
-/// Where the messages of a link go (part 3, 3.5.4), lent. No default is filled in.
+/// The target of a link, to which its messages go, with borrowed fields (part 3, 3.5.4).
+///
+/// A field that is absent is `None`: the standard's default is not filled in. The types of `address` and
+/// `capabilities` are not checked.
 #[derive(Clone, Copy, Debug)]
 pub struct Target<'a> {
-    /// A string, as addresses are (part 3, 3.2.15).
+    /// The address of the node: a string (part 3, 3.2.15).
     pub address: Option<&'a Value>,
-    /// 0 nothing, 1 its configuration, 2 unsettled states as well (part 3, 3.5.5); 0 where absent.
+    /// What is kept durably: 0 nothing (the default), 1 the configuration, 2 unsettled states too (part 3, 3.5.5).
     pub durable: Option<u32>,
-    /// When it goes (part 3, 3.5.6); `session-end` where absent.
+    /// The event after which the terminus expires (part 3, 3.5.6). The default is `session-end`.
     pub expiry_policy: Option<&'a str>,
-    /// In seconds; 0 where absent.
+    /// How long an expiring terminus is kept, in seconds. The default is 0.
     pub timeout: Option<u32>,
-    /// False where absent.
+    /// Whether the peer is asked to create the node. The default is false.
     pub dynamic: Option<bool>,
+    /// The properties of the node to be created (part 3, 3.5.9).
     pub dynamic_node_properties: Option<&'a [(Value, Value)]>,
-    /// A symbol, or an array of them.
+    /// Extension capabilities: a symbol, or an array of symbols.
     pub capabilities: Option<&'a Value>,
 }
 
@@ -64,7 +74,6 @@ fn is_descriptor(value: &Value, number: u64, name: &str) -> bool
     }
 }
 
-/// A descriptor and what it describes.
 fn parts_of(value: &Value) -> Option<(&Value, &Value)>
     ensures { option_map (λ x. described (view x.0.now) (view x.1.now)) result ≡ described_in (view value.now) }
 {
@@ -83,7 +92,6 @@ fn items_of(value: &Value) -> Option<&[Value]>
     }
 }
 
-/// A list of these values, described by the number.
 fn described_by(alloc: Global, number: u64, items: Items<Value>) -> Result<Value, AllocError>
     ensures { IfOk result (λ value. view value ≡ described (numbered number) (list (views items))) }
 {
@@ -92,7 +100,6 @@ fn described_by(alloc: Global, number: u64, items: Items<Value>) -> Result<Value
     Ok(Value::Described(descriptor, body))
 }
 
-/// The values of the list that a descriptor of this number or name describes.
 fn fields_of<'a>(value: &'a Value, number: u64, name: &str) -> Option<&'a [Value]>
     ensures { MatchOption result (IsNoList (number, name.now) (view value.now)) (λ items. IsListOf (number, name.now) (view value.now) (views items.now)) }
 {
@@ -109,7 +116,10 @@ fn fields_of<'a>(value: &'a Value, number: u64, name: &str) -> Option<&'a [Value
 }
 
 impl<'a> Source<'a> {
-    /// The source that the value is, as an attach carries it; None exactly where it is none. Fields may be left off at the end.
+    /// Reads a source from the value that an attach carries. Does not copy the fields.
+    ///
+    /// Fields may be null, and fields at the end may be left off. Returns `None` exactly if the value is not a source:
+    /// it is no list with a source's descriptor, a field has another type, or a non-null value follows the last field.
     pub fn read(value: &'a Value) -> Option<Source<'a>>
         ensures { MatchOption result ((s : Source) → IsFairSource s → Fits (source_part s) (view value.now) → ⊥) (λ s. IsFairSource s × Fits (source_part s) (view value.now)) }
     {
@@ -143,7 +153,12 @@ impl<'a> Source<'a> {
         })
     }
 
-    /// The value that has these fields, as an attach carries it.
+    /// Returns the described list that has these fields, as an attach carries it. The fields are copied. An
+    /// absent field is null, or left off at the end.
+    ///
+    /// # Errors
+    ///
+    /// [`AllocError`] if memory runs out.
     pub fn to_value(&self, alloc: Global) -> Result<Value, AllocError>
         ensures { IfOk result (λ value. view value ≡ canonical (source_part self.now)) }
     {
@@ -171,7 +186,10 @@ impl<'a> Source<'a> {
 }
 
 impl<'a> Target<'a> {
-    /// The target that the value is, as an attach carries it; None exactly where it is none. Fields may be left off at the end.
+    /// Reads a target from the value that an attach carries. Does not copy the fields.
+    ///
+    /// Fields may be null, and fields at the end may be left off. Returns `None` exactly if the value is not a target:
+    /// it is no list with a target's descriptor, a field has another type, or a non-null value follows the last field.
     pub fn read(value: &'a Value) -> Option<Target<'a>>
         ensures { MatchOption result ((t : Target) → IsFairTarget t → Fits (target_part t) (view value.now) → ⊥) (λ t. IsFairTarget t × Fits (target_part t) (view value.now)) }
     {
@@ -197,7 +215,12 @@ impl<'a> Target<'a> {
         })
     }
 
-    /// The value that has these fields, as an attach carries it.
+    /// Returns the described list that has these fields, as an attach carries it. The fields are copied. An
+    /// absent field is null, or left off at the end.
+    ///
+    /// # Errors
+    ///
+    /// [`AllocError`] if memory runs out.
     pub fn to_value(&self, alloc: Global) -> Result<Value, AllocError>
         ensures { IfOk result (λ value. view value ≡ canonical (target_part self.now)) }
     {

@@ -1,4 +1,4 @@
-//! Messages, written in their canonical spelling.
+//! Messages and how they are written, in their canonical spelling.
 ghost use Rattle.std.specs.Prelude.{◌≡◌, ◌↔◌, ℕ, List, Some, None, Err, OnOk, OnErr};
 ghost use Rattle.amqp_types.specs.Canon.{Writes, Appends, capped};
 ghost use Rattle.amqp_messages.specs.Sections.{SectionData, seen};
@@ -10,7 +10,6 @@ use crate::order::{is_of_body, may_follow};
 use crate::section::Section;
 use amqp_types::{MAX_DEPTH, WriteFault, append_value, size_within};
 
-/// Whether the sections stand in an order that a message may have, a body among them.
 fn are_ordered(sections: &[Section]) -> bool
     ensures { result ≡ is_message (seen_all sections.now) }
 {
@@ -63,8 +62,11 @@ fn put_sections(sections: &[Section], out: &mut Vec<u8>) -> Result<(), WriteFaul
     Ok(())
 }
 
-/// How many octets are written of the message, without memory; None exactly where it is not written: its sections are out of order or none of
-/// them is a body, or one has a body that its kind does not take or that has no canonical spelling. `u64::MAX` stands for all from there on.
+/// Returns the number of octets that [`write_message`] writes, at most `u64::MAX`, without allocating.
+///
+/// Returns `None` exactly if the message cannot be written: its sections are out of order, none of them is a body, or
+/// one has a body that its kind does not take, that has no canonical spelling or is nested more than 31 deep. The cost
+/// grows with the number of values and the length of strings and symbols, not with the length of binaries.
 pub fn message_size(message: &Message) -> Option<u64>
     ensures { result ≡ capped (message_form (seen_all message.now.sections)) }
 {
@@ -76,9 +78,15 @@ pub fn message_size(message: &Message) -> Option<u64>
     }
 }
 
-/// Writes the message at the end, each part under the shortest format code that fits. On an error the octets are as they were.
+/// Appends the message to `out`, with the shortest format code that fits for each value (part 1, 1.6).
 ///
-/// The octets are made beside `out` in room that is asked for once, so each is copied twice.
+/// Each descriptor is written as its number. The message is encoded into a temporary buffer that is allocated once, and
+/// then copied to `out`. If an error is returned, the contents of `out` are unchanged.
+///
+/// # Errors
+///
+/// - [`WriteFault::NotWritable`] exactly if [`message_size`] returns `None`
+/// - [`WriteFault::NoMemory`] if memory runs out
 pub fn write_message(message: &Message, out: &mut Vec<u8>) -> Result<(), WriteFault>
     ensures ok { OnOk result (Appends (message_form (seen_all message.now.sections)) out.old.items out.new.items) }
     ensures refused { (result ≡ Err WriteFault.NotWritable) ↔ (message_form (seen_all message.now.sections) ≡ None) }
@@ -97,7 +105,9 @@ pub fn write_message(message: &Message, out: &mut Vec<u8>) -> Result<(), WriteFa
     }
 }
 
-/// What is written is read back: it is a message of these sections, and of no others.
+/// States that a written message is read back: the octets spell a message of the same sections, and of no others.
+///
+/// This is a law for proofs: a call does nothing.
 pub fn message_read_back()
     ensures there { (ss : List SectionData) (x : List ℕ) → message_form ss ≡ Some x → IsMessage ss x }
     ensures alone { (ss ts : List SectionData) (x : List ℕ) → IsMessage ss x → IsMessage ts x → ts ≡ ss }
