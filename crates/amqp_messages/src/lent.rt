@@ -144,7 +144,7 @@ fn is_absent(field: &Lent<'_>) -> bool
     }
 }
 
-// A null at the end of a list may be left off, and the canonical spelling leaves it off.
+// A null at the end of a list may be left off, and the canonical encoding leaves it off.
 fn is_left_off(field: &Lent<'_>, behind: &[Value]) -> bool
     ensures { IsTrue result ↔ ((behind.now ≡ []) × (part_of field.now ≡ absent)) }
 {

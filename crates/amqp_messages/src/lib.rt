@@ -21,7 +21,7 @@
 //! - [`Header`], [`Properties`]: the fields of these sections by name, to read and to build the sections
 //! - [`Source`], [`Target`]: the fields of a link's termini by name, to read and to build the values of an attach
 //! - [`built_fields_fit`]: the law that values built from fields are read as fields
-//! - [`write_message`], [`message_size`]: write a message in its canonical spelling, and compute its size
+//! - [`write_message`], [`message_size`]: write a message in its canonical encoding, and compute its size
 //! - [`message_read_back`]: the law that a written message is read back
 #![tactic(auto)]
 

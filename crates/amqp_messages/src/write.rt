@@ -1,4 +1,4 @@
-//! Messages and how they are written, in their canonical spelling.
+//! Messages and how they are written, in their canonical encoding.
 ghost use Rattle.std.specs.Prelude.{◌≡◌, ◌↔◌, ℕ, List, Some, None, Err, OnOk, OnErr};
 ghost use Rattle.amqp_types.specs.Canon.{Writes, Appends, capped};
 ghost use Rattle.amqp_messages.specs.Sections.{SectionData, seen};
@@ -65,7 +65,7 @@ fn put_sections(sections: &[Section], out: &mut Vec<u8>) -> Result<(), WriteFaul
 /// Returns the number of octets that [`write_message`] writes, at most `u64::MAX`, without allocating.
 ///
 /// Returns `None` exactly if the message cannot be written: its sections are out of order, none of them is a body, or
-/// one has a body that its kind does not take, that has no canonical spelling or is nested more than 31 deep. The cost
+/// one has a body that its kind does not take, that has no canonical encoding or is nested more than 31 deep. The cost
 /// grows with the number of values and the length of strings and symbols, not with the length of binaries.
 pub fn message_size(message: &Message) -> Option<u64>
     ensures { result ≡ capped (message_form (seen_all message.now.sections)) }

@@ -14,7 +14,7 @@ use crate::write::{is_within, pairs_are_within, pairs_len, part_len, put_pairs, 
 /// Returns the number of octets in the canonical encoding of `value`.
 ///
 /// Returns `None` if the value has no canonical encoding or is nested more than `depth` deep, and `u64::MAX` if the
-/// number is that or more. Allocates nothing. The cost grows with the number of parts and the length of symbols.
+/// number is that or more. Allocates nothing. The cost grows with the number of parts and the length of strings and symbols.
 pub fn size_within(depth: u8, value: &Value) -> Option<u64>
     ensures { result ≡ capped (if nat_le (depth_of (view value.now)) depth then part_form None (view value.now) else None) }
 {
