@@ -15,17 +15,21 @@
  *     deaf       this end says that it reads no more
  *     shut       this end says both
  *   FAULT_THREAD=N           the Nth thread is not made
- *   FAULT_TOLD=FILE          at exit the counts of growths, recvs, sends and threads are written there, and how
- *                            many faults were made
+ *   FAULT_TOLD=FILE          at exit the counts of growths, recvs, sends and threads are written there, how many
+ *                            faults were made, how many blocks were not given back, how many bytes were asked for
+ *                            in all, and the most bytes that were held at once, both without the blocks of 16 MiB
+ *                            and more: at its start a program asks for such a block and gives it back
  *
  * Growths are those of the two C functions that allocate for Rattle's `Global`. They are called directly, so they
- * cannot be interposed: their code is overwritten before the program begins. */
+ * cannot be interposed: their code, and that of the function that gives blocks back, is overwritten before the program
+ * begins. */
 #define _GNU_SOURCE
 #include <dlfcn.h>
 #include <elf.h>
 #include <errno.h>
 #include <fcntl.h>
 #include <link.h>
+#include <malloc.h>
 #include <pthread.h>
 #include <stdatomic.h>
 #include <stdio.h>
@@ -39,6 +43,7 @@
 #include <unistd.h>
 
 static atomic_long growths, recvs, sends, threads, made;
+static atomic_long blocks, asked, held, most;
 static long growth_place, bound, call_place, thread_place;
 static const char *kind = "", *counted = "", *told;
 
@@ -62,15 +67,45 @@ static struct room room_of(void *place) {
     return place ? (struct room){1, place} : (struct room){0, &nothing};
 }
 
-static struct room grow(size_t size, size_t align) {
-    return room_of(is_refused(size) ? NULL : malloc(size ? size : align));
+static long counted_size(void *place) {
+    long size = place ? malloc_usable_size(place) : 0;
+    return size < 16 << 20 ? size : 0;
 }
 
-/* A block that shrinks is not counted: that is no growth. */
+/* Counts a block that grew by this many bytes. */
+static void count(long more) {
+    long now = atomic_fetch_add(&held, more) + more;
+    long before = most;
+    if (more > 0)
+        atomic_fetch_add(&asked, more);
+    while (now > before && !atomic_compare_exchange_weak(&most, &before, now))
+        ;
+}
+
+static struct room grow(size_t size, size_t align) {
+    void *place = is_refused(size) ? NULL : malloc(size ? size : align);
+    if (place) {
+        atomic_fetch_add(&blocks, 1);
+        count(counted_size(place));
+    }
+    return room_of(place);
+}
+
+/* A block that shrinks is not counted as a growth. */
 static struct room grow_again(void *place, size_t old, size_t size, size_t align) {
     if (size > old && is_refused(size))
         return room_of(NULL);
-    return room_of(realloc(place, size ? size : align));
+    long before = counted_size(place);
+    void *now = realloc(place, size ? size : align);
+    if (now)
+        count(counted_size(now) - before);
+    return room_of(now);
+}
+
+static void give_back(void *place) {
+    atomic_fetch_sub(&blocks, 1);
+    count(-counted_size(place));
+    free(place);
 }
 
 static void overwrite(unsigned char *code, void *with) {
@@ -114,6 +149,8 @@ static void replace_growths(void) {
                 overwrite((unsigned char *)base + symbols[j].st_value, grow);
             if (!strcmp(names + symbols[j].st_name, "rattle_realloc"))
                 overwrite((unsigned char *)base + symbols[j].st_value, grow_again);
+            if (!strcmp(names + symbols[j].st_name, "rattle_dealloc"))
+                overwrite((unsigned char *)base + symbols[j].st_value, give_back);
         }
     }
     munmap(octets, about.st_size);
@@ -144,7 +181,7 @@ static void tell(void) {
     FILE *file = told ? fopen(told, "w") : NULL;
     if (!file)
         return;
-    fprintf(file, "%ld %ld %ld %ld %ld\n", growths, recvs, sends, threads, made);
+    fprintf(file, "%ld %ld %ld %ld %ld %ld %ld %ld\n", growths, recvs, sends, threads, made, blocks, asked, most);
     fclose(file);
 }
 
