@@ -1,4 +1,4 @@
--- What the application's calls make of a connection: it is started, does operations, is closed, and its units go out.
+-- What the application's calls do to a connection: it is started, does operations, is closed, and its units go out.
 use Rattle.std.specs.Prelude.{ℕ, ◌≡◌, ◌≢◌, ◌≤◌, Option, Result, Ok, Err, IsOk}
 use Rattle.amqp_performatives.specs.declared.error.AmqpError.{AmqpError}
 use Rattle.amqp_frames.specs.declared.fault.FrameRefusal.TheVariants as frame
@@ -31,7 +31,8 @@ pub record IsLimited (c : Config) : Type 0 where
   pub frames : 512 ≤ c.max_frame
   pub session : IsWithinLimits (session_of c)
 
--- Each setting is within its limits, and our open can be written in the 512 octets that every peer takes (part 2, 2.7.1).
+-- Each setting is within its limits, and our open can be written in the 512 octets that every peer takes (part 2,
+-- 2.7.1).
 pub record IsFit (c : Config) : Type 0 where
   pub limited : IsLimited c
   pub opens : IsOk (write_answer (open_frame c) 512)
@@ -55,18 +56,19 @@ abbrev pub Does : Core → Op → Result Given Refusal → Core → Type 0
 Does old op (Ok given) new = (reply : Reply) × (due_in old.phase old.log op ≡ Ok reply) × (given ≡ reply.given) × (new ≡ stepping (Own op) reply old)
 Does old op (Err e) new = IsRefusal refusal.NoMemory (due_in old.phase old.log op) e × (new ≡ old)
 
--- the same where what it gives is told by the entry alone
+-- an operation is done, as in Does; what it gave is in the entry alone
 abbrev pub Performs : Core → Op → Result (Unit {0}) Refusal → Core → Type 0
 Performs old op (Ok done) new = (reply : Reply) × (due_in old.phase old.log op ≡ Ok reply) × (new ≡ stepping (Own op) reply old)
 Performs old op (Err e) new = IsRefusal refusal.NoMemory (due_in old.phase old.log op) e × (new ≡ old)
 
 -- # Closing
 
--- the longest frame that the peer takes, as its open told
+-- the longest frame that the peer accepts, as its open states
 unfoldable pub peer_max : Log → ℕ
 peer_max l = (at l.config (past l.journal)).max_frame
 
--- our close has gone out with the error, and the peer's is awaited (part 2, 2.4.3); or there is no such close, and nothing has changed
+-- our close has gone out with the error, and the peer's is awaited (part 2, 2.4.3); or there is no such close, and
+-- nothing has changed
 abbrev pub Closes : Core → Option AmqpError → Result (Unit {0}) CloseRefusal → Core → Type 0
 Closes old error (Ok done) new =
     (old.phase ≡ phase.Running)

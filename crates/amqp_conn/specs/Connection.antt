@@ -10,13 +10,12 @@ use Rattle.amqp_conn.specs.declared.config.Config.{Config}
 use Rattle.amqp_conn.specs.declared.phase.Phase.{Phase}
 use Rattle.amqp_conn.specs.declared.phase.Phase.TheVariants as phase
 
--- All but the octets that were not read yet: the settings, how far header, open and close have come (part 2, 2.4.6), the session's log, and what the
--- peer said of itself and of the end.
+-- All but the unread octets: the settings, the phase (part 2, 2.4.6), the session's log, and the peer's open and close.
 pub record Core : Type 0 where
   pub config : Config
   pub phase : Phase
   pub log : Log
-  -- what the links of an ended connection have was put behind what links left before
+  -- the links that remained at the end have left their items
   pub gathered : Bool
   -- the peer's open, once it was taken (part 2, 2.7.1)
   pub peer : Option OpenBody
@@ -30,7 +29,7 @@ pub record Connection : Type 0 where
 abbrev pub connection : Core → List ℕ → Connection
 connection k x = record { core = k; unread = x }
 
--- behind what is unread come these octets
+-- these octets come after the unread ones
 abbrev pub more : List ℕ → Connection → Connection
 more x c = record c { unread = c.unread ++ x }
 
@@ -42,7 +41,8 @@ reads_frames phase.Running = true
 reads_frames phase.Closing = true
 reads_frames phase.Closed = false
 
--- nothing whole stands in front of the octets: of a header, or of a frame of at most max octets; a closed connection has none
+-- the octets do not begin with a whole header, or with a whole frame of at most max octets; a closed connection has
+-- none
 abbrev pub HasRead : Phase → ℕ → List ℕ → Type 0
 HasRead phase.AwaitHeader max x = length x < 8
 HasRead phase.AwaitOpen max x = IsUnfinished max x
@@ -65,7 +65,7 @@ met b k = record k { phase = phase.Running; peer = Some b }
 abbrev pub parted : CloseBody → Core → Core
 parted b k = record k { phase = phase.Closed; parting = Some b }
 
--- octets are put out
+-- octets are queued
 abbrev pub sending : List ℕ → Core → Core
 sending octets k = record k { log = putting k.log octets }
 
@@ -81,7 +81,8 @@ unread_in phase.Running head kept = kept
 unread_in phase.Closing head kept = kept
 unread_in phase.Closed head kept = []
 
--- the parts agree: the framer takes the frames that the settings allow, what is unread is no whole thing, and there is room for a header
+-- the parts agree: the framer accepts the frames that the settings allow, no whole header or frame is unread, and
+-- there is room for a header
 pub record IsSetUp (k : Core) (head : List ℕ) (room max : ℕ) (kept : List ℕ) : Type 0 where
   pub max_is : max ≡ k.config.max_frame
   pub read : HasRead k.phase max (unread_in k.phase head kept)

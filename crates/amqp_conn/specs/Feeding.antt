@@ -1,4 +1,4 @@
--- What octets make of a connection, however they are cut.
+-- What octets do to a connection, however they are cut.
 use Rattle.std.specs.Prelude.{zero, suc, ℕ, ◌≡◌, ◌≢◌, ◌≤◌, ◌<◌, ◌++◌, ◌⊎◌, IsTrue, Bool, true, false, Option, Some, None, Result, Ok, Err, List, [], ◌∷◌, length, drop, take}
 use Rattle.amqp_frames.specs.declared.fault.FrameFault.{FrameFault}
 use Rattle.amqp_frames.specs.declared.fault.FrameFault.TheVariants as framing
@@ -50,7 +50,7 @@ pub record IsFed (c : Connection) (x : List ℕ) (d : Connection) : Type 0 where
 
 -- # One call
 
--- the journal has one entry more, which gives this; or it stands
+-- the journal has one entry more, which gave this; or it is unchanged
 abbrev pub AddsEntry : List Entry → List Entry → Bool → Given → Type 0
 AddsEntry before after true given = (e : Entry) × (after ≡ before ++ e ∷ []) × (given ≡ e.reply.given)
 AddsEntry before after false given = (after ≡ before) × (given ≡ Nothing)
@@ -65,7 +65,7 @@ pub record Answers (k : Core) (f : Frame) (v : Violation) (given : Given) (l : C
   pub gives : given ≡ reply.given
   pub does : l ≡ stepping (Own op) reply k
 
--- so is the frame in front of the octets, which is not taken
+-- the frame in front of the octets is not taken, and its violation is answered
 pub record IsAnswered (c : Connection) (piece : List ℕ) (v : Violation) (given : Given) (d : Connection) : Type 0 where
   pub f : Frame
   pub front : List ℕ
@@ -79,7 +79,7 @@ pub record IsAnswered (c : Connection) (piece : List ℕ) (v : Violation) (given
 abbrev pub EndsByFrame : ConnFault → Connection → Type 0
 EndsByFrame e c = (f : Frame) × (front back : List ℕ) × HasFrame c f front back × (treat c.core f ≡ ended e)
 
--- where a fault is told
+-- when a fault is reported
 abbrev pub IsPlace : ConnFault → Connection → Type 0
 IsPlace fault.BadHeader c = (c.core.phase ≡ phase.AwaitHeader) × (front back : List ℕ) × (length front ≡ 8) × (front ≢ header) × (c.unread ≡ front ++ back)
 IsPlace (fault.Framing e) c = IsTrue (reads_frames c.core.phase) × Shows e c.core.config.max_frame c.unread
@@ -93,14 +93,15 @@ IsPlace fault.NoMemory c = ⊥
 abbrev pub Ends : ConnFault → Connection → Connection → Type 0
 Ends e c d = IsPlace e c × (d ≡ record { core = ending e c.core; unread = [] })
 
--- what is unread shows no fault, and the connection is not closed; a header or a frame that is whole in front is the last of it, and is taken
+-- what is unread shows no fault, and the connection is not closed; a header or a frame that is whole in front is the
+-- last of it, and is taken
 pub record IsPassed (c : Connection) : Type 0 where
   pub goes_on : c.core.phase ≢ phase.Closed
   pub begins : (front back : List ℕ) → c.core.phase ≡ phase.AwaitHeader → length front ≡ 8 → c.unread ≡ front ++ back → (front ≡ header) × (back ≡ [])
   pub faultless : (e : FrameFault) → IsTrue (reads_frames c.core.phase) → Shows e c.core.config.max_frame c.unread → ⊥
   pub whole : (f : Frame) (front back : List ℕ) → HasFrame c f front back → (back ≡ []) × ((l : Core) × (treat c.core f ≡ taken l))
 
--- a feed takes these octets, at most to the end of a header or a frame, and there is nothing to tell of them
+-- a feed takes these octets, at most to the end of a header or a frame, and they show no fault and no violation
 abbrev pub Takes : Connection → List ℕ → Fed → Option Violation → Connection → Type 0
 Takes c piece fed None d =
     (fed.used ≤ length piece) × IsFed c (take fed.used piece) d × AddsEntry c.core.log.journal d.core.log.journal fed.stepped fed.given × IsPassed (more (take fed.used piece) c)
@@ -114,8 +115,8 @@ WantsFrame c piece = Faulty framing.NoMemory c.core.config.max_frame c.unread pi
 abbrev pub IsFaulty : Connection → Type 0
 IsFaulty c = (e : FrameFault) × Shows e c.core.config.max_frame c.unread
 
--- Where memory is needed: for our open, where the whole header has come; for a frame and what it does; and for the close that tells a fault,
--- which goes out in these two phases alone.
+-- When memory is needed: for our open, once the whole header has come; for a frame and what it does; and for the
+-- close that states a fault, which is sent in these two phases alone.
 abbrev pub NeedsMemory : Phase → Connection → List ℕ → Type 0
 NeedsMemory phase.AwaitHeader c piece = (back : List ℕ) × (c.unread ++ piece ≡ header ++ back)
 NeedsMemory phase.AwaitOpen c piece = WantsFrame c piece ⊎ IsFaulty (more piece c)
@@ -139,7 +140,8 @@ abbrev pub MovesOn : Result Fed ConnFault → Type 0
 MovesOn (Ok fed) = MovesBy fed.violation fed
 MovesOn (Err e) = Unit {0}
 
--- a feed after the other, each of what the one before left of the piece, to its end or to the connection's; none was refused memory
+-- one feed after the other, each of what the one before left of the piece, to its end or to that of the connection;
+-- none ran out of memory
 abbrev pub FeedsInTurn : List (Result Fed ConnFault) → Connection → List ℕ → Connection → Type 0
 FeedsInTurn [] c piece d = ((piece ≡ []) ⊎ (c.core.phase ≡ phase.Closed)) × (d ≡ c)
 FeedsInTurn (Ok fed ∷ calls) c piece d = (m : Connection) × Feeds c piece (Ok fed) m × FeedsInTurn calls m (drop fed.used piece) d
@@ -150,7 +152,7 @@ abbrev pub listed : Option (List ℕ) → List (List ℕ)
 listed None = []
 listed (Some x) = x ∷ []
 
--- a connection has ended with this fault: closed, with one close put out where one may go out, and no entry more
+-- a connection has ended with this fault: it is closed, with one close queued if one may go out, and no entry more
 pub record ClosesOnce (e : ConnFault) (k l : Core) : Type 0 where
   pub closed : l.phase ≡ phase.Closed
   pub journal : l.log.journal ≡ k.log.journal

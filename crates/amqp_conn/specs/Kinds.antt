@@ -1,4 +1,4 @@
--- Whom a frame concerns, while the connection is running.
+-- What a frame concerns, while the connection is running.
 use Rattle.std.specs.Prelude.{ℕ, ◌==◌, cond, Option, Some, None}
 use Rattle.amqp_performatives.specs.declared.bodies.CloseBody.{CloseBody}
 use Rattle.amqp_performatives.specs.declared.performative.Performative.{Performative}

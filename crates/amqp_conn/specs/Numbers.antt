@@ -1,4 +1,4 @@
--- The numbers by which programs tell faults and refusals: the order in which they are tested.
+-- The numbers of faults and refusals, in the order in which they are tested.
 use Rattle.std.specs.Prelude.{ℕ}
 use Rattle.amqp_conn.specs.declared.fault.ConnFault.{ConnFault}
 use Rattle.amqp_conn.specs.declared.fault.ConnFault.TheVariants as fault

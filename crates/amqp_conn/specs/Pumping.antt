@@ -28,7 +28,7 @@ abbrev pub joined : List (List ℕ) → List ℕ
 joined [] = []
 joined (x ∷ xs) = x ++ joined xs
 
--- a front of the octets came behind
+-- a front of the octets was appended
 pub record AppendsFront (old new : Option (List ℕ)) (octets : List ℕ) : Type 0 where
   pub front : List ℕ
   pub back : List ℕ
@@ -37,7 +37,7 @@ pub record AppendsFront (old new : Option (List ℕ)) (octets : List ℕ) : Type
 
 -- # What is moved
 
--- what the source gives from here on, the octets that were read and not fed, the connection, and what the sink has got
+-- what the source returns from here on, the octets that were read and not fed, the connection, and what was written
 pub record Line : Type 0 where
   pub source : Option (List ℕ)
   pub rest : List ℕ
@@ -47,7 +47,7 @@ pub record Line : Type 0 where
 abbrev pub line : Option (List ℕ) → List ℕ → Connection → Option (List ℕ) → Line
 line s x c k = record { source = s; rest = x; conn = c; sink = k }
 
--- what y and all that comes behind it make of d, x and the same behind it make of c
+-- whatever comes after: y and then that lead from d to where x and then that lead from c
 abbrev pub Later : Connection → List ℕ → Connection → List ℕ → Type 0
 Later c x d y = (z : List ℕ) (e : Connection) → IsFed d (y ++ z) e → IsFed c (x ++ z) e
 
@@ -60,7 +60,7 @@ pub record WentOut (before after : Log) (out : List (List ℕ)) : Type 0 where
   pub more : List (List ℕ)
   pub grown : units after ≡ units before ++ more
 
--- what a read gives
+-- what a read that is not at the end returns
 abbrev pub IsPiece : List ℕ → Type 0
 IsPiece x = (0 < length x) × (length x ≤ 4096)
 
@@ -68,8 +68,8 @@ abbrev pub ArePieces : List (List ℕ) → Type 0
 ArePieces [] = Unit {0}
 ArePieces (x ∷ xs) = IsPiece x × ArePieces xs
 
--- These pieces were read, one by each read that gave octets. The connection is fed of what was kept and then of them, but for what is kept now and for
--- what was popped; and the sink has got the octets of the units that went out.
+-- These pieces were read, one by each read that returned octets. What was kept and then these pieces were fed, but
+-- for what is kept now; units were popped; and the octets of the units that went out were written.
 pub record Carries (pieces : List (List ℕ)) (p q : Line) : Type 0 where
   pub sized : ArePieces pieces
   pub read : Consumes p.source q.source (joined pieces)
@@ -88,7 +88,7 @@ OnlyWrote c d = d ≡ as_popped d.core.log.popped c
 
 -- # How it ends
 
--- the connection was open, and closed with what was kept: that feed told no fault
+-- the connection was open, and a feed of what was kept closed it without a fault
 pub record Closes (pieces : List (List ℕ)) (p : Line) (d : Connection) : Type 0 where
   pub before : Line
   pub carried : Carries pieces p before
@@ -99,7 +99,7 @@ pub record Closes (pieces : List (List ℕ)) (p : Line) (d : Connection) : Type 
   pub closed : after.core.phase ≡ phase.Closed
   pub wrote : OnlyWrote after d
 
--- a feed of what was kept told the fault, and that is kept; then all units went out, the last close among them
+-- a feed of what was kept returned the fault, and that is kept; then all units went out, the last close among them
 pub record EndsBy (e : ConnFault) (pieces : List (List ℕ)) (p q : Line) : Type 0 where
   pub before : Line
   pub carried : Carries pieces p before
@@ -128,8 +128,8 @@ Fails fault.Read pieces p q = Carries pieces p q × AllWent q.conn × (q.rest �
 Fails fault.Write pieces p q = Breaks pieces p q
 Fails (fault.Conn e) pieces p q = EndsBy e pieces p q
 
--- Why it stopped: the connection is closed, as it was before or by a feed that told no fault; or the source has ended; or each turn has read a piece.
--- All that was read was fed.
+-- Why it stopped: the connection is closed, since before or by a feed without a fault; or the source has ended; or
+-- each turn has read a piece. All that was read was fed.
 abbrev pub Stops : ℕ → PumpEnd → List (List ℕ) → Line → Line → Type 0
 Stops turns end.Closed pieces p q = (q.conn.core.phase ≡ phase.Closed) × AllWent q.conn × ((p.conn.core.phase ≡ phase.Closed) ⊎ Closes pieces p q.conn)
 Stops turns end.EndOfInput pieces p q = IsAtEnd q.source × AllWent q.conn × (q.conn.core.phase ≢ phase.Closed)
@@ -143,16 +143,16 @@ Ran turns (Err why) pieces p q = Fails why pieces p q
 abbrev pub Runs : ℕ → Result PumpEnd PumpFault → Line → Line → Type 0
 Runs turns result p q = (pieces : List (List ℕ)) × (length pieces ≤ turns) × Ran turns result pieces p q
 
--- a read or a write has failed where that is told, and none else
+-- one read or write has failed if that is reported, and no other has
 abbrev pub CountsFailures : {A : Type 0} → Result A PumpFault → ℕ → ℕ → ℕ → ℕ → Type 0
 CountsFailures (Ok done) reads reads' writes writes' = (reads' ≡ reads) × (writes' ≡ writes)
 CountsFailures (Err fault.Read) reads reads' writes writes' = (reads' ≡ reads + 1) × (writes' ≡ writes)
 CountsFailures (Err fault.Write) reads reads' writes writes' = (reads' ≡ reads) × (writes' ≡ writes + 1)
 CountsFailures (Err (fault.Conn e)) reads reads' writes writes' = (reads' ≡ reads) × (writes' ≡ writes)
 
--- # What the entries give
+-- # Events of the entries
 
--- all that was told, and then this; where it is known
+-- the calls of the handler so far, and then these, if they are known
 abbrev pub AddsAll : Option (List Given) → Option (List Given) → List Given → Type 0
 AddsAll None new more = Unit {0}
 AddsAll (Some old) None more = ⊥
@@ -165,7 +165,7 @@ abbrev pub given_by : List Entry → List Given
 given_by [] = []
 given_by (e ∷ es) = e.reply.given ∷ given_by es
 
--- what each entry that the journal has more gives was told, in their order, and nothing else
+-- the handler was called with what each new entry of the journal gave, in order, and with nothing else
 pub record Tells (before after : List Entry) (heard heard' : Option (List Given)) : Type 0 where
   pub entries : List Entry
   pub added : after ≡ before ++ entries

@@ -1,4 +1,4 @@
--- What a peer said: of itself, in its newest frame, and of why it ended something.
+-- What the peer sent: its open, its newest frame, and why it ended something.
 use Rattle.std.specs.Prelude.{ℕ, ◌-◌, ◌==◌, ◌&&◌, Bool, true, false, Option, Some, None, List, [], length, drop, find, slice_get}
 use Rattle.amqp_performatives.specs.declared.bodies.Role.{Role}
 use Rattle.amqp_performatives.specs.declared.bodies.OpenBody.{OpenBody}
@@ -32,12 +32,12 @@ abbrev pub close_in : Option Performative → Option CloseBody
 close_in (Some (Close b)) = Some b
 close_in _ = None
 
--- the error of a close, where it has one
+-- the error of a close, if it has one
 abbrev pub error_of_close : Option CloseBody → Option AmqpError
 error_of_close None = None
 error_of_close (Some b) = b.error
 
--- why a frame ends a link, the session or the connection, where it tells that
+-- why a frame ends a link, the session or the connection, if it states that
 abbrev pub error_in : Option Performative → Option AmqpError
 error_in (Some (Detach b)) = b.error
 error_in (Some (End b)) = b.error
@@ -68,7 +68,7 @@ abbrev pub ended_by : Option Entry → List (Role × ℕ)
 ended_by None = []
 ended_by (Some e) = e.reply.ended
 
--- the link of this number is left by what was given
+-- what the entry gave says that the link of this number was removed
 abbrev pub is_left_by : ℕ → Given → Bool
 is_left_by link (Gone k) = k == link
 is_left_by link (Parted k s) = k == link
@@ -82,7 +82,7 @@ abbrev pub has_detach : Option Frame → Bool
 has_detach None = false
 has_detach (Some f) = is_detach f.body
 
--- the entry heard the detach by which the link of this number went
+-- the entry heard the detach that removed the link of this number
 abbrev pub hears_detach : ℕ → Entry → Bool
 hears_detach link e = has_detach (heard_in e.step) && is_left_by link e.reply.given
 
@@ -90,6 +90,6 @@ abbrev pub error_heard : Option Frame → Option AmqpError
 error_heard None = None
 error_heard (Some f) = error_in f.body
 
--- why the peer detached the link of this number, as far as its entry is kept: a number is of one link alone, so of one such detach
+-- why the peer detached the link of this number, if its entry is kept: a number has one link alone, so one such detach
 abbrev pub detached_by : ℕ → Log → Option AmqpError
 detached_by link l = error_heard (heard_by (find (hears_detach link) (drop l.forgotten l.journal)))

@@ -1,4 +1,4 @@
--- What a frame does to a connection (part 2, 2.4), and what octets that are not read do.
+-- What a frame does to a connection (part 2, 2.4), and what unread octets do.
 use Rattle.std.specs.Prelude.{ℕ, ◌≡◌, ◌≢◌, ◌≤◌, ◌++◌, ◌⊎◌, ◌==◌, IsTrue, Option, Some, None, Result, Ok, Err, List, length, max, cond, unwrap_or}
 use Rattle.amqp_performatives.specs.declared.performative.Performative.{Performative}
 use Rattle.amqp_performatives.specs.declared.performative.Performative.TheVariants.{Open, Close}
@@ -23,18 +23,18 @@ use Rattle.amqp_conn.specs.declared.fault.ConnFault.TheVariants as fault
 use Rattle.amqp_conn.specs.Connection.{Core, Connection, reads_frames, in_phase, met, parted, sending, stepping}
 use Rattle.amqp_conn.specs.Octets.{header, open_frame, close_frame, last_words}
 
--- the frame is taken; or it stands, after an answer to what it violates, and is read again; or the connection ends
+-- the frame is taken; or it stays, after an answer to what it violates, and is read again; or the connection ends
 pub data Treatment : Type 0 where
   taken : Core → Treatment
   again : Core → Treatment
   ended : ConnFault → Treatment
 
--- of an answer that ends the connection
+-- the fault of a violation that ends the connection
 abbrev pub fault_of : ViolationKind → ConnFault
 fault_of Full = fault.JournalFull
 fault_of _ = fault.OutOfPlace
 
--- the peer's frames are at most so long, where its open tells nothing
+-- the longest frame of the peer, if its open does not state one
 abbrev pub greatest : ℕ
 greatest = 4294967295
 
@@ -85,7 +85,7 @@ abbrev pub sending_last : Option (List ℕ) → Core → Core
 sending_last None k = k
 sending_last (Some octets) k = sending octets k
 
--- the connection ends for a fault: a close goes out, where one may
+-- the connection ends for a fault: a close goes out, if one may
 unfoldable pub ending : ConnFault → Core → Core
 ending e k = in_phase phase.Closed (sending_last (last_words k.phase e) k)
 
@@ -100,13 +100,13 @@ pub record TakesHeader (c d : Connection) : Type 0 where
   pub split : c.unread ≡ front ++ back
   pub does : ((front ≡ header) × (d ≡ record { core = greeted c.core; unread = back })) ⊎ ((front ≢ header) × (d ≡ record { core = ending fault.BadHeader c.core; unread = back }))
 
--- of a frame: what comes after its octets, or all where it is read again
+-- after a frame: the octets behind it are unread, or all if it is read again
 abbrev pub after : Core → List ℕ → List ℕ → Treatment → Connection
 after k whole back (taken l) = record { core = l; unread = back }
 after k whole back (again l) = record { core = l; unread = whole }
 after k whole back (ended e) = record { core = ending e k; unread = back }
 
--- a frame stands in front
+-- the unread octets begin with a frame
 pub record HasFrame (c : Connection) (f : Frame) (front back : List ℕ) : Type 0 where
   pub reads : IsTrue (reads_frames c.core.phase)
   pub framed : IsFrame f front

@@ -1,4 +1,4 @@
--- What the code of a frame's kind promises.
+-- Promises of the functions that treat a frame.
 use Rattle.std.specs.Prelude.{ℕ, ◌≡◌, ◌≢◌, ◌⊎◌, take, true, false, Option, Some, None, Result, Ok, Err, List, [], IfSome, IsSome}
 use Rattle.amqp_frames.specs.declared.fault.FrameFault.{FrameFault}
 use Rattle.amqp_frames.specs.declared.fault.FrameFault.TheVariants.{ShortSize, BadDoff, TooBig, BadKind, BadBody, NoMemory}
@@ -17,7 +17,7 @@ use Rattle.amqp_rules.specs.Refusing.{no_memory}
 use Rattle.amqp_journal.specs.Log.{IsRefusal, heard_due}
 use Rattle.amqp_conn.specs.Feeding.{AddsEntry, Answers}
 
--- so is the frame treated; it was taken with so many octets, or answered, or the connection ended, or memory was refused
+-- the frame is treated so; it was taken with so many octets, or answered, or the connection ended, or memory ran out
 abbrev pub TreatsBy : Treatment → Core → Frame → ℕ → Fed → Option Violation → Core → Type 0
 TreatsBy t old f used fed None new = (t ≡ taken new) × (fed.used ≡ used) × AddsEntry old.log.journal new.log.journal fed.stepped fed.given
 TreatsBy t old f used fed (Some v) new = (t ≡ again new) × (fed.used ≡ 0) × (fed.stepped ≡ true) × Answers old f v fed.given new
@@ -30,11 +30,11 @@ TreatsAs t old f used (Err e) new = (t ≡ ended e) × (new ≡ ending e old)
 abbrev pub Treats : Core → Frame → ℕ → Result Fed ConnFault → Core → Type 0
 Treats old f used result new = TreatsAs (treat old f) old f used result new
 
--- so is any frame treated that violates this
+-- any frame with this violation is treated so
 abbrev pub IsMet : Violation → Core → Result Fed ConnFault → Core → Type 0
 IsMet v old result new = (f : Frame) → (used : ℕ) → IsRefusal no_memory (heard_due old.log f) v → TreatsAs (hearing old f (heard_due old.log f)) old f used result new
 
--- the connection ended with this fault; or memory was refused for its last close, and it stands
+-- the connection ended with this fault; or memory for its last close ran out, and nothing changed
 abbrev pub EndsWith : ConnFault → Core → ConnFault → Core → Type 0
 EndsWith e old told new = ((told ≡ e) × (new ≡ ending e old)) ⊎ ((told ≡ fault.NoMemory) × IsSome (last_words old.phase e) × (new ≡ old))
 
@@ -52,12 +52,12 @@ PutsBack (Ok fed) old new = PutsBackBy fed.violation old new
 PutsBack (Err fault.NoMemory) old new = Undone old new
 PutsBack (Err e) old new = new ≡ old
 
--- the connection ended with this fault, and nothing is kept; or memory was refused for its last close, and all stands
+-- the connection ended with this fault, and nothing is kept; or memory for its last close ran out, and nothing changed
 abbrev pub EndsAll : ConnFault → Core → FramerState → ConnFault → Core → FramerState → Type 0
 EndsAll e old f told new g =
     ((told ≡ e) × (new ≡ ending e old) × (g ≡ record { max_size = f.max_size; kept = []; before = None })) ⊎ ((told ≡ fault.NoMemory) × IsSome (last_words old.phase e) × (new ≡ old) × (g ≡ f))
 
--- of a fault that the framer told
+-- the connection ended with a fault of the framer
 abbrev pub EndsFor : FrameFault → Core → FramerState → ConnFault → Core → FramerState → Type 0
 EndsFor ShortSize old f told new g = EndsAll (fault.Framing ShortSize) old f told new g
 EndsFor BadDoff old f told new g = EndsAll (fault.Framing BadDoff) old f told new g
@@ -66,8 +66,8 @@ EndsFor BadKind old f told new g = EndsAll (fault.Framing BadKind) old f told ne
 EndsFor BadBody old f told new g = EndsAll (fault.Framing BadBody) old f told new g
 EndsFor NoMemory old f told new g = (told ≡ fault.NoMemory) × (new ≡ old) × (g ≡ f)
 
--- Eight octets were read as the peer's header: our open has gone out; or they are none, and the connection has ended; or memory was refused,
--- and the octets that came last are gone again.
+-- Eight octets were read: they are the header, and our open is queued; or they are not, and the connection has ended;
+-- or memory ran out, and the octets that came last are removed again.
 abbrev pub ReadsHeader : Core → List ℕ → ℕ → ℕ → Result Fed ConnFault → Core → List ℕ → Type 0
 ReadsHeader old octets count used (Ok fed) new kept =
     (octets ≡ header) × (new ≡ greeted old) × (kept ≡ octets) × (fed ≡ record { used = used; stepped = false; given = Nothing; violation = None })
@@ -75,7 +75,7 @@ ReadsHeader old octets count used (Err fault.BadHeader) new kept = (octets ≢ h
 ReadsHeader old octets count used (Err fault.NoMemory) new kept = (octets ≡ header) × (new ≡ old) × (kept ≡ take count octets)
 ReadsHeader old octets count used (Err e) new kept = ⊥
 
--- what the framer's answer makes of the connection's parts
+-- what the framer's answer does to the connection's parts
 abbrev pub Acts : Result (ℕ × Option Frame) FrameFault → Core → FramerState → Result Fed ConnFault → Core → FramerState → Type 0
 Acts (Err e) old f result new g = (told : ConnFault) × (result ≡ Err told) × EndsFor e old f told new g
 Acts (Ok (used, None)) old f result new g = (result ≡ Ok (record { used = used; stepped = false; given = Nothing; violation = None })) × (new ≡ old) × (g ≡ f)

@@ -35,11 +35,11 @@ pub record Took (c : Connection) (x : List ℕ) (d : Connection) (y : List ℕ) 
   pub more : List (List ℕ)
   pub all : units d.core.log ≡ units c.core.log ++ more
 
--- one of them, which told no fault
+-- one feed of x, without a fault
 abbrev pub IsTaken : Connection → List ℕ → Connection → Type 0
 IsTaken c x d = (fed : Fed) × Feeds c x (Ok fed) d
 
--- the last of them told none
+-- the last feed of x had no fault
 pub record ClosedBy (c : Connection) (x : List ℕ) (d : Connection) : Type 0 where
   pub before : Connection
   pub left : List ℕ
@@ -48,11 +48,11 @@ pub record ClosedBy (c : Connection) (x : List ℕ) (d : Connection) : Type 0 wh
   pub fed : Fed
   pub feeds : Feeds before left (Ok fed) d
 
--- where they closed the connection, the last told no fault
+-- if feeds of x closed the connection, the last had no fault
 abbrev pub ClosesWell : Connection → List ℕ → Connection → Type 0
 ClosesWell c x d = d.core.phase ≡ phase.Closed → (c.core.phase ≡ phase.Closed) ⊎ ClosedBy c x d
 
--- the feed behind so many octets told the fault
+-- the feed after so many octets returned the fault
 pub record StoppedBy (c : Connection) (x : List ℕ) (used : ℕ) (e : ConnFault) (d : Connection) : Type 0 where
   pub within : used ≤ length x
   pub before : Connection
@@ -61,15 +61,15 @@ pub record StoppedBy (c : Connection) (x : List ℕ) (used : ℕ) (e : ConnFault
   pub feeds : Feeds before (drop used x) (Err e) d
   pub kept : Took c x d (drop used x)
 
--- the unit in front went out
+-- the first unit went out
 abbrev pub WritesOne : Connection → Connection → Option (List ℕ) → Option (List ℕ) → Type 0
 WritesOne c d k k' = (s : Option (List ℕ)) (x : List ℕ) → Carries [] (line s x c k) (line s x d k')
 
--- one of those that wait did not, or not whole
+-- one of the units that wait did not go out, or not whole
 abbrev pub WriteFails : Connection → Connection → Option (List ℕ) → Option (List ℕ) → Type 0
 WriteFails c d k k' = (s : Option (List ℕ)) (x : List ℕ) → Breaks [] (line s x c k) (line s x d k')
 
--- behind the fault all units went out, and it is told; or a write failed
+-- after the fault all units went out, and it is returned; or a write failed
 abbrev pub TellsLast : PumpFault → ConnFault → Connection → Connection → Option (List ℕ) → Option (List ℕ) → Type 0
 TellsLast fault.Read e c d k k' = ⊥
 TellsLast fault.Write e c d k k' = WriteFails c d k k'

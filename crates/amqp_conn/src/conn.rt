@@ -1,4 +1,4 @@
-//! A connection, as a program drives it (part 2, 2.2 and 2.4).
+//! The connection that a program drives (part 2, 2.2 and 2.4).
 ghost use Rattle.std.specs.Prelude.{◌≡◌, ◌≢◌, ◌≤◌, [], Some, None, IfSome, IfOk, OnOk, OnErr, MatchResult, IsTrue, slice_get, length, option_map};
 ghost use Rattle.amqp_journal.specs.Units.{units, waiting};
 ghost use Rattle.amqp_laws.specs.At.{at};
@@ -31,19 +31,21 @@ use amqp_types::Boxed;
 use std::alloc::{AllocError, Global};
 use std::marker::Model;
 
-/// One end of a connection. It reads octets as they come and puts out units; it has no socket, no clock and no thread.
+/// One end of a connection. It takes octets as they come and queues units of octets to be written; it has no socket, no
+/// clock and no thread.
 ///
-/// What it has not read of a frame it keeps, in a buffer of that frame's size at most (`Config::max_frame`).
+/// It keeps the octets of an unfinished frame, which are fewer than [`Config::max_frame`], in a buffer that grows with
+/// them: to at most 512 bytes, or twice the octets that are kept.
 pub struct Conn {
     alloc: Global,
-    /// It is behind a pointer, so that who owns a connection moves that, and not a session.
+    /// Boxed, so that moving a connection does not move a session.
     machine: Boxed<Machine>,
-    /// Octets of the peer's header; it has room for all eight.
+    /// The octets of the peer's header so far, with room for all eight.
     head: Vec<u8>,
     framer: Framer,
 }
 
-// By hand, so that a crate that owns one does not prove its parts' drops again.
+// Not derived, so that a crate that owns a connection does not prove the drops of its parts again.
 impl Drop for Conn {
     fn drop(self) {
         let Conn {
@@ -75,12 +77,14 @@ impl Model for Conn {
 }
 
 impl Conn {
-    /// A connection whose header waits to go out. It takes room for itself, for eight octets, and for our open.
+    /// Creates a connection whose header waits to be written. Allocates room for itself, for the eight octets of the
+    /// peer's header, and for our open.
     ///
     /// # Errors
     ///
-    /// `BadConfig` where a setting is out of its limits (`Config`), or our open is longer than the 512 octets that every peer takes, as with
-    /// a long container id; `NoMemory`.
+    /// [`StartFault::BadConfig`] if a setting is out of its limits ([`Config`]), or if our open would be longer than
+    /// the 512 octets that every peer accepts, for example with a long container id; else [`StartFault::NoMemory`] if
+    /// memory runs out.
     pub fn new(alloc: Global, config: Config) -> Result<Conn, StartFault>
         ensures { MatchResult result (λ conn. IsFit config × (conn ≡ connection (new_core config) [])) (λ e. IsStartFault e config) }
     {
@@ -103,8 +107,14 @@ impl Conn {
         })
     }
 
-    /// Does an operation of the application: one entry more in the journal, and what it sends waits to go out. Refusals are those of the session,
-    /// and `NotRunning` first, unless the connection is running. A refused operation has changed nothing.
+    /// Does an operation of the application: adds one entry to the journal, and queues what the operation sends.
+    ///
+    /// Returns what the operation gave, such as the delivery that it took.
+    ///
+    /// # Errors
+    ///
+    /// [`Refusal::NotRunning`] unless the phase is [`Phase::Running`]; else the session's [`Refusal`] of the operation.
+    /// A refused operation has changed nothing.
     pub fn apply(&mut self, op: &Op) -> Result<Given, Refusal>
         ensures does { Does self.old.core op.now result self.new.core }
         ensures unread { self.new.unread ≡ self.old.unread }
@@ -112,8 +122,13 @@ impl Conn {
         self.machine.boxed.apply(op)
     }
 
-    /// Does an operation, as `apply`, which its entry keeps: nothing is copied, and what it gives stands in the entry (`given`). A refused operation is
-    /// dropped, so `apply` is for one that is to be tried again.
+    /// Does an operation and moves it into its journal entry: unlike [`apply`](Conn::apply), it copies nothing, and
+    /// [`given`](Conn::given) returns what the operation gave.
+    ///
+    /// # Errors
+    ///
+    /// [`Refusal::NotRunning`] unless the phase is [`Phase::Running`]; else the session's [`Refusal`] of the operation.
+    /// A refused operation has changed nothing and is dropped; to try one again, use [`apply`](Conn::apply).
     pub fn perform(&mut self, op: Op) -> Result<(), Refusal>
         ensures performs { Performs self.old.core op result self.new.core }
         ensures unread { self.new.unread ≡ self.old.unread }
@@ -121,12 +136,14 @@ impl Conn {
         self.machine.boxed.perform(op)
     }
 
-    /// Puts out our close, with the error, and awaits the peer's (part 2, 2.4.3). What is heard until it comes is dropped.
+    /// Queues our close, with the error, and awaits the peer's close (part 2, 2.4.3). Frames that come before it are
+    /// dropped.
     ///
     /// # Errors
     ///
-    /// `NotOpen` unless the connection is running; `NotWritable` and `FrameTooBig` where there is no such frame, or the peer takes none so
-    /// long; `NoMemory`. Nothing has changed then.
+    /// [`CloseRefusal::NotOpen`] unless the phase is [`Phase::Running`]; [`CloseRefusal::NotWritable`] if the error
+    /// holds what no frame can hold; [`CloseRefusal::FrameTooBig`] if the close is longer than the peer accepts; else
+    /// [`CloseRefusal::NoMemory`] if memory runs out. A refused close has changed nothing.
     pub fn close(&mut self, error: Option<Boxed<AmqpError>>) -> Result<(), CloseRefusal>
         ensures closes { Closes self.old.core error result self.new.core }
         ensures unread { self.new.unread ≡ self.old.unread }
@@ -134,7 +151,8 @@ impl Conn {
         self.machine.boxed.close(error)
     }
 
-    /// The first unit that waits to go out, with its number: the octets of one frame, or our header. It takes no memory.
+    /// Removes and returns the first unit that waits to be written, with its number: the octets of one frame, or our
+    /// header. Does not allocate.
     pub fn pop_unit(&mut self) -> Option<Unit>
         ensures some { IfSome result (λ unit. (unit.number ≡ self.old.core.log.popped) × (slice_get (units self.old.core.log) self.old.core.log.popped ≡ Some unit.bytes) × (self.new ≡ popped self.old)) }
         ensures none { result ≡ None → (waiting self.old.core.log ≡ []) × (self.new ≡ self.old) }
@@ -142,12 +160,17 @@ impl Conn {
         self.machine.boxed.pop_unit()
     }
 
-    /// The first of what is left, in order: what links had ready and told when a detach or an end made them gone, and, once the phase is `Closing` or `Closed`, so
-    /// that no operation is done any more, what the links had then. Each is given once. It works in every phase, is no step, and changes nothing else that a reader shows.
+    /// Removes and returns the first item that links left: a delivery that was ready, or an outcome that was not
+    /// learnt.
+    ///
+    /// A link leaves these when a detach or an end removes it. In [`Phase::Closing`] and [`Phase::Closed`], when no
+    /// operation is done any more, the remaining links leave theirs too. Each item is returned once, in order. The call
+    /// works in every phase, is no step, and changes nothing else that a reader shows.
     ///
     /// # Errors
     ///
-    /// Want of memory, of the first call in those phases alone; nothing has changed.
+    /// [`AllocError`] if memory runs out, which is possible only in [`Phase::Closing`] and [`Phase::Closed`], until one
+    /// call there has succeeded; nothing has changed then.
     pub fn pop_left(&mut self) -> Result<Option<Left>, AllocError>
         ensures gives { IfOk result (λ given. Gives self.old.core given self.new.core) }
         ensures unread { self.new.unread ≡ self.old.unread }
@@ -159,11 +182,13 @@ impl Conn {
         }
     }
 
-    /// The first that the link of this number left, a delivery of a receiver or an outcome of a sender, as `pop_left`. O(n) for n things that are left.
+    /// Removes and returns the first item that the link of this number left: a delivery of a receiver, or an outcome of
+    /// a sender. [`pop_left`](Conn::pop_left) describes when links leave items. O(n) for n items that are left.
     ///
     /// # Errors
     ///
-    /// Those of `pop_left`.
+    /// [`AllocError`] if memory runs out, which is possible only in [`Phase::Closing`] and [`Phase::Closed`], until one
+    /// call there has succeeded; nothing has changed then.
     pub fn pop_left_by(&mut self, role: Role, link: u32) -> Result<Option<Left>, AllocError>
         ensures gives { IfOk result (λ given. GivesOf role link self.old.core given self.new.core) }
         ensures unread { self.new.unread ≡ self.old.unread }
@@ -175,11 +200,12 @@ impl Conn {
         }
     }
 
-    /// How many things are left, to be popped one by one.
+    /// Returns how many items [`pop_left`](Conn::pop_left) can still return.
     ///
     /// # Errors
     ///
-    /// Those of `pop_left`.
+    /// [`AllocError`] if memory runs out, which is possible only in [`Phase::Closing`] and [`Phase::Closed`], until one
+    /// call there has succeeded; nothing has changed then.
     pub fn left_len(&mut self) -> Result<usize, AllocError>
         ensures len { IfOk result (λ n. n ≡ length (left_of self.old.core)) }
         ensures still { OnOk result ((left_of self.new.core ≡ left_of self.old.core) × (but_left self.new.core ≡ but_left self.old.core)) }
@@ -192,15 +218,15 @@ impl Conn {
         }
     }
 
-    /// Forgets the journal's entries so far, as `Logged::forget`, with the payloads that nobody else holds. Phase,
-    /// units, and what was not read stay.
+    /// Forgets the journal's entries so far, as [`Logged::forget`] does, with the payloads that nobody else holds. The
+    /// phase, the units and the unread octets stay.
     pub fn forget(&mut self)
         ensures { self.new ≡ forgotten self.old }
     {
         self.machine.boxed.forget();
     }
 
-    /// Where the connection stands.
+    /// Returns the phase of the connection.
     pub fn phase(&self) -> Phase
         ensures value { result ≡ self.now.core.phase }
         ensures quiet { IsQuiet self.now }
@@ -208,24 +234,32 @@ impl Conn {
         self.machine.get().phase()
     }
 
-    /// The session with its journal, and the units that wait.
+    /// Returns the session with its journal, and the units that wait to be written.
     pub fn logged(&self) -> &Logged
         ensures { result.now ≡ self.now.core.log }
     {
         self.machine.get().logged()
     }
 
-    /// The links of this role that can be rejoined, as each would be put aside, in order: for another connection, once the octets of this one ended
-    /// (part 2, 2.6.13). It may be asked in every phase, and changes nothing; a session that has ended, by either side, has no links any more. O(n · u) for
-    /// n links and u unsettled deliveries of the role.
+    /// Returns the links of this role that can be rejoined, each as it would be put aside, in order: for another
+    /// connection after the octets of this one ended (part 2, 2.6.13).
+    ///
+    /// It works in every phase, and changes nothing. A session that has ended, by either side, has no links any more.
+    /// O(n · u) for n links and u unsettled deliveries of the role.
+    ///
+    /// # Errors
+    ///
+    /// [`AllocError`] if memory runs out.
     pub fn links_aside(&self, role: Role) -> Result<Vec<Suspended>, AllocError>
         ensures { IfOk result (λ v. v.items ≡ all_aside (at self.now.core.log.config (past self.now.core.log.journal)) role) }
     {
         self.logged().endpoint().links_aside(role)
     }
 
-    /// The peer's open (part 2, 2.7.1), as it was heard: its name, the host that it wants, the longest frame that it takes, its idle time-out, its properties
-    /// and the rest. None until it was heard; it stays, also once the connection has ended and where the journal forgets.
+    /// Returns the peer's open (part 2, 2.7.1): its container id, the host that it wants, the longest frame that it
+    /// accepts, its idle time-out, its properties and the rest.
+    ///
+    /// `None` until it is received. It stays when the connection ends, and when the journal forgets.
     pub fn peer(&self) -> Option<&OpenBody>
         ensures { option_map (λ b. b.now) result ≡ self.now.core.peer }
     {
@@ -235,55 +269,62 @@ impl Conn {
         }
     }
 
-    /// The peer's close (part 2, 2.7.9), as it was heard; it stays. None until it was heard, so also where a fault or the end of the octets ended the
-    /// connection.
+    /// Returns the peer's close (part 2, 2.7.9). `None` until it is received, so also if a fault or the end of the
+    /// octets ended the connection.
     pub fn parting(&self) -> Option<&CloseBody>
         ensures { option_map (λ b. b.now) result ≡ self.now.core.parting }
     {
         self.machine.get().parting.as_ref()
     }
 
-    /// Why the peer closed the connection (part 2, 2.8.14): the error of its close, where one was heard that has an error.
+    /// Returns why the peer closed the connection (part 2, 2.8.14): the error of its close. `None` until a close with
+    /// an error is received.
     pub fn ended_by(&self) -> Option<&AmqpError>
         ensures { option_map (λ e. e.now) result ≡ error_of_close self.now.core.parting }
     {
         error_of_close(&self.machine.get().parting)
     }
 
-    /// The frame that the journal's newest entry heard, until the next step or `forget`. Behind a feed that made a step it is the frame that was fed:
-    /// so the error of an end or a detach is read (`error_of`), which no other call keeps. None where the newest step is another, as
-    /// the answer to a violation.
+    /// Returns the frame that the journal's newest entry received, until the next step or [`forget`](Conn::forget).
+    ///
+    /// After a feed that took a frame of the session it is that frame: [`error_of`](crate::error_of) returns the
+    /// error of an end or a detach. `None` if the newest step is another, such as the answer to a violation, or if no
+    /// entry is kept.
     pub fn heard(&self) -> Option<&Frame>
         ensures { option_map (λ f. f.now) result ≡ heard_by (newest self.now.core.log) }
     {
         heard(self.machine.get().logged())
     }
 
-    /// Why the peer detached the link of this number (part 2, 2.8.14): the error of the detach that it heard of it, as for what that link left (`pop_left`), whose
-    /// number is in it. It is there in every phase, as long as the journal keeps the detach (`forget`). O(n) for n entries that are kept.
+    /// Returns why the peer detached the link of this number (part 2, 2.8.14): the error of the detach that removed it.
+    /// The items of [`pop_left`](Conn::pop_left) have the number of their link.
+    ///
+    /// `None` if the peer did not detach the link, if its detach has no error, or once [`forget`](Conn::forget) has
+    /// removed the detach's entry. It works in every phase. O(n) for n entries that are kept.
     pub fn detached_by(&self, link: u32) -> Option<&AmqpError>
         ensures { option_map (λ e. e.now) result ≡ detached_by link self.now.core.log }
     {
         detached_by(self.machine.get().logged(), link)
     }
 
-    /// What the journal's newest entry gave, until the next step or `forget`: behind an operation what it gave, as the delivery that was taken. None where no
-    /// entry is kept.
+    /// Returns what the journal's newest entry gave, such as the delivery that an operation took, until the next step
+    /// or [`forget`](Conn::forget). `None` if no entry is kept.
     pub fn given(&self) -> Option<&Given>
         ensures { option_map (λ g. g.now) result ≡ given_by (newest self.now.core.log) }
     {
         given(self.machine.get().logged())
     }
 
-    /// The deliveries that the journal's newest entry ended, by our role and id, until the next step or `forget`: what was settled, and what was
-    /// unsettled on a link that went.
+    /// Returns the deliveries that the journal's newest entry ended, by our role and id, until the next step or
+    /// [`forget`](Conn::forget): those that were settled, and those that were unsettled on a link that was removed.
     pub fn ended(&self) -> &[(Role, u32)]
         ensures { result.now ≡ ended_by (newest self.now.core.log) }
     {
         ended(self.machine.get().logged())
     }
 
-    /// The octets ended: the phase is `Closed`, and what was not read is dropped. Nothing else changes, and no close goes out.
+    /// Ends the connection because its octets ended: the phase is [`Phase::Closed`], and unread octets are dropped.
+    /// Nothing else changes, and no close is sent.
     pub fn lost(&mut self)
         ensures { self.new ≡ connection (in_phase Phase.Closed self.old.core) [] }
     {
@@ -291,14 +332,17 @@ impl Conn {
         self.framer = Framer::new(self.alloc, self.machine.get().max_frame());
     }
 
-    /// Takes some of the octets, at most to the end of one frame, and does what they say. Of octets that are not none it uses one, or makes
-    /// the step that answers a violation; then the frame is read again by the next feed. It copies what it keeps of an unfinished frame. The payload of a
-    /// transfer that lies whole in shared octets is a slice of them, which keeps all of them alive for as long as the delivery's entry is not forgotten; of
-    /// lent octets it is copied once.
+    /// Takes octets, at most to the end of one frame, and does what they say.
+    ///
+    /// If there are any octets, it uses at least one, or it makes the step that answers a violation; then the next
+    /// feed reads the frame again. It copies what it keeps of an unfinished frame. A transfer's payload that lies
+    /// whole in shared octets is a slice of them, which keeps all of them alive until the delivery's entry is
+    /// forgotten; a payload in lent octets is copied once.
     ///
     /// # Errors
     ///
-    /// `ConnFault`: the first five end the connection, `Closed` says that it had ended before, and `NoMemory` that nothing has changed.
+    /// A [`ConnFault`]. The first five end the connection. [`ConnFault::Closed`] is returned if it had ended before,
+    /// and [`ConnFault::NoMemory`] if memory runs out; nothing has changed then, and the octets can be fed again.
     pub fn feed(&mut self, octets: &Octets<'_>) -> Result<Fed, ConnFault>
         ensures fed { Feeds self.old octets.now result self.new }
         ensures progress { octets.now ≢ [] → MovesOn result }

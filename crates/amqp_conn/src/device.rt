@@ -1,4 +1,4 @@
-//! Where octets come from and go to.
+//! Sources and sinks of octets.
 ghost use Rattle.std.specs.Prelude.{◌≡◌, ◌≤◌, ◌<◌, ◌+◌, ◌-◌, ◌^◌, None, Some, length, IfOk, OnOk, OnErr};
 ghost use Rattle.std.specs.Io.KnownBytes.{ReadConsumes, Appends};
 ghost use Rattle.amqp_conn.specs.Pumping.{AppendsFront};
@@ -6,22 +6,26 @@ ghost use Rattle.amqp_conn.specs.Pumping.{AppendsFront};
 use std::io::{Error, ErrorKind, Read, Write};
 use thiserror::Error;
 
-/// A device failed. Why it did, the device itself can tell.
+/// The error of a device that failed. Only the device itself knows why ([`FromStd::take_error`]).
 #[derive(Clone, Copy, Debug, PartialEq, Eq, Error)]
 #[error("a device failed")]
 pub struct Failed;
 
-/// What octets are read from.
+/// A source of octets.
 pub trait Source {
     ghost use Rattle.std.specs.Prelude.{ℕ, List, Option};
 
-    /// The octets that reads will give from here on, where they are known.
+    /// The octets that reads will return from here on, if they are known.
     ghost remaining: { Self → Option (List ℕ) };
 
-    /// How many reads failed.
+    /// How many reads have failed.
     ghost failed: { Self → ℕ };
 
-    /// Reads some octets into the front of the buffer, and answers how many; none where the input has ended.
+    /// Reads some octets into the front of the buffer, and returns how many: 0 at the end of the input.
+    ///
+    /// # Errors
+    ///
+    /// [`Failed`] if the device failed.
     fn read(&mut self, buffer: &mut [u8]) -> Result<usize, Failed>
         requires { failed self.old < 2 ^ 64 - 1 }
         ensures bound { IfOk result (λ n. n ≤ length buffer.new) }
@@ -29,22 +33,26 @@ pub trait Source {
         ensures ok { OnOk result (failed self.new ≡ failed self.old) }
         ensures err { OnErr result (failed self.new ≡ failed self.old + 1) };
 
-    /// How many reads failed.
+    /// Returns how many reads have failed.
     fn failures(&self) -> u64
         ensures { result ≡ failed self.now };
 }
 
-/// What octets are written to.
+/// A sink of octets.
 pub trait Sink {
     ghost use Rattle.std.specs.Prelude.{ℕ, List, Option};
 
-    /// The octets that were written, where they are known.
+    /// The octets that were written, if they are known.
     ghost written: { Self → Option (List ℕ) };
 
-    /// How many writes failed.
+    /// How many writes have failed.
     ghost failed: { Self → ℕ };
 
-    /// Writes all octets, and keeps none back: nothing else flushes it. Where that fails, a front of them may have been written.
+    /// Writes all octets, and buffers none: nothing else flushes the sink.
+    ///
+    /// # Errors
+    ///
+    /// [`Failed`] if the device failed; a front of the octets may have been written then.
     fn write_all(&mut self, octets: &[u8]) -> Result<(), Failed>
         requires { failed self.old < 2 ^ 64 - 1 }
         ensures octets { OnOk result (Appends (written self.old) (written self.new) octets.now) }
@@ -52,12 +60,12 @@ pub trait Sink {
         ensures ok { OnOk result (failed self.new ≡ failed self.old) }
         ensures err { OnErr result (failed self.new ≡ failed self.old + 1) };
 
-    /// How many writes failed.
+    /// Returns how many writes have failed.
     fn failures(&self) -> u64
         ensures { result ≡ failed self.now };
 }
 
-/// A source over any `Read`, a sink over any `Write`. It keeps the error of the call that failed last.
+/// A source over any `Read`, or a sink over any `Write`. It keeps the error of the call that failed last.
 #[derive(Drop, Debug)]
 pub struct FromStd<T> {
     device: T,
@@ -66,7 +74,7 @@ pub struct FromStd<T> {
 }
 
 impl<T> FromStd<T> {
-    /// Over the device, none of whose calls has failed yet.
+    /// Wraps the device. No call has failed yet.
     pub fn new(device: T) -> FromStd<T>
         ensures { result ≡ record { device = device; failures = 0; error = None } }
     {
@@ -77,7 +85,7 @@ impl<T> FromStd<T> {
         }
     }
 
-    /// The device itself.
+    /// Returns the device.
     pub fn into_inner(self) -> T
         ensures { result ≡ self.device }
     {
@@ -85,7 +93,7 @@ impl<T> FromStd<T> {
         device
     }
 
-    /// The device's own error, of the call that failed last. It is told once.
+    /// Removes and returns the device's own error, of the call that failed last.
     pub fn take_error(&mut self) -> Option<Error>
         ensures told { result ≡ self.old.error }
         ensures kept { self.new ≡ record { device = self.old.device; failures = self.old.failures; error = None } }
@@ -93,7 +101,6 @@ impl<T> FromStd<T> {
         self.error.take()
     }
 
-    /// Keeps the error, and counts it.
     fn fail(&mut self, error: Error) -> Failed
         requires { self.old.failures < 2 ^ 64 - 1 }
         ensures { self.new ≡ record { device = self.old.device; failures = self.old.failures + 1; error = Some error } }
@@ -138,7 +145,7 @@ impl<T: Write> Sink for FromStd<T> {
     }
 }
 
-/// Writes all octets. Where that fails a front of them was written, which `Write::write_all` does not tell.
+/// Stands in for `Write::write_all`, whose contract does not say that a front was written if it fails.
 fn write_whole<T: Write>(device: &mut T, octets: &[u8]) -> Result<(), Error>
     ensures octets { OnOk result (Appends (T.contents device.old) (T.contents device.new) octets.now) }
     ensures front { OnErr result (AppendsFront (T.contents device.old) (T.contents device.new) octets.now) }

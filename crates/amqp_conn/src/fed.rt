@@ -1,16 +1,16 @@
-//! What a feed took.
+//! The result of a feed.
 use amqp_rules::reply::Given;
 use amqp_rules::violation::Violation;
 
 /// What a feed took, and what that gave.
 #[derive(Drop, Debug)]
 pub struct Fed {
-    /// How many octets of the piece.
+    /// How many octets of the piece were used.
     pub used: usize,
-    /// The journal has one entry more.
+    /// Whether the journal has one entry more.
     pub stepped: bool,
-    /// What that entry gives; nothing where there is none.
+    /// What that entry gave; [`Given::Nothing`] if there is no new entry.
     pub given: Given,
-    /// Of a frame that was not taken, and that the entry answers. The next feed reads the frame again.
+    /// The violation that the entry answers, by a frame that was not taken: the next feed reads that frame again.
     pub violation: Option<Violation>,
 }

@@ -1,4 +1,4 @@
-//! What a framer's answer makes of a connection.
+//! What a framer's answer does to a connection.
 ghost use Rattle.std.specs.Prelude.{◌≡◌, ◌≢◌, IsSome, IfOk};
 ghost use Rattle.amqp_frames.specs.Slots.{told_with};
 ghost use Rattle.amqp_conn.specs.declared.phase.Phase.{Phase};
@@ -11,7 +11,7 @@ use amqp_frames::{Filled, Frame, FrameFault, Framer};
 use amqp_types::Boxed;
 use std::alloc::Global;
 
-/// Does what the framer's answer says. The frame is taken out of its slot where it is kept.
+/// Takes the frame out of its slot if it is kept.
 #[inline(always)]
 pub(crate) fn act(
     alloc: Global,
@@ -32,7 +32,6 @@ pub(crate) fn act(
     }
 }
 
-/// Ends the connection for a fault of framing; nothing changes where memory was refused.
 fn end_whole(
     alloc: Global,
     machine: &mut Machine,
@@ -94,7 +93,6 @@ fn end_all(alloc: Global, machine: &mut Machine, framer: &mut Framer, fault: Con
     }
 }
 
-/// Does what a whole frame does; one that is not taken goes back.
 #[inline(always)]
 fn treat_whole(
     machine: &mut Machine,
@@ -111,7 +109,7 @@ fn treat_whole(
     answer
 }
 
-/// The frame goes back where it was not taken.
+/// A frame that was not taken must be read again by the next feed.
 #[inline(always)]
 fn put_back(framer: &mut Framer, answer: &Result<Fed, ConnFault>)
     requires { IsSome framer.old.state.before }

@@ -1,4 +1,4 @@
-//! The peer's header (part 2, 2.2): eight octets, however they come.
+//! The peer's header (part 2, 2.2): eight octets, in pieces of any length.
 ghost use Rattle.std.specs.Prelude.{◌≡◌, ◌≢◌, ◌≤◌, ◌+◌, ◌++◌, length, vec_len, vec_capacity, MatchBool};
 ghost use Rattle.amqp_conn.specs.Octets.{header};
 ghost use Rattle.amqp_conn.specs.Treats.{ReadsHeader};
@@ -9,7 +9,7 @@ use crate::treating::{Machine, nothing};
 use crate::writing::HEADER;
 use amqp_types::Boxed;
 
-/// Puts octets behind those that are there; there is room for them.
+/// Requires room for the octets, so that it cannot run out of memory.
 pub(crate) fn fill(head: &mut Vec<u8>, octets: &[u8])
     requires { vec_len head.old + length octets.now ≤ vec_capacity head.old }
     ensures items { head.new.items ≡ head.old.items ++ octets.now }
@@ -24,7 +24,7 @@ fn is_header(octets: &[u8]) -> bool
     octets == HEADER.as_slice()
 }
 
-/// Reads eight octets as the peer's header, of which `used` came last, behind `count`. Where memory is refused those are taken away again.
+/// If memory runs out, the `used` octets that came last, after `count` others, are removed again, to be fed again.
 pub(crate) fn read_header(
     machine: &mut Boxed<Machine>,
     head: &mut Vec<u8>,

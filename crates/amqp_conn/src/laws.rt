@@ -11,10 +11,14 @@ ghost use Rattle.amqp_conn.specs.Treating.{ending};
 ghost use Rattle.amqp_conn.specs.Saying.{has_met};
 ghost use Rattle.amqp_conn.specs.Feeding.{IsFed, Feeds, FeedsInTurn, Ends, AddsEntry, ClosesOnce};
 
-/// However a stream is cut, it makes one and the same of a connection: what octets make of it, and then others of that, all of them make at once
-/// (`cut`, `one`, `none`), and so does a loop of feeds (`in_turn`), also where it ends with a fault (`ends`). A feed adds one entry to the journal
-/// at most, which gives what is told (`one_entry`). Once the peer's open was heard, octets do not change it (`peer`). A connection that ends with a fault puts out one close at most, with the fault's condition,
-/// and adds no entry (`closes`); each close of its own can be written to every peer (`writable`, `plain`).
+/// States the laws of a connection in its contract, and does nothing.
+///
+/// However a stream is cut, the connection that it leads to is the same: octets and then further octets lead to what
+/// all of them lead to at once (`cut`, `one`, `none`), and so does a loop of feeds (`in_turn`), also if it ends with
+/// a fault (`ends`). A feed adds at most one entry to the journal, and returns what that entry gave (`one_entry`).
+/// Octets do not change the peer's open once it was received (`peer`). A connection that ends with a fault sends at
+/// most one close, with the fault's condition, and adds no entry (`closes`). Each close of its own can be written to
+/// every peer (`writable`, `plain`).
 pub fn laws()
     ensures cut { (c d e : Connection) (x y : List ℕ) → IsFed c x d → IsFed d y e → IsFed c (x ++ y) e }
     ensures one { (c d e : Connection) (x : List ℕ) → IsFed c x d → IsFed c x e → d ≡ e }

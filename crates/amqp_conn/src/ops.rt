@@ -1,4 +1,4 @@
-//! Operations as they are mostly wanted, with the rest of their fields at the standard's defaults. [`Op`] has all fields.
+//! The common operations, with the rest of their fields at the standard's defaults. [`Op`] has all fields.
 ghost use Rattle.std.specs.Prelude.{◌≡◌, None, Some, [], ◌∷◌, true, false, IfOk};
 
 use amqp_frames::{DeliveryState, Role};
@@ -9,18 +9,19 @@ use amqp_waiting::Brought;
 use bytes::Bytes;
 use std::alloc::{AllocError, Global};
 
-/// The sender settles no delivery before the receiver has told its state (part 2, 2.8.2).
+/// The sender sends all deliveries unsettled (part 2, 2.8.2).
 pub const SENDER_UNSETTLED: u8 = 0;
 /// The sender settles each delivery as it sends it (part 2, 2.8.2).
 pub const SENDER_SETTLED: u8 = 1;
 /// The sender settles some of its deliveries as it sends them (part 2, 2.8.2); the default.
 pub const SENDER_MIXED: u8 = 2;
-/// The receiver settles as soon as it tells a state (part 2, 2.8.3); the default.
+/// The receiver settles a delivery as soon as it sends its state (part 2, 2.8.3); the default.
 pub const RECEIVER_FIRST: u8 = 0;
-/// The receiver settles after the sender has (part 2, 2.8.3).
+/// The receiver settles a delivery after the sender has settled it (part 2, 2.8.3).
 pub const RECEIVER_SECOND: u8 = 1;
 
-/// Attaches a link of this name between these addresses (part 2, 2.7.3): mixed settling, the receiver first, messages of any length, counted from 0.
+/// Returns the operation that attaches a link of this name between a source and a target (part 2, 2.7.3), with
+/// [`SENDER_MIXED`], [`RECEIVER_FIRST`], messages of any length, and a delivery count from 0.
 pub fn attach(
     name: Text,
     role: Role,
@@ -41,21 +42,30 @@ pub fn attach(
     }
 }
 
-/// A source of this address, with the rest of its fields absent (part 3, 3.5.3): where the messages of a link come from.
+/// Returns a source of this address, with the rest of its fields absent (part 3, 3.5.3): where the messages of a link
+/// come from.
+///
+/// # Errors
+///
+/// [`AllocError`] if memory runs out.
 pub fn source(alloc: Global, address: Text) -> Result<Boxed<Value>, AllocError>
     ensures { IfOk result (λ v. v ≡ Value.Described (Value.Ulong 40) (Value.List (Value.Str address ∷ []))) }
 {
     terminus(alloc, 0x28, address)
 }
 
-/// A target of this address, with the rest of its fields absent (part 3, 3.5.4): where the messages of a link go to.
+/// Returns a target of this address, with the rest of its fields absent (part 3, 3.5.4): where the messages of a link
+/// go to.
+///
+/// # Errors
+///
+/// [`AllocError`] if memory runs out.
 pub fn target(alloc: Global, address: Text) -> Result<Boxed<Value>, AllocError>
     ensures { IfOk result (λ v. v ≡ Value.Described (Value.Ulong 41) (Value.List (Value.Str address ∷ []))) }
 {
     terminus(alloc, 0x29, address)
 }
 
-/// A list of the address alone, under this descriptor.
 fn terminus(alloc: Global, descriptor: u64, address: Text) -> Result<Boxed<Value>, AllocError>
     ensures { IfOk result (λ v. v ≡ Value.Described (Value.Ulong descriptor) (Value.List (Value.Str address ∷ []))) }
 {
@@ -66,14 +76,15 @@ fn terminus(alloc: Global, descriptor: u64, address: Text) -> Result<Boxed<Value
     Boxed::new(alloc, Value::Described(descriptor, list))
 }
 
-/// Begins the session (part 2, 2.5.1).
+/// Returns the operation that begins the session (part 2, 2.5.1).
 pub fn begin() -> Op
     ensures { result ≡ Op.Begin }
 {
     Op::Begin
 }
 
-/// Sends a message as one unsettled delivery of one transfer, in message-format 0 (part 2, 2.7.5 and 2.8.11).
+/// Returns the operation that sends a message as one unsettled delivery of one transfer, in message-format 0 (part 2,
+/// 2.7.5 and 2.8.11).
 pub fn start(link: u32, tag: Tag, payload: Bytes) -> Op
     ensures { result ≡ Op.Start link tag 0 false payload false }
 {
@@ -87,7 +98,7 @@ pub fn start(link: u32, tag: Tag, payload: Bytes) -> Op
     }
 }
 
-/// Accepts the delivery that came with this id, and settles it (part 2, 2.7.6; part 3, 3.4.2).
+/// Returns the operation that accepts and settles the received delivery with this id (part 2, 2.7.6; part 3, 3.4.2).
 pub fn accept(id: u32) -> Op
     ensures { result ≡ Op.Dispose Role.Receiver id id true (Some DeliveryState.Accepted) }
 {
@@ -100,7 +111,7 @@ pub fn accept(id: u32) -> Op
     }
 }
 
-/// Gives the peer credit for so many deliveries on the link (part 2, 2.6.7).
+/// Returns the operation that grants the peer credit for `credit` deliveries on the link (part 2, 2.6.7).
 pub fn grant(link: u32, credit: u32) -> Op
     ensures { result ≡ Op.Grant link credit false false }
 {
@@ -112,22 +123,30 @@ pub fn grant(link: u32, credit: u32) -> Op
     }
 }
 
-/// Detaches the link without an error (part 2, 2.6.6).
+/// Returns the operation that detaches the link without an error (part 2, 2.6.6).
 pub fn detach(link: u32) -> Op
     ensures { result ≡ Op.Detach link None }
 {
     Op::Detach { link, error: None }
 }
 
-/// Puts the link aside (part 2, 2.6.4): what is unsettled on it is given.
+/// Returns the operation that puts the link aside (part 2, 2.6.4). Its result has the deliveries that are unsettled on
+/// the link.
 pub fn suspend(link: u32) -> Op
     ensures { result ≡ Op.Suspend link }
 {
     Op::Suspend { link }
 }
 
-/// Brings a link back that was put aside (part 2, 2.6.13), between these addresses: mixed settling, the receiver first, messages of any length, counted
-/// from 0. What went aside with it waits on it to be resumed. It is copied, so that want of memory loses nothing of it.
+/// Returns the operation that attaches a link again that was put aside (part 2, 2.6.13), between a source and a target,
+/// with [`SENDER_MIXED`], [`RECEIVER_FIRST`], messages of any length, and a delivery count from 0.
+///
+/// The deliveries that were put aside with the link wait on it to be resumed. They are copied from `aside`, which stays
+/// whole if memory runs out.
+///
+/// # Errors
+///
+/// [`AllocError`] if memory runs out.
 pub fn rejoin(
     alloc: Global,
     aside: &Suspended,
@@ -152,7 +171,7 @@ pub fn rejoin(
     Ok(Op::Rejoin(Boxed::new(alloc, rejoin)?))
 }
 
-/// Resumes the delivery with this tag that waits on the link, unsettled (part 2, 2.6.13).
+/// Returns the operation that resumes the delivery with this tag that waits on the link, unsettled (part 2, 2.6.13).
 pub fn resume(link: u32, tag: Tag) -> Op
     ensures { result ≡ Op.Resume link tag false }
 {
@@ -163,21 +182,21 @@ pub fn resume(link: u32, tag: Tag) -> Op
     }
 }
 
-/// Ends the session without an error (part 2, 2.5.2).
+/// Returns the operation that ends the session without an error (part 2, 2.5.2).
 pub fn end() -> Op
     ensures { result ≡ Op.End None }
 {
     Op::End { error: None }
 }
 
-/// Learns what the peer has told of one delivery of the link.
+/// Returns the operation that learns the first outcome that the peer has sent for a delivery of the link.
 pub fn learn(link: u32) -> Op
     ensures { result ≡ Op.Learn link }
 {
     Op::Learn { link }
 }
 
-/// Takes the first delivery of the link that is ready.
+/// Returns the operation that takes the first delivery of the link that is ready.
 pub fn take(link: u32) -> Op
     ensures { result ≡ Op.Take link }
 {

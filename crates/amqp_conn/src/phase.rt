@@ -1,16 +1,16 @@
-//! How far header, open and close have come.
+//! The phases of a connection.
 
-/// Where a connection stands (part 2, 2.4.6).
+/// The phase of a connection (part 2, 2.4.6): which of header, open and close were exchanged.
 #[derive(Clone, Copy, Debug, PartialEq, Eq)]
 pub enum Phase {
-    /// Our header is put out, and the peer's is awaited.
+    /// Our header is queued to be written, and the peer's is awaited.
     AwaitHeader,
-    /// Our open is put out, and the peer's is awaited.
+    /// Our open is queued to be written, and the peer's is awaited.
     AwaitOpen,
-    /// Our open was put out and the peer's was heard: frames are heard, and operations done.
+    /// The peer's open was received: frames are taken, and operations are done.
     Running,
-    /// Our close is put out, and the peer's is awaited.
+    /// Our close is queued to be written, and the peer's is awaited.
     Closing,
-    /// The end: nothing is read or sent any more, but what waits to go out.
+    /// The connection has ended: nothing is read, and nothing more is queued. The units that wait can still be popped.
     Closed,
 }

@@ -1,22 +1,24 @@
-//! What a pump keeps between its calls: octets that were read and not fed yet.
+//! The buffer of a pump: octets that were read and not fed yet.
 ghost use Rattle.std.specs.Prelude.{◌≡◌, ◌≤◌, ◌<◌, ◌+◌, ◌-◌, ◌^◌, [], length, drop, IfOk, OnOk, OnErr};
 ghost use Rattle.std.specs.Io.KnownBytes.{Consumes, IsAtEnd, Keeps};
 
 use crate::device::{Failed, Source};
 use std::marker::Model;
 
-/// The most octets that are read at once.
+/// The most octets of one read.
 const PIECE: usize = 4096;
 
-/// Moves octets between a connection and its devices ([`Pump::drive`]). It keeps those that were read and not fed: want of memory loses nothing, and
-/// the same call goes on. One pump belongs to one connection and its source.
+/// Moves octets between a connection and its devices ([`Pump::drive`]).
+///
+/// It keeps octets that were read and not fed, so an allocation failure loses nothing: the same call goes on. A pump
+/// belongs to one connection and its source.
 #[derive(Drop)]
 pub struct Pump {
-    /// What was read last.
+    /// The octets of the last read, from its front.
     buffer: [u8; PIECE],
-    /// Of it, from here on, nothing was fed.
+    /// The octets from here on were not fed.
     start: usize,
-    /// What was read ends here.
+    /// The end of the octets that were read.
     end: usize,
 }
 
@@ -32,7 +34,7 @@ impl Model for Pump {
 }
 
 impl Pump {
-    /// A pump that has read nothing.
+    /// Creates a pump that has read nothing. It does not allocate.
     pub fn new() -> Pump
         ensures { result ≡ [] }
     {
@@ -43,14 +45,13 @@ impl Pump {
         }
     }
 
-    /// The octets that were read and not fed yet.
+    /// Returns the octets that were read and not fed yet.
     pub fn rest(&self) -> &[u8]
         ensures { result.now ≡ self.now }
     {
         &self.buffer[self.start..self.end]
     }
 
-    /// So many of the rest were fed.
     pub(crate) fn skip(&mut self, used: usize)
         requires { used ≤ length self.old }
         ensures { self.new ≡ drop used self.old }
@@ -58,14 +59,13 @@ impl Pump {
         self.start += used;
     }
 
-    /// Nothing is left to be fed.
     pub(crate) fn clear(&mut self)
         ensures { self.new ≡ [] }
     {
         self.start = self.end;
     }
 
-    /// Reads once, in the place of what was kept: how many octets.
+    /// Overwrites what was kept.
     pub(crate) fn refill<S: Source>(&mut self, source: &mut S) -> Result<usize, Failed>
         requires { S.failed source.old < 2 ^ 64 - 1 }
         ensures count { IfOk result (λ n. length self.new ≡ n) }
@@ -88,5 +88,5 @@ impl Pump {
     }
 }
 
-// The most that clauses speak of.
+// The number that the contracts state.
 const _: () = prove!(PIECE == 4096);

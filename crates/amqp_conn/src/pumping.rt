@@ -1,4 +1,4 @@
-//! A connection over a source and a sink.
+//! Running a connection over a source and a sink.
 ghost use Rattle.std.specs.Prelude.{ℕ, List, Option, Err, ◌≡◌, ◌≢◌, ◌<◌, ◌≤◌, ◌+◌, ◌-◌, ◌^◌, [], length, drop, IfOk, IfErr, IfSome, OnOk, OnErr, MatchBool};
 ghost use Rattle.std.specs.Bool.{OnTrue, OnFalse};
 ghost use Rattle.std.specs.Io.KnownBytes.{Appends};
@@ -19,54 +19,54 @@ use amqp_rules::reply::Given;
 use amqp_rules::sliced::Sliced;
 use thiserror::Error;
 
-/// Why a pump stopped.
+/// Why a pump stopped without a failure.
 #[derive(Clone, Copy, Debug, PartialEq, Eq)]
 pub enum PumpEnd {
-    /// The connection has ended, and all units went out.
+    /// The connection has ended, and all units were written.
     Closed,
-    /// The source gives no more octets.
+    /// The source has no more octets.
     EndOfInput,
-    /// The turns are used up.
+    /// The turns are over.
     TurnsOver,
 }
 
-/// Why a pump failed. What was read and not fed it keeps.
+/// Why a pump failed. The pump keeps the octets that were read and not fed.
 #[derive(Clone, Copy, Debug, PartialEq, Eq, Error)]
 pub enum PumpFault {
-    /// Nothing of that read came; all that came before was fed.
+    /// The source failed. That read returned no octets, and all octets before it were fed.
     #[error("a read failed")]
     Read,
-    /// A front of the octets of one unit was written, which waits no more; of how many, the sink knows.
+    /// The sink failed. A front of one unit's octets may have been written, and that unit does not wait any more.
     #[error("a write failed")]
     Write,
-    /// A feed told it. After `NoMemory` the same call goes on, after each other one the connection is closed.
+    /// A feed failed. After [`ConnFault::NoMemory`] the same call goes on; after every other fault the connection is
+    /// closed.
     #[error("{0}")]
     Conn(ConnFault),
 }
 
-/// Where a loop of feeds stopped.
 #[derive(Clone, Copy)]
 struct Stopped {
-    /// How many octets were fed before.
+    /// How many octets were fed before the fault.
     used: usize,
     fault: ConnFault,
 }
 
-/// Who is told what each entry of the journal gives, as soon as it stands.
+/// A handler of what each new entry of the journal gives.
 pub trait Hears {
     ghost use Rattle.std.specs.Prelude.{List, Option, []};
     ghost use Rattle.amqp_rules.specs.declared.reply.Given.{Given};
     ghost use Rattle.amqp_conn.specs.Pumping.{Adds};
 
-    /// What was told, in its order, where that is known.
+    /// What the handler was called with so far, in order, if that is known.
     ghost heard: { Self → Option (List Given) };
 
-    /// Is told what one entry more gives, before the next frame is fed. It cannot fail.
+    /// Called with what a new entry gives, before the next frame is fed. It cannot fail.
     fn hear(&mut self, given: Given)
         ensures { Adds (heard self.old) (heard self.new) given };
 }
 
-/// A hearer that drops what it is told.
+/// A handler that drops what it is called with.
 #[derive(Drop)]
 struct Deaf;
 
@@ -80,7 +80,6 @@ impl Hears for Deaf {
     }
 }
 
-/// Hands on what a feed gave, where it added an entry to the journal; and answers how many octets it used.
 fn hand_on<H: Hears>(each: &mut H, fed: Fed) -> usize
     ensures used { result ≡ fed.used }
     ensures tells { OnTrue fed.stepped (Adds (H.heard each.old) (H.heard each.new) fed.given) }
@@ -99,7 +98,7 @@ fn hand_on<H: Hears>(each: &mut H, fed: Fed) -> usize
     used
 }
 
-/// What always holds of a connection; it does nothing.
+/// Brings into a proof what always holds of a connection; it does nothing.
 fn recall(conn: &Conn)
     ensures quiet { IsQuiet conn.now }
     ensures within { PutWithin (length conn.now.core.log.journal) conn.now.core.log.put }
@@ -116,7 +115,6 @@ fn is_closed(conn: &Conn) -> bool
     conn.phase() == Phase::Closed
 }
 
-/// The rest has no octets, or the connection has ended.
 fn is_over(conn: &Conn, rest: &[u8]) -> bool
     ensures over { OnTrue result (IsFed conn.now rest.now conn.now) }
     ensures some { OnFalse result (rest.now ≢ []) }
@@ -126,7 +124,6 @@ fn is_over(conn: &Conn, rest: &[u8]) -> bool
     rest.is_empty() || phase == Phase::Closed
 }
 
-/// One feed of the rest: how many octets it used.
 fn feed_once<H: Hears>(conn: &mut Conn, each: &mut H, rest: &[u8]) -> Result<usize, ConnFault>
     requires { rest.now ≢ [] }
     ensures tells { Tells conn.old.core.log.journal conn.new.core.log.journal (H.heard each.old) (H.heard each.new) }
@@ -143,7 +140,6 @@ fn feed_once<H: Hears>(conn: &mut Conn, each: &mut H, rest: &[u8]) -> Result<usi
     }
 }
 
-/// Feeds the piece, to its end or to that of the connection.
 fn feed_all<H: Hears>(conn: &mut Conn, each: &mut H, piece: &[u8]) -> Result<(), Stopped>
     ensures tells { Tells conn.old.core.log.journal conn.new.core.log.journal (H.heard each.old) (H.heard each.new) }
     ensures took { OnOk result (Took conn.old piece.now conn.new []) }
@@ -160,7 +156,6 @@ fn feed_all<H: Hears>(conn: &mut Conn, each: &mut H, piece: &[u8]) -> Result<(),
     Ok(())
 }
 
-/// Octets go out, slice by slice.
 fn write_slices<K: Sink>(sink: &mut K, octets: &Sliced) -> Result<(), Failed>
     requires { K.failed sink.old < 2 ^ 64 - 1 }
     ensures octets { OnOk result (Appends (K.written sink.old) (K.written sink.new) octets.now) }
@@ -182,7 +177,7 @@ fn write_slices<K: Sink>(sink: &mut K, octets: &Sliced) -> Result<(), Failed>
     }
 }
 
-/// One unit goes out; or none waits.
+/// Returns whether there was a unit to write.
 fn write_unit<K: Sink>(sink: &mut K, conn: &mut Conn) -> Result<bool, Failed>
     requires { K.failed sink.old < 2 ^ 64 - 1 }
     ensures writes { IfOk result (λ more. OnTrue more (WritesOne conn.old conn.new (K.written sink.old) (K.written sink.new))) }
@@ -204,7 +199,6 @@ fn write_unit<K: Sink>(sink: &mut K, conn: &mut Conn) -> Result<bool, Failed>
     }
 }
 
-/// All units that wait go out.
 fn write_waiting<K: Sink>(sink: &mut K, conn: &mut Conn) -> Result<(), Failed>
     requires { K.failed sink.old < 2 ^ 64 - 1 }
     ensures writes { OnOk result (WritesOne conn.old conn.new (K.written sink.old) (K.written sink.new)) }
@@ -225,7 +219,7 @@ fn write_waiting<K: Sink>(sink: &mut K, conn: &mut Conn) -> Result<(), Failed>
     }
 }
 
-/// After the fault the units that wait go out, the last close among them; then it is told.
+/// Writes the units that wait, because the last close, which states the fault, is one of them.
 fn last_units<K: Sink>(sink: &mut K, conn: &mut Conn, fault: ConnFault) -> PumpFault
     requires { K.failed sink.old < 2 ^ 64 - 1 }
     ensures last { TellsLast result fault conn.old conn.new (K.written sink.old) (K.written sink.new) }
@@ -238,7 +232,7 @@ fn last_units<K: Sink>(sink: &mut K, conn: &mut Conn, fault: ConnFault) -> PumpF
     }
 }
 
-/// Feeds what is kept. Where a feed tells a fault that stays which it was told of, and the units that wait go out.
+/// On a fault it keeps the octets that were not fed: after `NoMemory` they are to be fed again.
 fn feed_kept<K: Sink, H: Hears>(
     kept: &mut Pump,
     sink: &mut K,
@@ -260,7 +254,6 @@ fn feed_kept<K: Sink, H: Hears>(
     Err(last_units(sink, conn, stopped.fault))
 }
 
-/// The units that wait go out, and octets are read once and fed. Nothing is kept of the turn before.
 fn turn<S: Source, K: Sink, H: Hears>(
     kept: &mut Pump,
     source: &mut S,
@@ -296,14 +289,18 @@ fn turn<S: Source, K: Sink, H: Hears>(
 }
 
 impl Pump {
-    /// Lets a connection run over a source and a sink, for at most so many turns, and hands what each entry of the journal gives to `each`, before
-    /// the next frame is fed. What was kept of the call before is fed first. A turn writes the units that wait, stops where the connection is closed,
-    /// and else reads once, at most 4096 octets, and feeds them.
+    /// Runs a connection over a source and a sink for at most `turns` turns, and calls `each` with what each new
+    /// entry of the journal gives, before the next frame is fed.
+    ///
+    /// It first feeds what the pump kept of the call before. A turn writes the units that wait, and stops if the
+    /// connection is closed; else it reads once, at most 4096 octets, and feeds them.
     ///
     /// # Errors
     ///
-    /// `Read` or `Write` where that device failed, and `Conn` with the fault that a feed told: then the units that still waited were written, the
-    /// last close among them. What was read and not fed is kept, so after `NoMemory` the same call goes on where this one stopped.
+    /// [`PumpFault::Read`] or [`PumpFault::Write`] if that device failed, and [`PumpFault::Conn`] with the fault of a
+    /// feed that failed; in that case the units that still waited were written, the last close among them. What was
+    /// read and not fed is kept, so after [`ConnFault::NoMemory`] the same call goes on at the octet where this one
+    /// stopped.
     pub fn drive<S: Source, K: Sink, H: Hears>(
         &mut self,
         source: &mut S,
@@ -321,11 +318,13 @@ impl Pump {
         take_turns(self, source, sink, conn, each, turns)
     }
 
-    /// As `drive`, with what the entries of the journal give dropped.
+    /// Runs a connection over a source and a sink for at most `turns` turns, as [`drive`](Pump::drive) does, and drops
+    /// what the entries of the journal give.
     ///
     /// # Errors
     ///
-    /// Those of `drive`.
+    /// [`PumpFault::Read`] or [`PumpFault::Write`] if that device failed, and [`PumpFault::Conn`] with the fault of a
+    /// feed that failed; what was read and not fed is kept.
     pub fn run<S: Source, K: Sink>(
         &mut self,
         source: &mut S,
@@ -342,7 +341,6 @@ impl Pump {
     }
 }
 
-/// What was kept is fed, and then there are so many turns at most.
 fn take_turns<S: Source, K: Sink, H: Hears>(
     kept: &mut Pump,
     source: &mut S,

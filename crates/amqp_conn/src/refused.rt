@@ -1,21 +1,22 @@
-//! Why a connection is not started, or not closed.
+//! Why a connection cannot be created, or not be closed.
 ghost use Rattle.std.specs.Prelude.{◌≡◌};
 ghost use Rattle.amqp_conn.specs.Numbers.{start_number, close_number};
 
 use thiserror::Error;
 
-/// Why there is no connection.
+/// Why a connection cannot be created.
 #[derive(Clone, Copy, Debug, PartialEq, Eq, Error)]
 pub enum StartFault {
     /// A setting is out of its limits, or our open would be longer than 512 octets.
     #[error("a setting is out of its limits")]
     BadConfig,
+    /// Memory ran out.
     #[error("out of memory")]
     NoMemory,
 }
 
 impl StartFault {
-    /// The number by which programs tell it: 1 or 2.
+    /// Returns the fault's number, 1 or 2, in the order of the variants.
     pub fn number(self) -> u32
         ensures { result ≡ start_number self }
     {
@@ -26,23 +27,25 @@ impl StartFault {
     }
 }
 
-/// Why our close does not go out; nothing has changed.
+/// Why a connection cannot be closed. A refused close has changed nothing.
 #[derive(Clone, Copy, Debug, PartialEq, Eq, Error)]
 pub enum CloseRefusal {
-    /// The connection is not running.
+    /// The phase is not `Running`.
     #[error("the connection is not open")]
     NotOpen,
-    /// The error holds what no peer could read.
+    /// The error holds what no frame can hold.
     #[error("there is no such frame")]
     NotWritable,
+    /// The close would be longer than the frames that the peer accepts.
     #[error("the frame is longer than the peer takes")]
     FrameTooBig,
+    /// Memory ran out.
     #[error("out of memory")]
     NoMemory,
 }
 
 impl CloseRefusal {
-    /// The number by which programs tell it: 1 to 4.
+    /// Returns the refusal's number, 1 to 4, in the order of the variants.
     pub fn number(self) -> u32
         ensures { result ≡ close_number self }
     {

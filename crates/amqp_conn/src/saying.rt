@@ -1,4 +1,4 @@
-//! What a peer said: of itself, in its newest frame, and of why it ended something.
+//! Readers of what the peer sent: its open, its newest frame, and why it ended something.
 ghost use Rattle.std.specs.Prelude.{◌≡◌, None, find, option_map};
 ghost use Rattle.amqp_conn.specs.Saying.{open_in, close_in, error_of_close, error_in, newest, heard_in, heard_by, given_by, ended_by, is_left_by, is_detach, has_detach, hears_detach, error_heard, detached_by};
 ghost use Rattle.amqp_conn.specs.Kinds.{kind_of};
@@ -9,7 +9,8 @@ use amqp_journal::logged::Logged;
 use amqp_rules::reply::Given;
 use amqp_types::Boxed;
 
-/// Why a frame ends a link, the session or the connection (part 2, 2.8.14): the error of a detach, an end or a close, where it has one.
+/// Returns why a frame ends a link, the session or the connection (part 2, 2.8.14): the error of a detach, an end or a
+/// close. `None` for other frames, and for those without an error.
 pub fn error_of(frame: &Frame) -> Option<&AmqpError>
     ensures { option_map (λ e. e.now) result ≡ error_in frame.now.body }
 {
@@ -21,7 +22,6 @@ pub fn error_of(frame: &Frame) -> Option<&AmqpError>
     }
 }
 
-/// The error in its box, lent.
 fn lent(error: &Option<Boxed<AmqpError>>) -> Option<&AmqpError>
     ensures { option_map (λ e. e.now) result ≡ error.now }
 {
@@ -31,10 +31,10 @@ fn lent(error: &Option<Boxed<AmqpError>>) -> Option<&AmqpError>
     }
 }
 
-/// Whom a frame concerns: the connection by an open or a close, or its session (part 2, 2.4).
+/// What a frame concerns: the connection if it is an open or a close, or else the session (part 2, 2.4).
 #[derive(Clone, Copy)]
 pub(crate) enum Kind {
-    /// It has no body.
+    /// The frame has no body.
     Empty,
     Open,
     Close,
@@ -52,7 +52,7 @@ pub(crate) fn kind_of(body: &Option<Performative>) -> Kind
     }
 }
 
-/// Nothing, and what is not wanted is dropped as a whole: variant by variant that would be dear to prove.
+/// Drops the body as a whole: variant by variant would be costly to prove.
 fn none_of<T>(other: Option<Performative>) -> Option<T>
     ensures { result ≡ None }
 {
@@ -60,7 +60,6 @@ fn none_of<T>(other: Option<Performative>) -> Option<T>
     None
 }
 
-/// The open of a frame that has one.
 pub(crate) fn open_in(frame: Frame) -> Option<Boxed<OpenBody>>
     ensures { result ≡ open_in frame.body }
 {
@@ -71,7 +70,6 @@ pub(crate) fn open_in(frame: Frame) -> Option<Boxed<OpenBody>>
     }
 }
 
-/// The close of a frame that has one.
 pub(crate) fn close_in(frame: Frame) -> Option<CloseBody>
     ensures { result ≡ close_in frame.body }
 {
@@ -82,7 +80,6 @@ pub(crate) fn close_in(frame: Frame) -> Option<CloseBody>
     }
 }
 
-/// The error of a close, where it has one.
 pub(crate) fn error_of_close(close: &Option<CloseBody>) -> Option<&AmqpError>
     ensures { option_map (λ e. e.now) result ≡ error_of_close close.now }
 {
@@ -92,7 +89,6 @@ pub(crate) fn error_of_close(close: &Option<CloseBody>) -> Option<&AmqpError>
     }
 }
 
-/// The newest entry that is kept.
 fn newest(logged: &Logged) -> Option<&Entry>
     ensures { option_map (λ e. e.now) result ≡ newest logged.now }
 {
@@ -108,7 +104,6 @@ fn heard_in(step: &Step) -> Option<&Frame>
     }
 }
 
-/// The frame that the newest entry heard.
 pub(crate) fn heard(logged: &Logged) -> Option<&Frame>
     ensures { option_map (λ f. f.now) result ≡ heard_by (newest logged.now) }
 {
@@ -118,7 +113,6 @@ pub(crate) fn heard(logged: &Logged) -> Option<&Frame>
     }
 }
 
-/// What the newest entry gave.
 pub(crate) fn given(logged: &Logged) -> Option<&Given>
     ensures { option_map (λ g. g.now) result ≡ given_by (newest logged.now) }
 {
@@ -128,7 +122,6 @@ pub(crate) fn given(logged: &Logged) -> Option<&Given>
     }
 }
 
-/// The deliveries that the newest entry ended.
 pub(crate) fn ended(logged: &Logged) -> &[(Role, u32)]
     ensures { result.now ≡ ended_by (newest logged.now) }
 {
@@ -166,7 +159,7 @@ fn has_detach(step: &Step) -> bool
     }
 }
 
-/// The entry heard the detach by which the link of this number went.
+/// Returns whether the entry heard the detach that removed the link of this number.
 fn hears_detach(entry: &Entry, link: u32) -> bool
     ensures { result ≡ hears_detach link entry.now }
 {
@@ -182,7 +175,6 @@ fn error_heard(step: &Step) -> Option<&AmqpError>
     }
 }
 
-/// The entry that heard the detach by which the link of this number went.
 fn detach_of(entries: &[Entry], link: u32) -> Option<&Entry>
     ensures { option_map (λ e. e.now) result ≡ find (hears_detach link) entries.now }
 {
@@ -194,7 +186,7 @@ fn detach_of(entries: &[Entry], link: u32) -> Option<&Entry>
     None
 }
 
-/// Why the peer detached the link of this number. O(n) for n entries that are kept.
+/// O(n) for n entries that are kept.
 pub(crate) fn detached_by(logged: &Logged, link: u32) -> Option<&AmqpError>
     ensures { option_map (λ e. e.now) result ≡ detached_by link logged.now }
 {

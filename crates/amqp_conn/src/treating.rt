@@ -1,4 +1,4 @@
-//! A connection but the octets that it has not read: what a whole frame does to it (part 2, 2.4).
+//! The state of a connection without its unread octets, and what a whole frame does to it (part 2, 2.4).
 ghost use Rattle.std.specs.Prelude.{◌≡◌, ◌≢◌, ◌⊎◌, [], Some, None, Ok, Err, OnOk, OnErr, IfOk, IfErr, IfSome, IsSome, MatchResult, slice_get, length, option_map, true, false};
 ghost use Rattle.amqp_rules.specs.Refusing.{no_memory};
 ghost use Rattle.amqp_rules.specs.ViolationAnswer.{violation_answer, error_of};
@@ -41,15 +41,15 @@ use std::mem;
 pub struct Machine {
     alloc: Global,
     config: Config,
-    /// The octets of our open.
+    /// The octets of our open, written when the connection is created.
     opening: Bytes,
     phase: Phase,
     pub logged: Logged,
-    /// What the links of the ended connection have was put behind what was left before.
+    /// Whether the links that remained at the end have left their items.
     gathered: bool,
-    /// The peer's open, once it was taken.
+    /// The peer's open, once it was received.
     pub peer: Option<Boxed<OpenBody>>,
-    /// The peer's close, once it was taken.
+    /// The peer's close, once it was received.
     pub parting: Option<CloseBody>,
 }
 
@@ -70,7 +70,7 @@ impl Model for Machine {
     ghost invariant = { λ c. c.opening ≡ octets_of (open_frame c.config) };
 }
 
-/// Nothing was taken but octets.
+/// Returns the result of a feed that used octets and did nothing else.
 pub fn nothing(used: usize) -> Fed
     ensures { result ≡ record { used = used; stepped = false; given = Given.Nothing; violation = None } }
 {
@@ -105,14 +105,13 @@ fn fault_of(kind: ViolationKind) -> ConnFault
 }
 
 #[tactic(auto, unfolding(crate::specs::Calling::peer_max))]
-/// The longest frame that the peer takes.
 fn peer_max(logged: &Logged) -> u32
     ensures { result ≡ peer_max logged.now }
 {
     logged.peer_max_frame()
 }
 
-/// The frame in the slot, which is empty then.
+/// Returns the frame in the slot, and leaves an empty one.
 #[inline(always)]
 fn taken_out(slot: &mut Frame) -> Frame
     ensures { result ≡ slot.old }
@@ -120,7 +119,6 @@ fn taken_out(slot: &mut Frame) -> Frame
     mem::replace(slot, Frame::empty())
 }
 
-/// The state at first, with our header put out.
 fn start(alloc: Global, config: Config, measured: Measured) -> Result<Machine, AllocError>
     requires limits { IsWithinLimits (session_of config) }
     requires measure { IsMeasureOf (open_frame config) measured }
@@ -142,7 +140,11 @@ fn start(alloc: Global, config: Config, measured: Measured) -> Result<Machine, A
 }
 
 impl Machine {
-    /// Of a new connection, which has put out our header.
+    /// Creates the state of a new connection, with our header queued.
+    ///
+    /// # Errors
+    ///
+    /// [`StartFault::BadConfig`] if the settings do not fit, else [`StartFault::NoMemory`] if memory runs out.
     pub fn new(alloc: Global, config: Config) -> Result<Machine, StartFault>
         ensures { MatchResult result (λ machine. IsFit config × (machine ≡ new_core config)) (λ e. IsStartFault e config) }
     {
@@ -159,7 +161,11 @@ impl Machine {
         }
     }
 
-    /// Does an operation, where the connection is running.
+    /// Does an operation.
+    ///
+    /// # Errors
+    ///
+    /// [`Refusal::NotRunning`] unless the phase is `Running`; else the session's refusal. Nothing has changed then.
     pub fn apply(&mut self, op: &Op) -> Result<Given, Refusal>
         ensures { Does self.old op.now result self.new }
     {
@@ -171,7 +177,11 @@ impl Machine {
         }
     }
 
-    /// Does an operation, where the connection is running; what it gives stands in its entry.
+    /// Does an operation and moves it into its journal entry, which has what it gave.
+    ///
+    /// # Errors
+    ///
+    /// [`Refusal::NotRunning`] unless the phase is `Running`; else the session's refusal. Nothing has changed then.
     pub fn perform(&mut self, op: Op) -> Result<(), Refusal>
         ensures { Performs self.old op result self.new }
     {
@@ -184,7 +194,11 @@ impl Machine {
         }
     }
 
-    /// Puts out our close, where the connection is running.
+    /// Queues our close.
+    ///
+    /// # Errors
+    ///
+    /// A [`CloseRefusal`], `NotOpen` unless the phase is `Running`. Nothing has changed then.
     pub fn close(&mut self, error: Option<Boxed<AmqpError>>) -> Result<(), CloseRefusal>
         ensures { Closes self.old error result self.new }
     {
@@ -214,14 +228,14 @@ impl Machine {
         }
     }
 
-    /// Forgets the entries so far.
+    /// Forgets the journal's entries so far.
     pub fn forget(&mut self)
         ensures { self.new ≡ record self.old { log = forgetting self.old.log } }
     {
         self.logged.forget();
     }
 
-    /// The first unit that waits.
+    /// Removes and returns the first unit that waits to be written.
     pub fn pop_unit(&mut self) -> Option<Unit>
         ensures some { IfSome result (λ unit. (unit.number ≡ self.old.log.popped) × (slice_get (units self.old.log) self.old.log.popped ≡ Some unit.bytes) × (self.new ≡ record self.old { log = popping self.old.log })) }
         ensures none { result ≡ None → (waiting self.old.log ≡ []) × (self.new ≡ self.old) }
@@ -229,7 +243,6 @@ impl Machine {
         self.logged.pop_unit()
     }
 
-    /// No step is done any more, and its links still have what they had.
     fn is_ungathered(&self) -> bool
         ensures { result ≡ is_ungathered self.now }
     {
@@ -239,7 +252,11 @@ impl Machine {
         }
     }
 
-    /// What the links of a connection have that does no step any more goes behind what was left before, once.
+    /// Lets the remaining links leave their items, once, if no step is done any more.
+    ///
+    /// # Errors
+    ///
+    /// [`AllocError`] if memory runs out; nothing has changed then.
     pub fn gather(&mut self) -> Result<(), AllocError>
         ensures ok { OnOk result (self.new ≡ gathering self.old) }
         ensures err { OnErr result (self.new ≡ self.old) }
@@ -252,35 +269,39 @@ impl Machine {
         Ok(())
     }
 
-    /// Where the connection stands.
+    /// Returns the phase of the connection.
     pub fn phase(&self) -> Phase
         ensures { result ≡ self.now.phase }
     {
         self.phase
     }
 
-    /// The longest frame that we take, in octets.
+    /// Returns the length of the longest frame that we accept, in octets.
     pub fn max_frame(&self) -> u32
         ensures { result ≡ self.now.config.max_frame }
     {
         self.config.max_frame
     }
 
-    /// The session with its journal.
+    /// Returns the session with its journal.
     pub fn logged(&self) -> &Logged
         ensures { result.now ≡ self.now.log }
     {
         &self.logged
     }
 
-    /// The octets ended, or are not the header.
+    /// Ends the connection without a close, because its octets ended or are not the header.
     pub fn lose(&mut self)
         ensures { self.new ≡ in_phase Phase.Closed self.old }
     {
         self.phase = Phase::Closed;
     }
 
-    /// The header was read: our open goes out.
+    /// Queues our open, because the peer's header was read.
+    ///
+    /// # Errors
+    ///
+    /// [`AllocError`] if memory runs out; nothing has changed then.
     pub fn greet(&mut self) -> Result<(), AllocError>
         ensures ok { OnOk result (self.new ≡ greeted self.old) }
         ensures err { OnErr result (self.new ≡ self.old) }
@@ -292,7 +313,13 @@ impl Machine {
     }
 
     #[tactic(auto, unfolding(crate::specs::Treating::treat))]
-    /// Does what a whole frame does, and keeps what an open and a close say. A frame that is kept is taken out of its slot.
+    /// Does what a whole frame does, and keeps the bodies of an open and a close. Takes a frame that is kept out of its
+    /// slot.
+    ///
+    /// # Errors
+    ///
+    /// The [`ConnFault`] that ends the connection, or [`ConnFault::NoMemory`] if memory runs out; nothing has changed
+    /// in the state then.
     #[inline(always)]
     pub fn treat(&mut self, used: usize, slot: &mut Frame) -> Result<Fed, ConnFault>
         ensures { Treats self.old slot.old used result self.new }
@@ -305,7 +332,6 @@ impl Machine {
         }
     }
 
-    /// The first frame with a body is to be an open.
     fn await_open(&mut self, used: usize, slot: &mut Frame) -> Result<Fed, ConnFault>
         requires { self.old.phase ≡ Phase.AwaitOpen }
         ensures { TreatsAs (await_open self.old slot.old.channel slot.old.body) self.old slot.old used result self.new }
@@ -360,7 +386,6 @@ impl Machine {
         }
     }
 
-    /// The peer's close.
     fn hear_close(&mut self, used: usize, slot: &mut Frame) -> Result<Fed, ConnFault>
         requires { self.old.phase ≡ Phase.Running }
         ensures { TreatsAs (on_channel slot.old.channel (taken (closed_by (close_in slot.old.body) self.old))) self.old slot.old used result self.new }
@@ -371,7 +396,6 @@ impl Machine {
         self.close_in_return(used, close_in(taken_out(slot)))
     }
 
-    /// A frame of the session.
     #[inline(never)]
     fn hear_on(&mut self, used: usize, slot: &mut Frame) -> Result<Fed, ConnFault>
         requires { self.old.phase ≡ Phase.Running }
@@ -402,7 +426,6 @@ impl Machine {
         }
     }
 
-    /// Answers the violation by its operation, or ends the connection.
     fn violated(&mut self, violation: Violation) -> Result<Fed, ConnFault>
         requires { self.old.phase ≡ Phase.Running }
         ensures { IsMet violation self.old result self.new }
@@ -430,7 +453,6 @@ impl Machine {
         }
     }
 
-    /// Answers the peer's close, and keeps it.
     fn close_in_return(&mut self, used: usize, parting: Option<CloseBody>) -> Result<Fed, ConnFault>
         ensures ok { IfOk result (λ fed. (fed ≡ record { used = used; stepped = false; given = Given.Nothing; violation = None }) × (self.new ≡ closed_by parting self.old)) }
         ensures memory { IfErr result (λ e. e ≡ ConnFault.NoMemory) }
@@ -448,7 +470,7 @@ impl Machine {
     }
 
     #[tactic(auto, unfolding(crate::specs::Treating::ending))]
-    /// Ends the connection with the fault, or tells that memory was refused.
+    /// Ends the connection with the fault and returns it, or returns `NoMemory` if memory for the last close runs out.
     pub fn end(&mut self, fault: ConnFault) -> ConnFault
         requires open { self.old.phase ≢ Phase.Closed }
         ensures { EndsWith fault self.old result self.new }
@@ -462,7 +484,6 @@ impl Machine {
         }
     }
 
-    /// Puts out the last close, where one may go out.
     fn put_last(&mut self, fault: ConnFault) -> Result<(), AllocError>
         ensures ok { OnOk result (self.new ≡ sending_last (last_words self.old.phase fault) self.old) }
         ensures err { OnErr result (self.new ≡ self.old) }

@@ -1,4 +1,4 @@
-//! The octets that a connection itself sends: an open and closes.
+//! The frames that a connection itself sends: an open and closes.
 ghost use Rattle.std.specs.Prelude.{◌≡◌, ◌≤◌, None, Err, IfOk, MatchResult};
 ghost use Rattle.amqp_frames.specs.Written.{write_answer};
 ghost use Rattle.amqp_frames.specs.Measuring.{IsMeasureOf};
@@ -21,10 +21,9 @@ use std::alloc::{AllocError, Global};
 /// The protocol header (part 2, 2.2): AMQP, protocol id 0, version 1.0.0.
 pub(crate) const HEADER: [u8; 8] = [0x41, 0x4d, 0x51, 0x50, 0, 1, 0, 0];
 
-/// The most octets of our open: what every peer takes, before its open tells more (part 2, 2.7.1).
+/// The most octets of our open: what every peer accepts before its own open is known (part 2, 2.7.1).
 const MAX_OPEN: u32 = 512;
 
-/// The octets of the frame, in at most `max`.
 fn write(alloc: Global, frame: &Frame, max: u32) -> Result<Bytes, FrameRefusal>
     ensures { Writes frame.now max result }
 {
@@ -53,8 +52,8 @@ fn open_body(alloc: Global, config: &Config) -> Result<Boxed<OpenBody>, AllocErr
     )
 }
 
-/// The measure of our open, in the 512 octets that every peer takes; with it come the settings again. It takes no memory: a setting with which
-/// there is no such open is told before memory is asked for.
+/// Does not allocate, so that settings with which there is no open of 512 octets are refused before memory is needed.
+/// Returns the settings again, because it moves them into a body and out of it.
 pub(crate) fn measure_ours(config: Config) -> Result<(Config, Measured), FrameRefusal>
     ensures { MatchResult result (λ both. (both.0 ≡ config) × IsMeasureOf (open_frame config) both.1 × (both.1.size ≤ 512)) (λ e. write_answer (open_frame config) 512 ≡ Err e) }
 {
@@ -83,7 +82,6 @@ pub(crate) fn measure_ours(config: Config) -> Result<(Config, Measured), FrameRe
     Ok((same, measured))
 }
 
-/// The octets of our open, whose measure is known.
 pub(crate) fn open_octets(
     alloc: Global,
     config: &Config,
@@ -101,7 +99,6 @@ pub(crate) fn open_octets(
     write_known(alloc, &frame, measured)
 }
 
-/// The octets of the frame, whose measure is known.
 fn write_known(alloc: Global, frame: &Frame, measured: Measured) -> Result<Bytes, AllocError>
     requires { IsMeasureOf frame.now measured }
     ensures { IfOk result (λ octets. octets ≡ octets_of frame.now) }
@@ -109,7 +106,6 @@ fn write_known(alloc: Global, frame: &Frame, measured: Measured) -> Result<Bytes
     write_measured(alloc, frame, measured)
 }
 
-/// The octets of a close with this error, in at most `max`.
 pub(crate) fn close_octets(
     alloc: Global,
     error: Option<Boxed<AmqpError>>,
@@ -125,7 +121,7 @@ pub(crate) fn close_octets(
     write(alloc, &frame, max)
 }
 
-/// The condition that the peer is told (part 2, 2.8.15 and 2.8.16).
+/// The condition of the close that is sent for the fault (part 2, 2.8.15 and 2.8.16).
 fn condition(fault: ConnFault) -> &'static str
     ensures { result.now ≡ condition fault }
 {
@@ -153,7 +149,6 @@ fn framing_condition(fault: FrameFault) -> &'static str
     }
 }
 
-/// The octets of the close that tells the fault.
 pub(crate) fn last_close(alloc: Global, fault: ConnFault) -> Result<Bytes, AllocError>
     ensures { IfOk result (λ octets. octets ≡ octets_of (close_frame (error_of (condition fault)))) }
 {
@@ -169,14 +164,12 @@ pub(crate) fn last_close(alloc: Global, fault: ConnFault) -> Result<Bytes, Alloc
     known_close(alloc, Some(error))
 }
 
-/// The octets of the close without an error.
 pub(crate) fn plain_close(alloc: Global) -> Result<Bytes, AllocError>
     ensures { IfOk result (λ octets. octets ≡ octets_of (close_frame None)) }
 {
     known_close(alloc, None)
 }
 
-/// The octets of a close that every peer takes.
 fn known_close(alloc: Global, error: Option<Boxed<AmqpError>>) -> Result<Bytes, AllocError>
     ensures { IfOk result (λ octets. octets ≡ octets_of (close_frame error)) }
 {
