@@ -1,4 +1,4 @@
--- Units go from a connection into what is to be written.
+-- Units move from a connection to what is to be written.
 use Rattle.std.specs.Prelude.{ℕ, ◌≡◌, ◌++◌, List, take}
 use Rattle.amqp_journal.specs.Log.{Log}
 use Rattle.amqp_journal.specs.Units.{units, waiting}

@@ -7,7 +7,7 @@ use Rattle.amqp_laws.specs.declared.entry.Step.TheVariants.{Opened, Own, Heard}
 use Rattle.amqp_conn.specs.Connection.{Connection}
 use Rattle.amqp_ready.specs.Gathering.{gone}
 
--- the frame that the step hears, before these
+-- these frames behind the one that the step hears, if it hears one
 abbrev pub heard_before : Step → List Frame → List Frame
 heard_before (Opened max) frames = frames
 heard_before (Own op) frames = frames
@@ -29,7 +29,7 @@ pub record Kept : Type 0 where
 unfoldable pub kept : Connection → Kept
 kept c = record { unread = c.unread; popped = gone c; heard = heard_in c.core.log.journal }
 
--- what stays where units are popped, too
+-- what stays even if units are popped
 pub record Still : Type 0 where
   pub unread : List ℕ
   pub heard : List Frame

@@ -1,18 +1,18 @@
 -- What a reader must believe, in the order to read it.
 
--- what calls of a stream that never waits do
+-- calls of a stream that never waits
 pub mod Moving
--- what one call of the system's came to; for private functions
+-- one system call; for private functions
 pub mod Tried
 -- reads, and what was read and not fed
 pub mod Reading
--- units go from a connection into what is to be written
+-- units move from a connection to what is to be written
 pub mod Gathering
--- what of a connection stays that is lent
+-- what stays of a connection that is lent
 pub mod Lending
--- what was read is fed
+-- feeding what was read
 pub mod Serving
--- what is told of a stream that has failed, or that has ended
+-- what a fault says of the stream
 pub mod Failing
 -- octets that answer what was read, and are not written
 pub mod Answering

@@ -9,7 +9,8 @@ abbrev pub count : Moved → ℕ
 count (Octets n) = n
 count Waits = 0
 
--- so many of the octets that remain came to the front of the buffer: none only at their end, or with no room
+-- this many of the remaining octets came to the front of the buffer: none only at their end, or if the buffer has no
+-- room
 abbrev pub Gives : Option (List ℕ) → Option (List ℕ) → Moved → List ℕ → Type 0
 Gives old new (Octets n) buffer = Consumes old new (take n buffer) × (n ≡ 0 → 0 < length buffer → IsAtEnd new)
 Gives old new Waits buffer = Keeps old new
@@ -18,7 +19,7 @@ abbrev pub Reads : {E : Type 0} → Option (List ℕ) → Option (List ℕ) → 
 Reads old new (Ok moved) buffer = Gives old new moved buffer
 Reads old new (Err e) buffer = Keeps old new
 
--- so many of the octets came behind those that were written
+-- this many of the octets came behind those that were written
 abbrev pub Takes : Option (List ℕ) → Option (List ℕ) → Moved → List ℕ → Type 0
 Takes old new (Octets n) octets = Appends old new (take n octets)
 Takes old new Waits octets = Keeps old new
@@ -27,7 +28,7 @@ abbrev pub Writes : {E : Type 0} → Option (List ℕ) → Option (List ℕ) →
 Writes old new (Ok moved) octets = Takes old new moved octets
 Writes old new (Err e) octets = Keeps old new
 
--- none were moved only where there are none
+-- none were moved only if there are none
 abbrev pub MovesSome : List ℕ → Moved → Type 0
 MovesSome octets (Octets n) = n ≡ 0 → octets ≡ []
 MovesSome octets Waits = Unit {0}
@@ -38,7 +39,7 @@ pub record PassesOn (written written' : Option (List ℕ)) (left left' : List �
   pub split : left ≡ front ++ left'
   pub appends : Appends written written' front
 
--- one call took this of what was left: some, where there are some, or none
+-- one call took this many of what was left, at least one if there are any; or the stream would wait
 abbrev pub Sends : List ℕ → List ℕ → Moved → Type 0
 Sends left left' (Octets n) = (n ≡ 0 → left ≡ []) × (length left' + n ≡ length left)
 Sends left left' Waits = left' ≡ left

@@ -1,11 +1,11 @@
--- What one call of the system's came to.
+-- What one system call did.
 use Rattle.std.specs.Prelude.{ℕ, ◌≡◌, ◌≤◌, List}
 use Rattle.amqp_ready.specs.declared.device.Moved.TheVariants.{Waits}
 use Rattle.amqp_ready.specs.declared.device.Tried.{Tried}
 use Rattle.amqp_ready.specs.declared.device.Tried.TheVariants as tried
 use Rattle.amqp_ready.specs.Moving.{count, MovesSome}
 
--- it moved so many octets at most
+-- it moved at most this many octets
 abbrev pub IsTried : ℕ → Tried → Type 0
 IsTried most (tried.Moved moved) = count moved ≤ most
 IsTried most tried.Interrupted = Unit {0}

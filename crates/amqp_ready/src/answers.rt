@@ -1,26 +1,27 @@
-//! How many octets wait to be written that were put out while what was read was fed.
+//! Counts the answers to what was read that wait to be written.
 ghost use Rattle.std.specs.Prelude.{◌≡◌, nat_le};
 ghost use Rattle.amqp_ready.specs.Answering.{added, fresh, written};
 
-/// Where a slot holds (`Slot::hold_at`), where a program says nothing else.
+/// The default of [`Slot::hold_at`](crate::Slot::hold_at), in octets.
 pub const ANSWERS: u64 = 1048576;
 
-/// Octets that were put out while what was read was fed, and wait to be written. What a handler puts out in `Handler::go_on` is not among them, nor what the
-/// program puts out: were it, two ends that both send much would wait for each other to read.
+/// The octets that were put out while what was read was fed, and that wait to be written. Octets that a handler puts
+/// out in `Handler::go_on`, or the program, do not count: if they did, two ends that both send much would wait for
+/// each other to read.
 ///
-/// They are counted from a mark on, which is set anew, behind all that waits, once what stood in front of it is written: so those that are counted all wait.
+/// Counting starts at a mark. Once all octets in front of the mark are written, the mark is set anew behind all that
+/// waits, so every octet that is counted waits.
 #[derive(Clone, Copy)]
 pub(crate) struct Answers {
-    /// At so many nothing more is read.
+    /// At so many counted octets nothing more is read.
     pub most: u64,
-    /// How many came behind the mark.
+    /// How many octets came behind the mark.
     since: u64,
-    /// How many octets wait in front of the mark, of whatever kind.
+    /// How many octets of any kind wait in front of the mark.
     ahead: u64,
 }
 
 impl Answers {
-    /// None.
     pub(crate) fn new() -> Answers
         ensures { result ≡ fresh }
     {
@@ -31,14 +32,14 @@ impl Answers {
         }
     }
 
-    /// Octets were fed: so many were not written before, and so many are not behind it.
+    /// Counts what a feed put out: `before` octets waited before it, and `after` behind it.
     pub(crate) fn add(&mut self, before: u64, after: u64)
         ensures { self.new ≡ added before after self.old }
     {
         self.since = self.since.saturating_add(after.saturating_sub(before));
     }
 
-    /// Octets were written: so many were not before, and so many are left.
+    /// Moves the mark for what was written: `before` octets waited before the write, and `left` wait now.
     pub(crate) fn take_off(&mut self, before: u64, left: u64)
         ensures { self.new ≡ written before left self.old }
     {
@@ -54,7 +55,6 @@ impl Answers {
         }
     }
 
-    /// Nothing more is to be read.
     pub(crate) fn are_many(&self) -> bool
         ensures { result ≡ nat_le self.now.most self.now.since }
     {

@@ -10,29 +10,33 @@ use std::alloc::Global;
 use std::io;
 use std::io::{ErrorKind, IoSlice, Read, Write};
 
-/// What a call of a stream came to that did not fail.
+/// What a call of a stream moved, if it did not fail.
 #[derive(Clone, Copy, Debug, PartialEq, Eq)]
 pub enum Moved {
-    /// So many octets were moved.
+    /// This many octets.
     Octets(usize),
-    /// None: the call would have waited.
+    /// None, since the call would have waited.
     Waits,
 }
 
-/// A stream whose calls never wait: each moves some octets, or tells that it would have waited.
+/// A stream whose calls never wait: each moves some octets, or returns that it would have waited.
 pub trait NonBlocking {
     ghost use Rattle.std.specs.Prelude.{ℕ, List, Option, Bool};
 
-    /// The octets that reads will give from here on, where they are known.
+    /// The octets that later reads return, if they are known.
     ghost remaining: { Self → Option (List ℕ) };
 
-    /// The octets that were written, where they are known.
+    /// The octets that were written, if they are known.
     ghost written: { Self → Option (List ℕ) };
 
-    /// Whether a call failed.
+    /// Whether a call has failed.
     ghost failed: { Self → Bool };
 
-    /// Reads some octets into the front of the buffer; `Octets(0)` is the end of the input, where the buffer has room.
+    /// Reads some octets into the front of `buffer`. If `buffer` has room, `Octets(0)` is the end of the input.
+    ///
+    /// # Errors
+    ///
+    /// [`Failed`] if the stream failed; nothing was read then.
     fn read_some(&mut self, buffer: &mut [u8]) -> Result<Moved, Failed>
         ensures bound { IfOk result (λ moved. count moved ≤ length buffer.new) }
         ensures octets { Reads (remaining self.old) (remaining self.new) result buffer.new }
@@ -40,7 +44,12 @@ pub trait NonBlocking {
         ensures ok { OnOk result (failed self.new ≡ failed self.old) }
         ensures err { OnErr result (failed self.new ≡ true) };
 
-    /// Writes a front of the octets; of those that are not empty, one at least, unless it would wait.
+    /// Writes some octets from the front of `octets`: at least one, unless `octets` is empty or the stream would
+    /// wait.
+    ///
+    /// # Errors
+    ///
+    /// [`Failed`] if the stream failed; nothing was written then.
     fn write_some(&mut self, octets: &[u8]) -> Result<Moved, Failed>
         ensures bound { IfOk result (λ moved. count moved ≤ length octets.now) }
         ensures some { IfOk result (MovesSome octets.now) }
@@ -49,7 +58,12 @@ pub trait NonBlocking {
         ensures ok { OnOk result (failed self.new ≡ failed self.old) }
         ensures err { OnErr result (failed self.new ≡ true) };
 
-    /// As `write_some` of both, one behind the other; in one call where the stream has one.
+    /// Writes some octets from the front of `first` followed by `second`, as `write_some`; in one call if the stream
+    /// has one for two slices.
+    ///
+    /// # Errors
+    ///
+    /// [`Failed`] if the stream failed; nothing was written then.
     fn write_two(&mut self, first: &[u8], second: &[u8]) -> Result<Moved, Failed>
         ensures bound { IfOk result (λ moved. count moved ≤ length (first.now ++ second.now)) }
         ensures some { IfOk result (MovesSome (first.now ++ second.now)) }
@@ -65,7 +79,7 @@ pub trait NonBlocking {
     }
 }
 
-/// A stream of mio's, with whether a call failed. What goes over it is recorded where that is asked for.
+/// A TCP stream of mio, which remembers if a call has failed. It records what goes over it once `record` was called.
 #[derive(Drop)]
 pub struct Socket {
     stream: TcpStream,
@@ -74,7 +88,7 @@ pub struct Socket {
 }
 
 impl Socket {
-    /// Over the stream, none of whose calls has failed yet.
+    /// Makes a socket of a stream none of whose calls has failed.
     pub fn new(stream: TcpStream) -> Socket
         ensures { result ≡ record { stream = stream; has_failed = false; tap = None } }
     {
@@ -85,7 +99,8 @@ impl Socket {
         }
     }
 
-    /// What goes over it from here on is recorded, in memory from there, for `take_recorded`.
+    /// Records from now on what goes over the stream, in memory of `alloc`, for `take_recorded`. Discards what was
+    /// recorded before.
     pub fn record(&mut self, alloc: Global)
         ensures stream { self.new.stream ≡ self.old.stream }
         ensures has_failed { self.new.has_failed ≡ self.old.has_failed }
@@ -93,7 +108,8 @@ impl Socket {
         self.tap = Some(Tap::new(alloc));
     }
 
-    /// What went over it first of all that was recorded and not taken, in the order of the calls. None, too, where nothing is recorded.
+    /// Removes and returns the oldest record that was not taken, in the order of the calls. Returns `None` if there
+    /// is none, or if nothing is recorded.
     pub fn take_recorded(&mut self) -> Option<Recorded>
         ensures stream { self.new.stream ≡ self.old.stream }
         ensures has_failed { self.new.has_failed ≡ self.old.has_failed }
@@ -104,12 +120,12 @@ impl Socket {
         }
     }
 
-    /// The stream, to be registered.
+    /// Returns the stream, for its registration.
     pub(crate) fn stream_mut(&mut self) -> &mut TcpStream {
         &mut self.stream
     }
 
-    /// The stream itself.
+    /// Returns the stream, and drops what was recorded.
     pub fn into_stream(self) -> TcpStream
         ensures { result ≡ self.stream }
     {
@@ -124,7 +140,6 @@ impl Socket {
         Failed
     }
 
-    /// So many octets of these, one behind the other, went this way.
     fn note(&mut self, way: Way, first: &[u8], second: &[u8], moved: Moved)
         ensures { self.new.has_failed ≡ self.old.has_failed }
     {
@@ -134,7 +149,6 @@ impl Socket {
     }
 }
 
-/// How many octets were moved.
 fn count_of(moved: Moved) -> usize {
     match moved {
         Moved::Octets(count) => count,
@@ -142,7 +156,7 @@ fn count_of(moved: Moved) -> usize {
     }
 }
 
-/// What one call of the system's came to.
+/// What one system call did.
 #[derive(Clone, Copy)]
 enum Tried {
     Moved(Moved),
@@ -150,7 +164,6 @@ enum Tried {
     Failed,
 }
 
-/// Why it moved nothing.
 fn failure(error: io::Error) -> Tried
     ensures { MovesNone result }
 {
@@ -170,7 +183,8 @@ fn read_once(stream: &mut TcpStream, buffer: &mut [u8]) -> Tried
     }
 }
 
-/// One call for both, where neither is empty. That none were taken is a failure: none of mio's calls does so of octets that are not empty.
+/// A write of a non-empty slice that takes no octet counts as a failure, since a loop over it would never end: no
+/// call of mio returns that.
 fn write_once(stream: &mut TcpStream, first: &[u8], second: &[u8]) -> Tried
     ensures tried { IsTried (length (first.now ++ second.now)) result }
     ensures some { TriesSome (first.now ++ second.now) result }

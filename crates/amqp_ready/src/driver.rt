@@ -1,4 +1,4 @@
-//! Many connections on one thread, over mio's poll.
+//! Many connections on one thread, over the poll of mio.
 use crate::device::Socket;
 use crate::handler::Handler;
 use crate::listener::{Admitted, LISTENER, Listening, Welcome};
@@ -14,32 +14,34 @@ use std::io;
 use std::net::{Net, SocketAddr};
 use std::time::Duration;
 
-/// How long a turn waits at most behind one in which memory was refused, or where a peer could not be let in, in milliseconds.
+/// How long a turn waits at most if memory was refused in the one before, or if a peer could not be let in, in
+/// milliseconds.
 const PAUSE: u64 = 10;
 
-/// What the waker tells itself by: no slot's key.
+/// The token of the waker, which is no key of a slot.
 const WAKER: Token = Token(usize::MAX - 1);
 
-/// How many peers are let in at once.
+/// How many peers one call of `admit` lets in at most.
 const PEERS: usize = 64;
 
-/// Many connections on one thread: each over a stream of its own, which does not wait, in a slot of its own.
+/// Serves many connections on one thread, each in a slot of its own over a stream that does not wait.
 ///
-/// A program adds connections, or listens for peers, and calls `turn`, `admit` and `take_ended` in a loop. Which streams are ready is told by the system, and no clause leans on it: a slot
-/// that is served too often reads and writes nothing.
+/// A program adds connections, or listens for peers, and calls `turn`, `admit` and `take_ended` in a loop. The system
+/// reports which streams are ready. No contract relies on that: a slot that is served too often reads and writes
+/// nothing.
 #[derive(Drop)]
 pub struct Driver<H> {
     poll: Poll,
     events: Events,
     slots: Slots<Socket, H>,
     listener: Option<Listening>,
-    /// Memory was refused in the last turn.
+    /// Whether memory was refused in the last turn.
     is_short: bool,
-    /// Where what goes over streams is recorded; none: it is not.
+    /// The memory in which streams that are added are recorded; `None` if they are not.
     recorded_in: Option<Global>,
 }
 
-/// Why no slot was added; all is handed back.
+/// Why no connection was added, with all that was handed in.
 #[derive(Drop)]
 pub struct NotAdded<H> {
     pub error: io::Error,
@@ -47,20 +49,20 @@ pub struct NotAdded<H> {
 }
 
 impl<H: Handler + Drop> Driver<H> {
-    /// Without a connection. A turn takes at most so many events of the system's.
+    /// Returns a driver without connections. One turn takes at most `events` events of the system.
     ///
     /// # Errors
     ///
-    /// Where the system has no poll, or memory is refused.
+    /// If the system makes no poll, or memory is refused.
     pub fn new<R: Net>(rt: &R, alloc: Global, events: usize) -> io::Result<Driver<H>> {
         Driver::over(Poll::new(rt)?, alloc, events)
     }
 
-    /// As `new`, over a poll that was made before: a thread without the runtime's `Net` may have its driver so.
+    /// Returns a driver over a poll that was made before, for a thread that has no `Net` of the runtime.
     ///
     /// # Errors
     ///
-    /// Where memory is refused.
+    /// If memory is refused; the poll is dropped then.
     pub fn over(poll: Poll, alloc: Global, events: usize) -> io::Result<Driver<H>> {
         match Events::with_capacity(alloc, events) {
             Ok(events) => Ok(Driver {
@@ -78,14 +80,18 @@ impl<H: Handler + Drop> Driver<H> {
         }
     }
 
-    /// What goes over each stream that is added from here on is recorded, in memory from there. Who asks for it takes it (`take_recorded`) behind each turn,
-    /// and what is left of an ended slot with its stream (`Socket::take_recorded`); it is kept until then. Want of memory for it ends the record of that
-    /// stream, and nothing else.
+    /// Records from now on what goes over each stream that is added later, in memory of `alloc`.
+    ///
+    /// Records are kept until they are taken, so the program takes them after each turn
+    /// ([`take_recorded`](Driver::take_recorded)), and those of a slot that has ended from its stream
+    /// ([`Socket::take_recorded`]). If memory for a record is refused, the record of that stream ends there; nothing
+    /// else changes.
     pub fn record(&mut self, alloc: Global) {
         self.recorded_in = Some(alloc);
     }
 
-    /// What went first over the stream under the key, of all that was recorded and not taken.
+    /// Removes and returns the oldest record of the stream under `key` that was not taken. Returns `None` if there is
+    /// none.
     pub fn take_recorded(&mut self, key: usize) -> Option<Recorded> {
         match self.slots.stream_mut(key) {
             Some(stream) => stream.take_recorded(),
@@ -93,33 +99,36 @@ impl<H: Handler + Drop> Driver<H> {
         }
     }
 
-    /// Connections that are added from here on hold at so many octets (`Slot::hold_at`).
+    /// Sets at how many octets each connection that is added later stops to read, as
+    /// [`Slot::hold_at`](crate::Slot::hold_at).
     pub fn hold_at(&mut self, octets: u64) {
         self.slots.hold_at(octets);
     }
 
-    /// The slots, to be read.
+    /// Returns the slots, for reading.
     pub fn slots(&self) -> &Slots<Socket, H> {
         &self.slots
     }
 
-    /// The application's part of the connection under the key, as `Slots::handler_mut`.
+    /// Returns the handler of the connection under `key`, as [`Slots::handler_mut`].
     pub fn handler_mut(&mut self, key: usize) -> Option<&mut H> {
         self.slots.handler_mut(key)
     }
 
-    /// A connection more, over this stream: its key. What it puts out is gathered, so the system is asked to keep none of it back (TCP_NODELAY).
+    /// Adds a connection over `stream`, and returns its key. Sets TCP_NODELAY on the stream, since what the
+    /// connection puts out is gathered into long writes.
     ///
     /// # Errors
     ///
-    /// Where the system does not register the stream, or memory is refused, all is handed back.
+    /// If the system does not register the stream, or memory is refused. [`NotAdded`] hands back the stream, the
+    /// connection and the handler.
     pub fn add(
         &mut self,
         mut stream: TcpStream,
         conn: Conn,
         handler: H,
     ) -> Result<usize, NotAdded<H>> {
-        // A system that cannot do so is slower, and right.
+        // A system without this option is slower, and right.
         let _ = stream.set_nodelay(true);
         let key = self.slots.next_key();
         let both = Interest::READABLE | Interest::WRITABLE;
@@ -165,16 +174,15 @@ impl<H: Handler + Drop> Driver<H> {
         }
     }
 
-    /// No event tells of the stream any more.
     fn forget(&self, stream: &mut Socket) {
         let _ = self.poll.registry().deregister(stream.stream_mut());
     }
 
-    /// From here on peers may connect at this listener, and at no other: `admit` lets them in.
+    /// Listens at `listener`, and no longer at the one before it: `admit` lets peers in.
     ///
     /// # Errors
     ///
-    /// Where the system does not register it.
+    /// The error of the system if it does not register the listener.
     pub fn listen(&mut self, mut listener: TcpListener) -> io::Result<()> {
         self.poll
             .registry()
@@ -183,11 +191,13 @@ impl<H: Handler + Drop> Driver<H> {
         Ok(())
     }
 
-    /// Lets peers in that have connected, at most 64, each into a slot of its own. One that is turned away finds its stream closed.
+    /// Lets in peers that have connected, at most 64, each into a slot of its own. The stream of a peer that is
+    /// turned away is closed.
     ///
     /// # Errors
     ///
-    /// Where the system gives no peer, mostly since a process may have no file more. Those before are let in. It waits, and is asked for in the next call.
+    /// The error of the system if it accepts no peer, most often since the process can open no more files. The peers
+    /// before it are in; it waits, and the next call tries again.
     pub fn admit<M: Welcome<H>>(&mut self, welcomes: &mut M) -> io::Result<Admitted> {
         let mut admitted = Admitted {
             added: 0,
@@ -208,11 +218,12 @@ impl<H: Handler + Drop> Driver<H> {
         Ok(admitted)
     }
 
-    /// The next peer that has connected, if one waits, whose stream is added nowhere: for a program that deals peers to several drivers. Else `admit` asks for it.
+    /// Returns the next peer that has connected, if one waits, without adding its stream: for a program that
+    /// distributes peers to several drivers. A program that calls `admit` does not need it.
     ///
     /// # Errors
     ///
-    /// As `admit`: it waits, and is asked for in the next call.
+    /// The error of the system, as for [`admit`](Driver::admit): the peer waits, and the next call tries again.
     pub fn next_peer(&mut self) -> io::Result<Option<(TcpStream, SocketAddr)>> {
         match &mut self.listener {
             Some(listener) => listener.next(),
@@ -245,12 +256,15 @@ impl<H: Handler + Drop> Driver<H> {
         }
     }
 
-    /// Waits at most so long for streams that are ready, or without an end, and serves each slot once that is to be served: with one read of at most 262144
-    /// octets. It does not wait where a slot has more to be done.
+    /// Waits for ready streams, and then serves each slot that is due once, with one read of at most 262144 octets.
+    ///
+    /// Waits at most `timeout`, without a limit if it is `None`, and not at all if a slot is due or a peer waits to
+    /// be let in. If memory was refused in the turn before and a slot is due, or if a peer could not be let in, it
+    /// waits at most 10 milliseconds instead.
     ///
     /// # Errors
     ///
-    /// Where the system's wait failed. No slot was served then.
+    /// The error of the system if its wait fails. No slot was served then.
     pub fn turn(&mut self, timeout: Option<Duration>) -> io::Result<Round> {
         self.wait(timeout)?;
         let round = self.slots.serve_due();
@@ -271,8 +285,7 @@ impl<H: Handler + Drop> Driver<H> {
         Ok(())
     }
 
-    /// How long a turn waits: not at all where there is something to do; where memory was refused or a peer could not be let in it lets some time pass, so
-    /// that it does not spin.
+    /// If memory was refused, or a peer could not be let in, some time has to pass: else the loop would spin.
     fn at_most(&self, timeout: Option<Duration>) -> Option<Duration> {
         let (is_open, is_stuck) = match &self.listener {
             Some(listener) => (listener.is_open(), listener.is_stuck()),
@@ -288,38 +301,47 @@ impl<H: Handler + Drop> Driver<H> {
         timeout
     }
 
-    /// The slot under the key is served in the next turn, whether its stream is ready or not: its handler goes on.
+    /// Makes the slot under `key` due, whether its stream is ready or not: the next turn serves it, and its handler
+    /// goes on.
     pub fn wake(&mut self, key: usize) {
         self.slots.wake(key);
     }
 
-    /// Does an operation on the connection under the key, as `Slots::perform`; the next turn writes what it put out.
+    /// Performs an operation on the connection under `key`, as [`Slots::perform`]; the next turn writes what it puts
+    /// out.
     pub fn perform(&mut self, key: usize, op: Op) -> Option<Result<(), Refusal>> {
         self.slots.perform(key, op)
     }
 
-    /// Wakes a turn that waits, from whatever thread. What that thread would have done it hands on by a queue of the program's own, which the driver's thread
-    /// looks at between two turns. A driver has one, which wakes as long as it lives.
+    /// Returns a waker, which ends the wait of [`turn`](Driver::turn) from any thread for as long as the waker lives.
+    /// A driver has one at most.
+    ///
+    /// Another thread hands its work over by a queue of the program, which the thread of the driver reads between two
+    /// turns.
     ///
     /// # Errors
     ///
-    /// Where the system has no more of them.
+    /// The error of the system if it makes no waker.
     pub fn waker(&self) -> io::Result<Waker> {
         Waker::new(self.poll.registry(), WAKER)
     }
 
-    /// The clock is looked at (`Slots::tick`), in milliseconds from whatever moment: when it is to be looked at next, so a turn waits no longer. It makes no turn:
-    /// the next one writes what it put out.
+    /// Checks the time limits of all slots, as [`Slots::tick`], and returns the moment of the next check; `turn` is
+    /// to wait no longer than until then. `now` is in milliseconds from a moment of the program's choice.
+    ///
+    /// It serves no slot: the next turn writes what it puts out.
     pub fn tick(&mut self, limits: Limits, now: u64) -> Option<u64> {
         self.slots.tick(limits, now)
     }
 
-    /// Each connection that is open is closed. A slot ends once its peer has closed, too; what is left of those that do not end is dropped with the driver.
+    /// Closes each connection that is open. A slot ends once its peer has closed, too; slots that do not end are
+    /// dropped with the driver.
     pub fn close_all(&mut self) {
         self.slots.close_all();
     }
 
-    /// What is left of a slot that has ended. Its key may name another from here on.
+    /// Removes a slot that has ended, and returns what is left of it; `None` if there is none. A later connection may
+    /// have the same key.
     pub fn take_ended(&mut self) -> Option<Ended<Socket, H>> {
         match self.slots.take_ended() {
             Some(mut ended) => {
@@ -331,7 +353,6 @@ impl<H: Handler + Drop> Driver<H> {
     }
 }
 
-/// Peers wait at the listener, where there is one.
 fn wake_listener(listener: &mut Option<Listening>) {
     if let Some(listener) = listener {
         listener.wake();

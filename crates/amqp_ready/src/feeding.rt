@@ -1,4 +1,4 @@
-//! What was read is fed.
+//! Feeds a connection with what was read.
 ghost use Rattle.std.specs.Prelude.{◌≡◌, ◌⊎◌, [], Ok};
 ghost use Rattle.std.specs.Bool.{OnTrue, OnFalse};
 ghost use Rattle.amqp_conn.specs.Pumping.{Adds};
@@ -13,7 +13,6 @@ use crate::inbox::Unfed;
 use crate::lent::{Lent, recall};
 use amqp_conn::{Conn, Fed, Octets, Phase};
 
-/// Hands on what a feed gave, where it added an entry to the journal.
 fn hand_on<H: Handler>(lent: &mut Lent, handler: &mut H, fed: Fed) -> Result<Next, SlotFault>
     ensures kept { kept lent.new.conn ≡ kept lent.old.conn }
     ensures tells { OnTrue fed.stepped (Adds (H.told handler.old) (H.told handler.new) fed.given) }
@@ -31,7 +30,6 @@ fn hand_on<H: Handler>(lent: &mut Lent, handler: &mut H, fed: Fed) -> Result<Nex
     }
 }
 
-/// Nothing is left, or the connection has ended.
 fn is_over(conn: &Conn, unfed: &Unfed) -> bool
     ensures { OnTrue result ((unfed.now ≡ []) ⊎ (conn.now.core.phase ≡ Phase.Closed)) }
 {
@@ -41,7 +39,6 @@ fn is_over(conn: &Conn, unfed: &Unfed) -> bool
     conn.phase() == Phase::Closed
 }
 
-/// One feed from the front on.
 fn feed_once<H: Handler>(
     lent: &mut Lent,
     handler: &mut H,
@@ -61,11 +58,12 @@ fn feed_once<H: Handler>(
     }
 }
 
-/// Feeds what was read, to its end or that of the connection; or until the handler would have written what waits (`Next::Write`).
+/// Feeds what was read, until all is fed or the connection has ended (`Next::Feed`), or until the handler asks to
+/// write first (`Next::Write`).
 ///
 /// # Errors
 ///
-/// The fault that a feed told, or the refusal that the handler hands on. What was not fed is left.
+/// The fault that a feed returned, or the refusal that the handler returned. What was not fed is left.
 pub(crate) fn feed<H: Handler>(
     lent: &mut Lent,
     handler: &mut H,

@@ -1,4 +1,4 @@
-//! Octets that were read and not fed, and the room for what reads bring.
+//! Octets that were read and not fed, and the room for reads.
 ghost use Rattle.std.specs.Prelude.{◌≡◌, ◌≤◌, ◌<◌, ◌==◌, [], length, drop, true, IfOk, OnErr};
 ghost use Rattle.std.specs.Io.KnownBytes.{Consumes};
 ghost use Rattle.amqp_ready.specs.Moving.{count};
@@ -9,8 +9,8 @@ use std::alloc::{AllocError, Global};
 use std::marker::Model;
 use std::mem;
 
-/// The most octets that are read at once: so many that of frames of 65536 octets three of four lie whole in what a read brought, and are read where they lie.
-/// One that lies in two reads is put together first, by one copy more.
+/// The most octets of one read. Of frames of 65536 octets, three of four then lie whole in what one read brings, and
+/// are read in place; one that lies in two reads is first put together by a copy.
 pub const ROOM: usize = 262144;
 
 /// Why nothing was read.
@@ -18,12 +18,13 @@ pub const ROOM: usize = 262144;
 pub enum ReadFault {
     /// The stream failed.
     Failed,
-    /// There was no room to read to; the stream was not asked.
+    /// There was no memory to read to; the stream was not called.
     NoMemory,
 }
 
-/// Room for what reads bring, which goes round among the streams of a thread: behind its turn each gives it back, and octets that are left go to one that is
-/// as long as they are. So there is one room; where there is no memory for a shorter one, a stream keeps the room for as long.
+/// The room for reads that the streams of a thread share. After its turn each stream hands it back; octets that are
+/// not fed yet move to a buffer of their own length. So there is one room. If there is no memory for that buffer, the
+/// stream keeps the room until all is fed.
 #[derive(Drop)]
 pub struct Inbox {
     alloc: Global,
@@ -31,7 +32,7 @@ pub struct Inbox {
 }
 
 impl Inbox {
-    /// Without room yet: the first read makes it.
+    /// Returns an inbox without room; the first read allocates it.
     pub fn new(alloc: Global) -> Inbox {
         Inbox {
             alloc,
@@ -39,7 +40,6 @@ impl Inbox {
         }
     }
 
-    /// This room, or where it is none or a short one, the free one or a new one.
     fn room_or(&mut self, own: Vec<u8>) -> Result<Vec<u8>, AllocError>
         ensures { IfOk result (λ room. 0 < length room.items) }
     {
@@ -54,7 +54,7 @@ impl Inbox {
         Ok(mem::replace(&mut self.free, Vec::new(alloc)))
     }
 
-    /// Takes the room of a stream, whose octets that are not fed stay with it: they are copied once, where it has any.
+    /// Takes the room of a stream back. Octets that are not fed stay with the stream, by one copy.
     pub fn take_back(&mut self, unfed: &mut Unfed)
         ensures { unfed.new ≡ unfed.old }
     {
@@ -68,7 +68,6 @@ impl Inbox {
         self.keep(room);
     }
 
-    /// Keeps a room that is not a short one.
     fn keep(&mut self, room: Vec<u8>) {
         if room.as_slice().len() >= ROOM {
             self.free = room;
@@ -96,7 +95,7 @@ impl Model for Unfed {
 }
 
 impl Unfed {
-    /// None.
+    /// Returns a buffer without octets.
     pub fn new(alloc: Global) -> Unfed
         ensures { result ≡ [] }
     {
@@ -107,21 +106,21 @@ impl Unfed {
         }
     }
 
-    /// Those octets.
+    /// Returns the octets.
     pub fn octets(&self) -> &[u8]
         ensures { result.now ≡ self.now }
     {
         &self.room.as_slice()[self.start..self.end]
     }
 
-    /// All were fed.
+    /// Returns whether all octets were fed.
     pub fn is_empty(&self) -> bool
         ensures { result ≡ (length self.now == 0) }
     {
         self.octets().is_empty()
     }
 
-    /// So many of them were fed.
+    /// Removes `used` octets from the front, which were fed.
     pub fn skip(&mut self, used: usize)
         requires { used ≤ length self.old }
         ensures { self.new ≡ drop used self.old }
@@ -129,14 +128,13 @@ impl Unfed {
         self.start += used;
     }
 
-    /// None are left.
+    /// Removes all octets.
     pub fn clear(&mut self)
         ensures { self.new ≡ [] }
     {
         self.start = self.end;
     }
 
-    /// The room, which goes elsewhere: none are left.
     fn release(&mut self, alloc: Global) -> Vec<u8>
         ensures { self.new ≡ [] }
     {
@@ -145,7 +143,7 @@ impl Unfed {
         mem::replace(&mut self.room, Vec::new(alloc))
     }
 
-    /// The room, which goes elsewhere, with these octets in one that is as long as they are. It is none where they have such a one, or there is no memory for it.
+    /// The room that is returned has no octets if these already have a short one, or if memory for one is refused.
     fn shorten(&mut self, alloc: Global) -> Vec<u8>
         ensures { self.new ≡ self.old }
     {
@@ -162,7 +160,6 @@ impl Unfed {
         }
     }
 
-    /// The room, which goes elsewhere: the octets are those of this one.
     fn move_to(&mut self, short: Vec<u8>) -> Vec<u8>
         ensures { self.new ≡ short.items }
     {
@@ -171,11 +168,11 @@ impl Unfed {
         mem::replace(&mut self.room, short)
     }
 
-    /// Reads once, where all were fed: into room of its own that is not a short one, or that of the inbox.
+    /// Reads once. All octets that were read before must be fed.
     ///
     /// # Errors
     ///
-    /// `ReadFault`. Nothing was read then.
+    /// [`ReadFault`]. Nothing was read then.
     pub fn read<S: NonBlocking>(
         &mut self,
         inbox: &mut Inbox,
@@ -196,7 +193,6 @@ impl Unfed {
         }
     }
 
-    /// Reads once into this room.
     fn fill<S: NonBlocking>(
         &mut self,
         mut room: Vec<u8>,

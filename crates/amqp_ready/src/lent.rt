@@ -1,4 +1,4 @@
-//! A connection, as a handler has it.
+//! A connection as a handler sees it.
 ghost use Rattle.std.specs.Prelude.{◌≡◌, ◌≤◌, length, IfOk, OnErr};
 ghost use Rattle.amqp_journal.specs.Units.{units, PutWithin};
 ghost use Rattle.amqp_conn.specs.Calling.{Performs, Closes, forgotten};
@@ -8,14 +8,14 @@ ghost use Rattle.amqp_ready.specs.Lending.{kept};
 use amqp_conn::{AmqpError, Boxed, CloseRefusal, Conn, Left, Op, Refusal};
 use std::alloc::AllocError;
 
-/// A connection that is lent to a handler: for operations, its close and what is read of it. What it has not read, what went out of it and the frames that it
-/// heard stay, whatever the handler does.
+/// A connection that is lent to a handler, which may read it, perform operations and close it. The octets that the
+/// connection has not read, those that went out and the frames that it heard stay, whatever the handler does.
 #[derive(Drop)]
 pub struct Lent {
     pub(crate) conn: Conn,
 }
 
-/// What always holds of a connection; it does nothing.
+/// It does nothing: its contract recalls what holds of every connection.
 pub(crate) fn recall(conn: &Conn)
     ensures within { PutWithin (length conn.now.core.log.journal) conn.now.core.log.put }
     ensures some { conn.now.core.log.popped ≤ length (units conn.now.core.log) }
@@ -30,18 +30,18 @@ impl Lent {
         Lent { conn }
     }
 
-    /// The connection, to be read.
+    /// Returns the connection, for reading.
     pub fn conn(&self) -> &Conn
         ensures { result.now ≡ self.now.conn }
     {
         &self.conn
     }
 
-    /// Does an operation, as `Conn::perform`: what it gives, `conn().given()` tells.
+    /// Performs an operation, as `Conn::perform`; `conn().given()` returns what it resulted in.
     ///
     /// # Errors
     ///
-    /// Those of `Conn::apply`: a refused operation has changed nothing, and is dropped.
+    /// Those of `Conn::apply`: nothing has changed, and the operation is dropped.
     pub fn perform(&mut self, op: Op) -> Result<(), Refusal>
         ensures performs { Performs self.old.conn.core op result self.new.conn.core }
         ensures kept { kept self.new.conn ≡ kept self.old.conn }
@@ -63,11 +63,12 @@ impl Lent {
         self.conn.close(error)
     }
 
-    /// The first of what links left that are gone, as `Conn::pop_left`. It is no step.
+    /// Removes and returns the first delivery or outcome that a link left when it was detached, as `Conn::pop_left`.
+    /// The journal gets no entry.
     ///
     /// # Errors
     ///
-    /// Want of memory, as `Conn::pop_left`: nothing has changed.
+    /// [`AllocError`] if memory is refused: nothing has changed then.
     pub fn pop_left(&mut self) -> Result<Option<Left>, AllocError>
         ensures gives { IfOk result (λ given. Gives self.old.conn.core given self.new.conn.core) }
         ensures kept { kept self.new.conn ≡ kept self.old.conn }
@@ -76,7 +77,7 @@ impl Lent {
         self.conn.pop_left()
     }
 
-    /// Lets the journal's entries so far go, as `Conn::forget`.
+    /// Drops the entries of the journal so far, as `Conn::forget`.
     pub fn forget(&mut self)
         ensures forgets { self.new.conn ≡ forgotten self.old.conn }
         ensures kept { kept self.new.conn ≡ kept self.old.conn }

@@ -1,25 +1,25 @@
-//! Connections over streams that never wait, many on one thread.
+//! AMQP connections over streams that never wait, many on one thread.
 #![tactic(auto)]
 //!
-//! | module | what it has |
+//! | module | contents |
 //! |---|---|
-//! | `answers` | how many octets that answer what was read are not written |
-//! | `device` | [`NonBlocking`]: a stream that reads and writes some octets, or tells that it would wait; [`Socket`]: one of mio's |
-//! | `tap` | what went over a stream, where that is recorded ([`Recorded`], [`Way`]) |
-//! | `inbox` | [`Unfed`]: octets that were read and not fed; [`Inbox`]: the room for what reads bring |
+//! | `answers` | the count of octets that answer what was read and are not written |
+//! | `device` | [`NonBlocking`]: a stream that never waits; [`Socket`]: a TCP stream of mio |
+//! | `tap` | a record of what went over a stream ([`Recorded`], [`Way`]) |
+//! | `inbox` | [`Unfed`]: octets that were read and not fed; [`Inbox`]: the room for reads |
 //! | `handler`, `lent` | [`Handler`]: the application's part of a connection, which is [`Lent`] to it |
-//! | `feeding` | what was read is fed |
-//! | `fault` | why a slot ends before its connection has |
-//! | `sending` | what a connection put out is written |
+//! | `feeding` | feeding what was read |
+//! | `fault` | [`SlotFault`]: why a slot ends before its connection does |
+//! | `sending` | writing what a connection put out |
 //! | `slot` | [`Slot`]: a connection with its stream |
 //! | `outbox` | [`Outbox`]: octets on their way out |
-//! | `seat` | a slot, and how far it is ([`Stage`]); what is left of it ([`Ended`]) |
-//! | `slots` | [`Slots`]: slots by key, and which of them are to be served |
-//! | `times` | how long slots may take ([`Limits`]), on a clock that the program hands in |
+//! | `seat` | a slot and its stage ([`Stage`]); what is left of it ([`Ended`]) |
+//! | `slots` | [`Slots`]: slots by key, and which of them are due |
+//! | `times` | time limits of slots ([`Limits`]), on a clock that the program hands in |
 //! | `listener` | peers that connect ([`Welcome`], [`Admitted`]) |
-//! | `driver` | [`Driver`]: slots over mio's poll |
+//! | `driver` | [`Driver`]: slots over the poll of mio |
 //!
-//! What becomes of a slot:
+//! The stages of a slot:
 //!
 //! ```text
 //! add ──► Works ── the connection has ended, all is written ──► Over(None) ─────► take_ended

@@ -6,20 +6,20 @@ use std::io;
 use std::io::ErrorKind;
 use std::net::SocketAddr;
 
-/// What events tell the listener by: no slot's key.
+/// The token of the listener, which is no key of a slot.
 pub(crate) const LISTENER: Token = Token(usize::MAX);
 
-/// Makes a connection and the application's part for each peer that connects.
+/// Makes a connection and its handler for each peer that connects.
 pub trait Welcome<H> {
-    /// Those of a peer at this address; none: it is turned away.
+    /// Returns the connection and the handler for a peer at the address `from`; `None` turns the peer away.
     fn welcome(&mut self, from: SocketAddr) -> Option<(Conn, H)>;
 }
 
-/// What became of peers that connected.
+/// How many peers one call of `Driver::admit` let in and turned away.
 #[derive(Clone, Copy, Debug, PartialEq, Eq)]
 pub struct Admitted {
     pub added: usize,
-    /// Their streams were closed: there was no welcome, or no memory.
+    /// How many streams were closed: their peer was not welcome, or memory was refused.
     pub turned_away: usize,
 }
 
@@ -28,12 +28,12 @@ pub struct Admitted {
 pub(crate) struct Listening {
     listener: TcpListener,
     is_ready: bool,
-    /// The peer that is next could not be let in, for want of files or memory.
+    /// The next peer could not be let in, for lack of files or memory.
     is_stuck: bool,
 }
 
 impl Listening {
-    /// Peers may wait already.
+    /// Peers may have connected before the listener was registered, so it starts as ready.
     pub(crate) fn new(listener: TcpListener) -> Listening {
         Listening {
             listener,
@@ -42,22 +42,20 @@ impl Listening {
         }
     }
 
-    /// The system has told that peers wait.
     pub(crate) fn wake(&mut self) {
         self.is_ready = true;
     }
 
-    /// Peers may wait that can be let in.
+    /// Returns whether peers may wait, and the last attempt to let one in did not fail.
     pub(crate) fn is_open(&self) -> bool {
         self.is_ready && !self.is_stuck
     }
 
-    /// Peers wait that could not be let in.
+    /// Returns whether peers may wait, and the last attempt to let one in failed.
     pub(crate) fn is_stuck(&self) -> bool {
         self.is_ready && self.is_stuck
     }
 
-    /// The next peer, if one waits.
     pub(crate) fn next(&mut self) -> io::Result<Option<(TcpStream, SocketAddr)>> {
         if !self.is_ready {
             return Ok(None);
@@ -71,7 +69,7 @@ impl Listening {
         }
     }
 
-    /// No peer came for this.
+    /// An interrupted call, or a peer that is gone already, makes no error: the next call asks again.
     fn stay(&mut self, error: io::Error) -> io::Result<Option<(TcpStream, SocketAddr)>> {
         match error.kind() {
             ErrorKind::WouldBlock => {

@@ -11,13 +11,14 @@ use bytes::Bytes;
 use std::alloc::Global;
 use std::marker::Model;
 
-/// Units of at least so many octets are written from where they stand.
+/// Units of at least this many octets are written from where they lie, without a copy.
 const LONG: usize = 8192;
 
-/// No more units are gathered where so many octets are left.
+/// No more units are gathered while this many octets of short ones are left.
 const GATHERED: usize = 65536;
 
-/// Octets of units that were popped and not written: those of short units, of which so many went out, and behind them the rest of a long one, in one or two slices.
+/// The octets of units that were popped and not written: those of short units, of which `sent` are written, and
+/// behind them the rest of a long unit in one or two slices.
 #[derive(Drop)]
 pub struct Outbox {
     short: Vec<u8>,
@@ -26,11 +27,10 @@ pub struct Outbox {
     last: Bytes,
 }
 
-/// What a connection gave.
 #[derive(Clone, Copy, PartialEq, Eq)]
 enum Gathered {
     Unit,
-    /// Many octets are left as it is.
+    /// Enough octets are left as it is.
     Full,
     /// No unit waits.
     All,
@@ -42,7 +42,7 @@ fn has_none(octets: &Bytes) -> bool
     octets.is_empty()
 }
 
-/// Copies the octets of a short unit, where there is room: whether it did.
+/// Copies the octets of a short unit if there is memory; returns whether it did.
 fn copies(short: &mut Vec<u8>, octets: &Sliced) -> bool
     ensures copied { OnTrue result (short.new.items ≡ short.old.items ++ octets.now) }
     ensures still { OnFalse result (short.new.items ≡ short.old.items) }
@@ -56,7 +56,7 @@ fn copies(short: &mut Vec<u8>, octets: &Sliced) -> bool
     true
 }
 
-/// Copies what stands before a long unit's payload, where there is room: what is then left of the unit.
+/// Copies what a long unit has in front of its payload if there is memory; returns the rest of the unit.
 fn copies_head(short: &mut Vec<u8>, octets: Sliced) -> (Bytes, Bytes)
     ensures { (more : List ℕ) × (short.new.items ≡ short.old.items ++ more) × (more ++ (result.0 ++ result.1) ≡ octets) }
 {
@@ -81,7 +81,7 @@ impl Model for Outbox {
 }
 
 impl Outbox {
-    /// Nothing is left to be written.
+    /// Returns an outbox without octets.
     pub fn new(alloc: Global) -> Outbox
         ensures { result ≡ [] }
     {
@@ -93,7 +93,7 @@ impl Outbox {
         }
     }
 
-    /// How many octets are left.
+    /// Returns how many octets are left to be written.
     pub fn len(&self) -> u128
         ensures { result ≡ length self.now }
     {
@@ -101,15 +101,15 @@ impl Outbox {
         short as u128 + self.long.len() as u128 + self.last.len() as u128
     }
 
-    /// Nothing is left.
+    /// Returns whether all octets are written.
     pub fn is_empty(&self) -> bool
         ensures { result ≡ (length self.now == 0) }
     {
         self.len() == 0
     }
 
-    /// Takes units that wait, until many octets are left or no unit waits: whether none waits. It cannot fail: a unit for which there is no room is
-    /// written from where it stands.
+    /// Takes waiting units from `conn` until enough octets are left or no unit waits; returns whether none waits. It
+    /// cannot fail: if memory for a copy is refused, the unit is written from where it lies.
     pub fn gather(&mut self, conn: &mut Conn) -> bool
         ensures gathers { Gathers self.old conn.old self.new conn.new }
         ensures only { OnlyWrote conn.old conn.new }
@@ -126,7 +126,6 @@ impl Outbox {
         false
     }
 
-    /// Drops short units that were written.
     fn tidy(&mut self)
         ensures { self.new ≡ self.old }
     {
@@ -136,7 +135,6 @@ impl Outbox {
         }
     }
 
-    /// Takes the unit in front, where few octets are left and none of them are a long unit's.
     fn gather_one(&mut self, conn: &mut Conn) -> Gathered
         ensures gathers { Gathers self.old conn.old self.new conn.new }
         ensures only { OnlyWrote conn.old conn.new }
@@ -160,7 +158,6 @@ impl Outbox {
         Gathered::Unit
     }
 
-    /// So many octets more are written.
     fn advance(&mut self, count: usize)
         requires { count ≤ length self.old }
         ensures { self.new ≡ drop count self.old }
@@ -172,7 +169,6 @@ impl Outbox {
         self.last.advance(count - of_short - of_long);
     }
 
-    /// Writes octets in front, so many as the stream takes.
     fn write_front<S: NonBlocking>(&self, stream: &mut S) -> Result<Moved, Failed>
         ensures bound { IfOk result (λ moved. count moved ≤ length self.now) }
         ensures some { IfOk result (MovesSome self.now) }
@@ -188,7 +184,6 @@ impl Outbox {
         stream.write_two(short, self.long.as_slice())
     }
 
-    /// Writes once.
     fn write_once<S: NonBlocking>(&mut self, stream: &mut S) -> Result<Moved, Failed>
         ensures sends { IfOk result (Sends self.old self.new) }
         ensures err { OnErr result (self.new ≡ self.old) }
@@ -204,11 +199,11 @@ impl Outbox {
         answer
     }
 
-    /// Writes until all is written, or the stream would wait: whether all is written.
+    /// Writes until all is written or the stream would wait; returns whether all is written.
     ///
     /// # Errors
     ///
-    /// Where the stream failed. What it took before is not left.
+    /// [`Failed`] if the stream failed. The octets that it took before are not left.
     pub fn write<S: NonBlocking>(&mut self, stream: &mut S) -> Result<bool, Failed>
         ensures all { IfOk result (λ all. OnTrue all (self.new ≡ [])) }
         ensures some { IfOk result (λ all. OnFalse all (self.new ≢ [])) }

@@ -1,4 +1,4 @@
-//! A slot of the table, and how far it is.
+//! A slot of the table, with its stage.
 ghost use Rattle.std.specs.Prelude.{◌≡◌, ◌≢◌, [], None, Some, Ok, IfSome};
 ghost use Rattle.amqp_ready.specs.Answering.{fresh};
 ghost use Rattle.amqp_ready.specs.Seating.{IsOver, IsTicked, IsTold, Turns, Worked, fault_of, late, lost, parts_of};
@@ -15,59 +15,59 @@ use crate::times::{Due, Limits, Seen, Span, Times, span_of};
 use amqp_conn::{Conn, ConnFault, Op};
 use std::alloc::Global;
 
-/// How far a slot is.
+/// The stage of a slot.
 #[derive(Clone, Copy, Debug, PartialEq, Eq)]
 pub enum Stage {
-    /// It is at work.
+    /// It works.
     Works,
-    /// It ends by the fault, once what its connection put out is written, the last close among it.
+    /// It ends by this fault once what its connection put out is written, its close included.
     Leaves(SlotFault),
-    /// It has ended: with its connection, or by the fault.
+    /// It has ended: with its connection, or by this fault.
     Over(Option<SlotFault>),
 }
 
-/// What a turn of a slot in the table came to.
+/// What a turn of a slot in the table resulted in.
 #[derive(Clone, Copy, Debug, PartialEq, Eq)]
 pub enum Turned {
-    /// None is under this key that goes on.
+    /// No slot that still goes on has this key.
     Absent,
-    /// Its stream tells when it goes on.
+    /// The slot waits for its stream.
     Waits,
-    /// There is more to be done at once.
+    /// The slot has more to do at once.
     Again,
     /// Memory was refused: nothing is lost, and a later turn goes on.
     NoRoom,
-    /// It has ended.
+    /// The slot has ended.
     Over,
 }
 
 /// What is left of a slot that has ended.
 #[derive(Drop)]
 pub struct Ended<S, H> {
-    /// What it was called by.
+    /// The key that it had.
     pub key: usize,
     pub stream: S,
-    /// Its octets have ended (`Conn::lost`): what its links left can be popped.
+    /// The connection, whose octets have ended (`Conn::lost`): what its links left can be popped.
     pub conn: Conn,
     pub handler: H,
-    /// The fault that ended it; none where the connection has ended as it may.
+    /// The fault that ended the slot; `None` if the connection ended in the regular way.
     pub fault: Option<SlotFault>,
 }
 
-/// A slot, and how far it is.
+/// A slot with its stage.
 #[derive(Drop)]
 pub(crate) struct Seat<S, H> {
     pub slot: Slot<S, H>,
     pub stage: Stage,
-    /// It stands among those that are to be served.
+    /// Whether its key is in the queue of slots that are due.
     pub is_due: bool,
-    /// When it was seen to do something, once the clock was looked at.
+    /// When it was seen to do something; `None` before the first check of the clock.
     pub times: Option<Times>,
     /// The slot that ended before it, of those that were not taken out.
     pub before: Option<usize>,
 }
 
-/// How far a slot that is at work is behind a turn that came to this. Want of memory ends none.
+/// A refusal of memory ends no slot: a later turn goes on.
 fn stage_after(answer: Result<Served, SlotFault>) -> Stage
     ensures told { IsTold (fault_in answer) result }
     ensures done { result ≡ Stage.Over None → answer ≡ Ok Served.Ended }
@@ -80,7 +80,7 @@ fn stage_after(answer: Result<Served, SlotFault>) -> Stage
     }
 }
 
-/// What a turn came to that leaves a slot at this stage. Behind a fault what was put out is still to be written.
+/// After a fault, what was put out is still to be written.
 fn turned_after(stage: Stage, answer: Result<Served, SlotFault>) -> Turned
     ensures { result ≡ Turned.Over → IsOver stage }
 {
@@ -101,7 +101,6 @@ fn goes_on(answer: Result<Served, SlotFault>) -> Turned
     }
 }
 
-/// How far a slot that leaves is behind a flush that came to this.
 fn stage_left(answer: Result<Flushed, SlotFault>, fault: SlotFault) -> Stage
     ensures { fault_of result ≡ Some fault }
 {
@@ -129,7 +128,7 @@ fn writes_on(answer: Result<Flushed, SlotFault>) -> Turned
     }
 }
 
-/// How far a slot is that has taken too long.
+/// Returns the next stage of a slot that has taken too long.
 fn late(stage: Stage) -> Stage
     ensures { result ≡ late stage }
 {
@@ -141,7 +140,6 @@ fn late(stage: Stage) -> Stage
 }
 
 impl<S: NonBlocking, H: Handler> Seat<S, H> {
-    /// At work.
     pub(crate) fn new(alloc: Global, stream: S, conn: Conn, handler: H) -> Seat<S, H>
         ensures stage { result.stage ≡ Stage.Works }
         ensures unfed { result.slot.unfed ≡ [] }
@@ -160,7 +158,6 @@ impl<S: NonBlocking, H: Handler> Seat<S, H> {
         }
     }
 
-    /// One turn.
     pub(crate) fn turn(&mut self, inbox: &mut Inbox) -> Turned
         ensures turns { Turns self.old.stage self.new.stage (parts_of S.remaining S.written S.failed H.told self.old.slot) (parts_of S.remaining S.written S.failed H.told self.new.slot) }
         ensures over { result ≡ Turned.Over → IsOver self.new.stage }
@@ -182,7 +179,6 @@ impl<S: NonBlocking, H: Handler> Seat<S, H> {
         turned_after(self.stage, answer)
     }
 
-    /// What was put out is written, as far as the stream takes it.
     fn leave(&mut self, fault: SlotFault) -> Turned
         ensures turns { Turns (Stage.Leaves fault) self.new.stage (parts_of S.remaining S.written S.failed H.told self.old.slot) (parts_of S.remaining S.written S.failed H.told self.new.slot) }
         ensures over { result ≡ Turned.Over → IsOver self.new.stage }
@@ -192,7 +188,6 @@ impl<S: NonBlocking, H: Handler> Seat<S, H> {
         turned_left(self.stage, answer)
     }
 
-    /// What it shows when the clock is looked at.
     fn seen(&self) -> Seen {
         let conn = self.slot.conn();
         let span = match self.stage {
@@ -206,7 +201,7 @@ impl<S: NonBlocking, H: Handler> Seat<S, H> {
         }
     }
 
-    /// The clock is looked at: what that asks.
+    /// Checks the time limits, and returns what they ask for now.
     pub(crate) fn look(&mut self, limits: Limits, now: u64) -> Due
         ensures slot { self.new.slot ≡ self.old.slot }
         ensures stage { self.new.stage ≡ self.old.stage }
@@ -220,7 +215,8 @@ impl<S: NonBlocking, H: Handler> Seat<S, H> {
         times.due(self.slot.conn(), limits, now)
     }
 
-    /// When the clock asks something of it next, if nothing happens before; none once it has ended.
+    /// Returns the moment at which the time limits ask for something next, if nothing happens before; `None` once it
+    /// has ended.
     pub(crate) fn deadline(&self, limits: Limits) -> Option<u64> {
         match (self.stage, self.times) {
             (Stage::Works | Stage::Leaves(_), Some(times)) => {
@@ -230,7 +226,7 @@ impl<S: NonBlocking, H: Handler> Seat<S, H> {
         }
     }
 
-    /// What the clock asks is done: whether that ended it now.
+    /// Does what the time limits ask for; returns whether that has ended it.
     pub(crate) fn act(&mut self, due: Due) -> bool
         ensures stage { IsTicked self.old.stage self.new.stage }
         ensures lent { Serves None (parts_of S.remaining S.written S.failed H.told self.old.slot) (parts_of S.remaining S.written S.failed H.told self.new.slot) }
@@ -250,7 +246,8 @@ impl<S: NonBlocking, H: Handler> Seat<S, H> {
         false
     }
 
-    /// It has taken too long: its connection is closed, and it ends once that is written; or it ends at once, where it leaves already.
+    /// A slot that has taken too long closes its connection, and ends once that is written; one that leaves already
+    /// ends at once.
     fn time_out(&mut self) -> bool
         ensures stage { self.new.stage ≡ late self.old.stage }
         ensures lent { Serves None (parts_of S.remaining S.written S.failed H.told self.old.slot) (parts_of S.remaining S.written S.failed H.told self.new.slot) }
@@ -261,7 +258,7 @@ impl<S: NonBlocking, H: Handler> Seat<S, H> {
         leaves
     }
 
-    /// It is to be served, and was not yet.
+    /// Marks the slot as due; returns `false` if it was due already, or has ended.
     pub(crate) fn becomes_due(&mut self) -> bool
         ensures slot { self.new.slot ≡ self.old.slot }
         ensures stage { self.new.stage ≡ self.old.stage }
@@ -273,7 +270,7 @@ impl<S: NonBlocking, H: Handler> Seat<S, H> {
         true
     }
 
-    /// Why it has ended, if it has, and which one ended before it.
+    /// Returns why it has ended, if it has, and which slot ended before it.
     pub(crate) fn ending(&self) -> Option<(Option<SlotFault>, Option<usize>)>
         ensures { IfSome result (λ r. self.now.stage ≡ Stage.Over r.0) }
     {
@@ -283,7 +280,6 @@ impl<S: NonBlocking, H: Handler> Seat<S, H> {
         }
     }
 
-    /// What is left of it.
     pub(crate) fn into_ended(self, key: usize, fault: Option<SlotFault>) -> Ended<S, H>
         ensures key { result.key ≡ key }
         ensures fault { result.fault ≡ fault }

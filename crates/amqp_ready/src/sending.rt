@@ -1,4 +1,4 @@
-//! What a connection put out is written.
+//! Writes what a connection put out.
 ghost use Rattle.std.specs.Prelude.{◌≡◌, [], Ok, true, OnErr, OnOk};
 ghost use Rattle.amqp_conn.specs.Pumping.{AllWent, OnlyWrote};
 ghost use Rattle.amqp_ready.specs.Slotting.{Sent};
@@ -7,18 +7,17 @@ use crate::device::NonBlocking;
 use crate::outbox::Outbox;
 use amqp_conn::{Conn, Failed};
 
-/// How far what was put out is written.
+/// How much of what was put out a flush has written.
 #[derive(Clone, Copy, Debug, PartialEq, Eq)]
 pub enum Flushed {
-    /// The stream would wait.
+    /// Some octets are left, since the stream would wait.
     Behind,
-    /// All of it, and no unit waits.
+    /// All octets, and no unit waits.
     All,
-    /// There is more to be written.
+    /// There is more to write at once.
     More,
 }
 
-/// Takes units that wait, and writes what is left.
 fn flush_once<S: NonBlocking>(
     outbox: &mut Outbox,
     conn: &mut Conn,
@@ -44,7 +43,7 @@ fn flush_once<S: NonBlocking>(
     Ok(Flushed::More)
 }
 
-/// Writes what waits, or as much as the stream takes.
+/// Writes what waits, as far as the stream takes it.
 pub(crate) fn flush<S: NonBlocking>(
     outbox: &mut Outbox,
     conn: &mut Conn,

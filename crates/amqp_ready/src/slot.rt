@@ -23,28 +23,28 @@ use crate::sending::{Flushed, flush};
 use amqp_conn::{CloseRefusal, Conn, Op, Phase, Refusal};
 use std::alloc::Global;
 
-/// What a read came to that did not fail.
+/// What a read brought, if it did not fail.
 #[derive(Clone, Copy, Debug, PartialEq, Eq)]
 pub enum Brought {
     Octets(usize),
     /// The input has ended.
     End,
-    /// It would wait.
+    /// Nothing, since the stream would wait.
     Waits,
-    /// Nothing was read: octets are unfed, or the slot holds (`Slot::hold_at`).
+    /// Nothing was read: octets are not fed yet, or too many answers wait (`Slot::hold_at`).
     Held,
-    /// Nothing was read: there was no room to read to.
+    /// Nothing was read: memory to read to was refused.
     NoRoom,
-    /// Nothing was read yet: the handler would have written first.
+    /// Nothing was read yet: the handler asked to write first.
     Later,
 }
 
-/// What a turn of a slot came to.
+/// What a turn of a slot resulted in.
 #[derive(Clone, Copy, Debug, PartialEq, Eq)]
 pub enum Served {
-    /// The stream tells when it goes on.
+    /// The slot waits for its stream.
     Waits,
-    /// There is more to be done at once.
+    /// There is more to do at once.
     Again,
     /// Memory was refused: nothing is lost, and a later turn goes on.
     NoRoom,
@@ -52,11 +52,12 @@ pub enum Served {
     Ended,
 }
 
-/// A connection with its stream and the application's part.
+/// A connection with its stream and its handler.
 ///
-/// What a peer can make it keep is bounded: at most one room of octets that were read and not fed; and of octets that were put out while what was read was
-/// fed, and are not written, twice as many as `hold_at` says at most, with what two reads more are answered by. What the handler puts out in
-/// `Handler::go_on`, and the program by `perform`, they have to bound themselves: `unsent` tells how much waits.
+/// What a peer can make a slot keep is bounded: at most one room (262144 octets) of octets that were read and not
+/// fed; and of octets that were put out while what was read was fed, and are not written, twice as many as `hold_at`
+/// sets, plus the answers to two more reads. The program itself has to bound what its handler puts out in
+/// `Handler::go_on`, and what it puts out by `perform`: `unsent` returns how much waits.
 #[derive(Drop)]
 pub struct Slot<S, H> {
     stream: S,
@@ -69,7 +70,6 @@ pub struct Slot<S, H> {
     reads: u64,
 }
 
-/// What a read came to, for a slot.
 fn as_brought(answer: Result<Moved, ReadFault>) -> Result<Brought, SlotFault>
     ensures fault { IsNoFeeds (fault_in result) }
     ensures held { result ≢ Ok Brought.Held }
@@ -88,7 +88,7 @@ fn as_brought(answer: Result<Moved, ReadFault>) -> Result<Brought, SlotFault>
 }
 
 impl<S: NonBlocking, H: Handler> Slot<S, H> {
-    /// Nothing was read, and nothing is written yet.
+    /// Returns a slot of which nothing was read or written yet.
     pub fn new(alloc: Global, stream: S, conn: Conn, handler: H) -> Slot<S, H>
         ensures unfed { result.unfed ≡ [] }
         ensures outbox { result.outbox ≡ [] }
@@ -108,18 +108,21 @@ impl<S: NonBlocking, H: Handler> Slot<S, H> {
         }
     }
 
-    /// From here on the slot holds, which is that nothing is read, while so many octets or more are counted as not written that were put out while what was
-    /// read was fed; 1048576 where nothing is said. So a peer that goes on to speak and never reads is held back. At 0 nothing is read any more.
+    /// Sets at how many octets the slot stops to read: while at least `octets` octets that were put out for what was
+    /// read are counted as not written, nothing more is read. The default is 1048576 ([`ANSWERS`](crate::ANSWERS));
+    /// at 0 the slot never reads. So a peer that sends and never reads is held back.
     ///
-    /// It is to be more than what `Handler::take` puts out for all that the peer may send before it reads again: where that is a disposition and a flow for each
-    /// message, 128 octets for each that its credit allows. Else two ends that both send may wait for each other to read.
+    /// The number has to be larger than what `Handler::take` puts out for all that the peer may send before it reads
+    /// again: if that is a disposition and a flow for each message, 128 octets for each message of the peer's credit.
+    /// Otherwise two ends that both send may wait for each other to read.
     pub fn hold_at(&mut self, octets: u64)
         ensures { self.new ≡ record self.old { answers = with_most octets self.old.answers } }
     {
         self.answers.most = octets;
     }
 
-    /// How many octets are not written: those of units that wait in the connection, and what is left of units that were popped.
+    /// Returns how many octets are not written, at most `u64::MAX`: those of units that wait in the connection, and
+    /// those of units that were popped.
     pub fn unsent(&self) -> u64
         ensures { result ≡ unsent self.now.lent.conn self.now.outbox }
     {
@@ -129,54 +132,54 @@ impl<S: NonBlocking, H: Handler> Slot<S, H> {
             .min(u64::MAX as u128) as u64
     }
 
-    /// How many reads brought octets.
+    /// Returns how many reads brought octets.
     pub(crate) fn reads(&self) -> u64 {
         self.reads
     }
 
-    /// The connection, to be read.
+    /// Returns the connection, for reading.
     pub fn conn(&self) -> &Conn
         ensures { result.now ≡ self.now.lent.conn }
     {
         self.lent.conn()
     }
 
-    /// The application's part, to be read.
+    /// Returns the handler, for reading.
     pub fn handler(&self) -> &H
         ensures { result.now ≡ self.now.handler }
     {
         &self.handler
     }
 
-    /// The application's part, to be changed.
+    /// Returns the handler, for changes.
     pub fn handler_mut(&mut self) -> &mut H {
         &mut self.handler
     }
 
-    /// The stream, to be read.
+    /// Returns the stream, for reading.
     pub fn stream(&self) -> &S
         ensures { result.now ≡ self.now.stream }
     {
         &self.stream
     }
 
-    /// The stream, for what reads and writes nothing.
+    /// Returns the stream; the caller must not read or write it.
     pub(crate) fn stream_mut(&mut self) -> &mut S {
         &mut self.stream
     }
 
-    /// How many octets were read and not fed.
+    /// Returns how many octets were read and not fed.
     pub fn unfed(&self) -> usize
         ensures { result ≡ length self.now.unfed }
     {
         self.unfed.octets().len()
     }
 
-    /// Writes what was put out, or as much as the stream takes.
+    /// Writes what was put out, as far as the stream takes it.
     ///
     /// # Errors
     ///
-    /// `Write` where the stream failed.
+    /// [`SlotFault::Write`] if the stream failed.
     pub fn flush(&mut self) -> Result<Flushed, SlotFault>
         ensures serves { Serves (fault_in result) (parts (S.remaining self.old.stream) self.old.unfed self.old.lent.conn (H.told self.old.handler) self.old.outbox (S.written self.old.stream) (S.failed self.old.stream)) (parts (S.remaining self.new.stream) self.new.unfed self.new.lent.conn (H.told self.new.handler) self.new.outbox (S.written self.new.stream) (S.failed self.new.stream)) }
         ensures went { result ≡ Ok Flushed.All → AllWent self.new.lent.conn }
@@ -196,7 +199,7 @@ impl<S: NonBlocking, H: Handler> Slot<S, H> {
         }
     }
 
-    /// Feeds what is unfed, and counts what that put out.
+    /// What a feed puts out counts as answers (`hold_at`).
     fn feed(&mut self) -> Result<Next, SlotFault>
         ensures serves { Serves (fault_in result) (parts (S.remaining self.old.stream) self.old.unfed self.old.lent.conn (H.told self.old.handler) self.old.outbox (S.written self.old.stream) (S.failed self.old.stream)) (parts (S.remaining self.new.stream) self.new.unfed self.new.lent.conn (H.told self.new.handler) self.new.outbox (S.written self.new.stream) (S.failed self.new.stream)) }
         ensures answers { self.new.answers ≡ added (unsent self.old.lent.conn self.old.outbox) (unsent self.new.lent.conn self.new.outbox) self.old.answers }
@@ -208,7 +211,6 @@ impl<S: NonBlocking, H: Handler> Slot<S, H> {
         answer
     }
 
-    /// Nothing is to be read now.
     fn is_held(&self) -> bool
         ensures held { OnTrue result ((self.now.unfed ≢ []) ⊎ (self.now.answers.most ≤ self.now.answers.since)) }
         ensures none { OnFalse result (self.now.unfed ≡ []) }
@@ -220,11 +222,11 @@ impl<S: NonBlocking, H: Handler> Slot<S, H> {
         self.answers.are_many()
     }
 
-    /// Reads once, where all is fed, and the slot does not hold.
+    /// Reads once if all that was read is fed and the slot does not hold (`hold_at`). Does not feed what it reads.
     ///
     /// # Errors
     ///
-    /// `Read` where the stream failed.
+    /// [`SlotFault::Read`] if the stream failed.
     pub fn read(&mut self, inbox: &mut Inbox) -> Result<Brought, SlotFault>
         ensures serves { Serves (fault_in result) (parts (S.remaining self.old.stream) self.old.unfed self.old.lent.conn (H.told self.old.handler) self.old.outbox (S.written self.old.stream) (S.failed self.old.stream)) (parts (S.remaining self.new.stream) self.new.unfed self.new.lent.conn (H.told self.new.handler) self.new.outbox (S.written self.new.stream) (S.failed self.new.stream)) }
         ensures limit { self.old.answers.most ≤ self.old.answers.since → self.new ≡ self.old }
@@ -243,7 +245,6 @@ impl<S: NonBlocking, H: Handler> Slot<S, H> {
         as_brought(self.unfed.read(inbox, &mut self.stream))
     }
 
-    /// What was put out is written, and what is unfed is fed.
     fn begin(&mut self) -> Result<Next, SlotFault>
         ensures { Serves (fault_in result) (parts (S.remaining self.old.stream) self.old.unfed self.old.lent.conn (H.told self.old.handler) self.old.outbox (S.written self.old.stream) (S.failed self.old.stream)) (parts (S.remaining self.new.stream) self.new.unfed self.new.lent.conn (H.told self.new.handler) self.new.outbox (S.written self.new.stream) (S.failed self.new.stream)) }
     {
@@ -253,7 +254,7 @@ impl<S: NonBlocking, H: Handler> Slot<S, H> {
         }
     }
 
-    /// The input has ended: it may where the connection has.
+    /// The end of the input is a fault unless the connection has ended before.
     fn at_end(&self) -> Result<Brought, SlotFault>
         ensures fault { IsNoFeeds (fault_in result) }
         ensures told { IfErr result (λ e. e ≡ SlotFault.EndOfInput) }
@@ -264,7 +265,6 @@ impl<S: NonBlocking, H: Handler> Slot<S, H> {
         Err(SlotFault::EndOfInput)
     }
 
-    /// So many octets were read, which are fed.
     fn feed_those(&mut self, count: usize) -> Result<Brought, SlotFault>
         ensures { Serves (fault_in result) (parts (S.remaining self.old.stream) self.old.unfed self.old.lent.conn (H.told self.old.handler) self.old.outbox (S.written self.old.stream) (S.failed self.old.stream)) (parts (S.remaining self.new.stream) self.new.unfed self.new.lent.conn (H.told self.new.handler) self.new.outbox (S.written self.new.stream) (S.failed self.new.stream)) }
     {
@@ -275,7 +275,6 @@ impl<S: NonBlocking, H: Handler> Slot<S, H> {
         }
     }
 
-    /// Octets are read once, and fed.
     fn bring(&mut self, inbox: &mut Inbox) -> Result<Brought, SlotFault>
         ensures { Serves (fault_in result) (parts (S.remaining self.old.stream) self.old.unfed self.old.lent.conn (H.told self.old.handler) self.old.outbox (S.written self.old.stream) (S.failed self.old.stream)) (parts (S.remaining self.new.stream) self.new.unfed self.new.lent.conn (H.told self.new.handler) self.new.outbox (S.written self.new.stream) (S.failed self.new.stream)) }
     {
@@ -290,7 +289,6 @@ impl<S: NonBlocking, H: Handler> Slot<S, H> {
         }
     }
 
-    /// What is unfed is fed, and octets are read and fed, unless the handler would have written first.
     fn work(&mut self, inbox: &mut Inbox) -> Result<Brought, SlotFault>
         ensures { Serves (fault_in result) (parts (S.remaining self.old.stream) self.old.unfed self.old.lent.conn (H.told self.old.handler) self.old.outbox (S.written self.old.stream) (S.failed self.old.stream)) (parts (S.remaining self.new.stream) self.new.unfed self.new.lent.conn (H.told self.new.handler) self.new.outbox (S.written self.new.stream) (S.failed self.new.stream)) }
     {
@@ -301,7 +299,6 @@ impl<S: NonBlocking, H: Handler> Slot<S, H> {
         }
     }
 
-    /// All that was put out is written: what comes next.
     fn next(&self, more: bool) -> Served
         ensures { result ≡ Served.Ended → self.now.lent.conn.core.phase ≡ Phase.Closed }
     {
@@ -314,7 +311,6 @@ impl<S: NonBlocking, H: Handler> Slot<S, H> {
         Served::Waits
     }
 
-    /// What was put out is written; the handler would go on, or not.
     fn write_out(&mut self, more: bool) -> Result<Served, SlotFault>
         ensures serves { Serves (fault_in result) (parts (S.remaining self.old.stream) self.old.unfed self.old.lent.conn (H.told self.old.handler) self.old.outbox (S.written self.old.stream) (S.failed self.old.stream)) (parts (S.remaining self.new.stream) self.new.unfed self.new.lent.conn (H.told self.new.handler) self.new.outbox (S.written self.new.stream) (S.failed self.new.stream)) }
         ensures ended { result ≡ Ok Served.Ended → (self.new.lent.conn.core.phase ≡ Phase.Closed) × AllWent self.new.lent.conn × (self.new.outbox ≡ []) }
@@ -327,7 +323,6 @@ impl<S: NonBlocking, H: Handler> Slot<S, H> {
         }
     }
 
-    /// The handler goes on, and what was put out is written.
     fn finish(&mut self) -> Result<Served, SlotFault>
         ensures serves { Serves (fault_in result) (parts (S.remaining self.old.stream) self.old.unfed self.old.lent.conn (H.told self.old.handler) self.old.outbox (S.written self.old.stream) (S.failed self.old.stream)) (parts (S.remaining self.new.stream) self.new.unfed self.new.lent.conn (H.told self.new.handler) self.new.outbox (S.written self.new.stream) (S.failed self.new.stream)) }
         ensures ended { result ≡ Ok Served.Ended → (self.new.lent.conn.core.phase ≡ Phase.Closed) × AllWent self.new.lent.conn × (self.new.outbox ≡ []) }
@@ -358,13 +353,14 @@ impl<S: NonBlocking, H: Handler> Slot<S, H> {
         }
     }
 
-    /// One turn: what was put out is written, what is unfed is fed, octets are read once and fed, the handler goes on, and what that puts out is written, as
-    /// far as the stream takes it.
+    /// Serves the slot for one turn: writes what was put out, feeds what was read before, reads once and feeds that,
+    /// lets the handler go on, and writes what that put out, as far as the stream takes it.
     ///
     /// # Errors
     ///
-    /// Why the slot ends. What was put out was written then, the last close among it, as far as the stream takes it: `flush` goes on with the rest.
-    /// `Conn(NoMemory)` has lost nothing: the same call goes on.
+    /// The fault by which the slot ends. What was put out, the close of the connection included, was then written as
+    /// far as the stream takes it; `flush` goes on with the rest. `Conn(NoMemory)` has lost nothing: the same call
+    /// goes on.
     pub fn serve(&mut self, inbox: &mut Inbox) -> Result<Served, SlotFault>
         ensures serves { Serves (fault_in result) (parts (S.remaining self.old.stream) self.old.unfed self.old.lent.conn (H.told self.old.handler) self.old.outbox (S.written self.old.stream) (S.failed self.old.stream)) (parts (S.remaining self.new.stream) self.new.unfed self.new.lent.conn (H.told self.new.handler) self.new.outbox (S.written self.new.stream) (S.failed self.new.stream)) }
         ensures ended { result ≡ Ok Served.Ended → (self.new.lent.conn.core.phase ≡ Phase.Closed) × AllWent self.new.lent.conn × (self.new.outbox ≡ []) }
@@ -375,7 +371,6 @@ impl<S: NonBlocking, H: Handler> Slot<S, H> {
         }
     }
 
-    /// Behind the fault what was put out is written.
     fn last_words(&mut self, fault: SlotFault) -> SlotFault
         ensures same { result ≡ fault }
         ensures sent { Sent self.old.lent.conn self.new.lent.conn self.old.outbox self.new.outbox (S.written self.old.stream) (S.written self.new.stream) }
@@ -407,7 +402,7 @@ impl<S: NonBlocking, H: Handler> Slot<S, H> {
         self.lent.close(None)
     }
 
-    /// Does an operation, as `Lent::perform`: the next turn writes what it put out.
+    /// Performs an operation, as [`Lent::perform`]: the next turn writes what it puts out.
     ///
     /// # Errors
     ///
@@ -421,7 +416,8 @@ impl<S: NonBlocking, H: Handler> Slot<S, H> {
         self.lent.perform(op)
     }
 
-    /// Takes it apart: the stream, the connection and the application's part.
+    /// Takes the slot apart into its stream, its connection and its handler; drops octets that were not fed or not
+    /// written.
     pub fn into_parts(self) -> (S, Conn, H)
         ensures stream { result.0 ≡ self.stream }
         ensures conn { result.1 ≡ self.lent.conn }
@@ -437,7 +433,7 @@ impl<S: NonBlocking, H: Handler> Slot<S, H> {
         (stream, conn, handler)
     }
 
-    /// Gives the room back, where all was fed.
+    /// Hands the room for reads back to the inbox; octets that are not fed stay.
     pub fn rest_room(&mut self, inbox: &mut Inbox)
         ensures { self.new ≡ self.old }
     {
@@ -445,12 +441,11 @@ impl<S: NonBlocking, H: Handler> Slot<S, H> {
     }
 }
 
-/// What a turn came to that brought this, behind which nothing is to be read, or something.
 fn after(served: Served, brought: Brought, is_held: bool) -> Served
     ensures { result ≡ Served.Ended → served ≡ Served.Ended }
 {
     match (served, brought) {
-        // The stream was not asked to its end, so it may not tell that there is more.
+        // The stream was not read to its end, so it may not report again that it is ready.
         (Served::Waits, Brought::Octets(_) | Brought::Later) => Served::Again,
         (Served::Waits, Brought::Held) if !is_held => Served::Again,
         (Served::Waits | Served::Again, Brought::NoRoom) => Served::NoRoom,

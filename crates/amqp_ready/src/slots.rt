@@ -16,27 +16,28 @@ use slab::Slab;
 use std::alloc::{AllocError, Global};
 use std::collections::VecDeque;
 
-/// Slots by key, and which of them are to be served. A key names one slot until what is left of that was taken out (`take_ended`), and may name another then.
+/// Slots by key, and a queue of those that are due, which are to be served. A key names one slot until `take_ended`
+/// has removed that slot, and may name another then.
 ///
 /// | call | cost, for n slots |
 /// |---|---|
-/// | `add` | O(1), and now and then a move of all to more room |
+/// | `add` | amortised O(1) |
 /// | `wake`, `get`, `take_ended`, `perform` and `serve` but for the operation and the turn | O(1) |
 /// | `close_all`, `tick` | O(n) |
 #[derive(Drop)]
 pub struct Slots<S, H> {
     alloc: Global,
     inbox: Inbox,
-    /// Where a slot that is added holds (`Slot::hold_at`).
+    /// At how many octets a slot that is added holds (`Slot::hold_at`).
     most: u64,
     seats: Slab<Seat<S, H>>,
-    /// The keys of those that are to be served. `add` makes room for all of them.
+    /// The keys of the slots that are due. `add` makes room for all slots.
     due: VecDeque<usize>,
-    /// The one that ended last, of those that were not taken out.
+    /// The slot that ended last, of those that were not taken out.
     ended: Option<usize>,
 }
 
-/// A stream, a connection and the application's part, handed back.
+/// A stream, a connection and a handler that are handed back.
 #[derive(Drop)]
 pub struct Returned<S, H> {
     pub stream: S,
@@ -44,17 +45,17 @@ pub struct Returned<S, H> {
     pub handler: H,
 }
 
-/// What serving those that were due came to.
+/// What one round over the slots that were due resulted in.
 #[derive(Clone, Copy, Debug, PartialEq, Eq)]
 pub struct Round {
     /// How many turns there were.
     pub turns: usize,
-    /// Memory was refused in one of them.
+    /// Whether memory was refused in one of the turns.
     pub is_short: bool,
 }
 
 impl<S: NonBlocking, H: Handler> Slots<S, H> {
-    /// None.
+    /// Returns an empty table.
     pub fn new(alloc: Global) -> Slots<S, H>
         ensures { result.seats.slots ≡ [] }
     {
@@ -68,40 +69,40 @@ impl<S: NonBlocking, H: Handler> Slots<S, H> {
         }
     }
 
-    /// Slots that are added from here on hold at so many octets (`Slot::hold_at`).
+    /// Sets at how many octets each slot that is added later holds, as [`Slot::hold_at`].
     pub fn hold_at(&mut self, octets: u64)
         ensures { self.new ≡ record self.old { most = octets } }
     {
         self.most = octets;
     }
 
-    /// How many there are, with those that ended and were not taken out.
+    /// Returns the number of slots, including those that have ended and were not taken out.
     pub fn len(&self) -> usize
         ensures { result ≡ slab_len self.now.seats }
     {
         self.seats.len()
     }
 
-    /// There are none.
+    /// Returns whether there is no slot, not even one that has ended and was not taken out.
     pub fn is_empty(&self) -> bool
         ensures { result ≡ (slab_len self.now.seats == 0) }
     {
         self.len() == 0
     }
 
-    /// The key that `add` gives next.
+    /// Returns the key that the next `add` returns.
     pub fn next_key(&self) -> usize
         ensures { result ≡ self.now.seats.vacant_key }
     {
         self.seats.vacant_key()
     }
 
-    /// A slot is to be served.
+    /// Returns whether a slot is due.
     pub fn is_any_due(&self) -> bool {
         !self.due.is_empty()
     }
 
-    /// The slot under the key, to be read; also one that has ended and was not taken out.
+    /// Returns the slot under `key`, for reading; also one that has ended and was not taken out.
     pub fn get(&self, key: usize) -> Option<&Slot<S, H>>
         ensures { option_copied result ≡ option_map (λ p. p.0) (held self.now.seats key) }
     {
@@ -111,8 +112,8 @@ impl<S: NonBlocking, H: Handler> Slots<S, H> {
         }
     }
 
-    /// The application's part of the slot under the key, between its turns; also of one that has ended and was not taken out. `wake` makes a turn, if it is to
-    /// go on.
+    /// Returns the handler of the slot under `key`, between its turns; also of one that has ended and was not taken
+    /// out. Call `wake` if the handler is to go on.
     pub fn handler_mut(&mut self, key: usize) -> Option<&mut H> {
         match self.seats.get_mut(key) {
             Some(seat) => Some(seat.slot.handler_mut()),
@@ -120,7 +121,7 @@ impl<S: NonBlocking, H: Handler> Slots<S, H> {
         }
     }
 
-    /// The stream of the slot under the key, for what reads and writes nothing.
+    /// Returns the stream of the slot under `key`; the caller must not read or write it.
     pub(crate) fn stream_mut(&mut self, key: usize) -> Option<&mut S> {
         match self.seats.get_mut(key) {
             Some(seat) => Some(seat.slot.stream_mut()),
@@ -128,12 +129,12 @@ impl<S: NonBlocking, H: Handler> Slots<S, H> {
         }
     }
 
-    /// Each key is below this number.
+    /// Returns a bound of the keys: each is below this number.
     pub fn capacity(&self) -> usize {
         self.seats.capacity()
     }
 
-    /// How far the slot under the key is.
+    /// Returns the stage of the slot under `key`.
     pub fn stage(&self, key: usize) -> Option<Stage>
         ensures { result ≡ option_map (λ p. p.1) (held self.now.seats key) }
     {
@@ -143,7 +144,7 @@ impl<S: NonBlocking, H: Handler> Slots<S, H> {
         }
     }
 
-    /// Room for one more, and for all of them among those that are to be served.
+    /// The queue needs room for all slots, so that `wake` never fails.
     fn make_room(&mut self) -> Result<(), AllocError>
         ensures most { self.new.most ≡ self.old.most }
         ensures room { OnOk result (HasRoomFor self.new.seats 1) }
@@ -154,11 +155,11 @@ impl<S: NonBlocking, H: Handler> Slots<S, H> {
         self.due.reserve(self.seats.len().saturating_add(1))
     }
 
-    /// A slot more, which is to be served.
+    /// Adds a slot, which is due at once, and returns its key.
     ///
     /// # Errors
     ///
-    /// Where memory is refused, all is handed back.
+    /// [`Returned`] if memory is refused: it hands back the stream, the connection and the handler.
     pub fn add(&mut self, stream: S, conn: Conn, handler: H) -> Result<usize, Returned<S, H>>
         ensures key { IfOk result (λ key. key ≡ self.old.seats.vacant_key) }
         ensures vacant { IfOk result (λ key. held self.old.seats key ≡ None) }
@@ -195,7 +196,7 @@ impl<S: NonBlocking, H: Handler> Slots<S, H> {
         key
     }
 
-    /// The slot under the key, if one is there that goes on, is to be served.
+    /// Makes the slot under `key` due, if there is one that goes on.
     pub fn wake(&mut self, key: usize)
         ensures stay { AllStay self.old.seats self.new.seats }
         ensures most { self.new.most ≡ self.old.most }
@@ -216,7 +217,7 @@ impl<S: NonBlocking, H: Handler> Slots<S, H> {
         }
     }
 
-    /// One turn of the slot under the key, with one read of at most 262144 octets.
+    /// Serves the slot under `key` for one turn, with one read of at most 262144 octets.
     pub fn serve(&mut self, key: usize) -> Turned
         ensures turns { TurnsAt S.remaining S.written S.failed H.told (held self.old.seats key) (held self.new.seats key) }
         ensures over { result ≡ Turned.Over → IsOverAt (held self.new.seats key) }
@@ -244,7 +245,7 @@ impl<S: NonBlocking, H: Handler> Slots<S, H> {
         }
     }
 
-    /// The slot under the key has ended: it is to be taken out.
+    /// A slot that has ended waits on a chain for `take_ended`.
     fn put_aside(&mut self, key: usize)
         ensures stay { AllStay self.old.seats self.new.seats }
         ensures most { self.new.most ≡ self.old.most }
@@ -255,7 +256,6 @@ impl<S: NonBlocking, H: Handler> Slots<S, H> {
         }
     }
 
-    /// The slot under the key stands no more among those that are to be served.
     fn leave_queue(&mut self, key: usize)
         ensures stay { AllStay self.old.seats self.new.seats }
         ensures most { self.new.most ≡ self.old.most }
@@ -265,7 +265,7 @@ impl<S: NonBlocking, H: Handler> Slots<S, H> {
         }
     }
 
-    /// Serves the slot that was first to be served: its key, and what that came to.
+    /// Serves the slot that became due first, and returns its key and the result. Returns `None` if no slot is due.
     pub fn serve_next(&mut self) -> Option<(usize, Turned)>
         ensures turns { IfSome result (λ r. TurnsAt S.remaining S.written S.failed H.told (held self.old.seats r.0) (held self.new.seats r.0)) }
         ensures others { IfSome result (λ r. OthersStay self.old.seats self.new.seats r.0) }
@@ -281,7 +281,7 @@ impl<S: NonBlocking, H: Handler> Slots<S, H> {
         }
     }
 
-    /// Serves each slot once that is to be served now.
+    /// Serves each slot that is due now once. A slot that becomes due meanwhile is served in the next round.
     pub fn serve_due(&mut self) -> Round {
         let mut round = Round {
             turns: 0,
@@ -296,7 +296,8 @@ impl<S: NonBlocking, H: Handler> Slots<S, H> {
         round
     }
 
-    /// What is left of a slot that has ended, which is taken out: its key may name another from here on.
+    /// Removes a slot that has ended, and returns what is left of it; `None` if there is none. A later slot may have
+    /// the same key.
     pub fn take_ended(&mut self) -> Option<Ended<S, H>>
         ensures left { IfSome result (λ e. IsLeft (held self.old.seats e.key) e.stream e.conn e.handler e.fault) }
         ensures gone { IfSome result (λ e. held self.new.seats e.key ≡ None) }
@@ -327,7 +328,6 @@ impl<S: NonBlocking, H: Handler> Slots<S, H> {
         }
     }
 
-    /// Why the slot under the key has ended, if it has, and which one ended before it.
     fn ending(&self, key: usize) -> Option<(Option<SlotFault>, Option<usize>)>
         ensures { IfSome result (λ r. option_map (λ p. p.1) (held self.now.seats key) ≡ Some (Stage.Over r.0)) }
     {
@@ -337,7 +337,8 @@ impl<S: NonBlocking, H: Handler> Slots<S, H> {
         }
     }
 
-    /// The connection under the key is closed, as `Conn::close` without an error; where that is refused nothing is done.
+    /// Closes the connection under `key`, as `Conn::close` without an error; does nothing if that is refused. The
+    /// slot is due then.
     pub fn close(&mut self, key: usize)
         ensures lent { LentAt S.remaining S.written S.failed H.told (held self.old.seats key) (held self.new.seats key) }
         ensures others { OthersStay self.old.seats self.new.seats key }
@@ -357,8 +358,11 @@ impl<S: NonBlocking, H: Handler> Slots<S, H> {
         }
     }
 
-    /// Does an operation on the connection under the key, as `Lent::perform`, for a program that has a reason of its own: none where no slot is there. Where it
-    /// was done the slot is to be served, which writes what it put out; one that is refused wakes nothing.
+    /// Performs an operation on the connection under `key`, as [`Lent::perform`](crate::Lent::perform), for a program
+    /// that acts of its own accord. Returns `None` if there is no such slot.
+    ///
+    /// If the operation succeeds the slot is due, so that its next turn writes what was put out. A refused operation
+    /// wakes nothing.
     pub fn perform(&mut self, key: usize, op: Op) -> Option<Result<(), Refusal>>
         ensures performs { PerformsAt op (held self.old.seats key) result (held self.new.seats key) }
         ensures lent { LentAt S.remaining S.written S.failed H.told (held self.old.seats key) (held self.new.seats key) }
@@ -387,17 +391,21 @@ impl<S: NonBlocking, H: Handler> Slots<S, H> {
         }
     }
 
-    /// Each connection that is open is closed. A slot ends once its peer has closed, too.
+    /// Closes each connection that is open. A slot ends once its peer has closed, too.
     pub fn close_all(&mut self) {
         for key in 0..self.seats.capacity() {
             self.close(key);
         }
     }
 
-    /// The clock is looked at (`tick_one`) for all slots, in O(n) for n of them: when it is to be looked at next, behind this moment; none where no slot goes on.
+    /// Checks the time limits of all slots (`tick_one`), and returns the moment of the next check, which is later
+    /// than `now`; `None` if no slot goes on.
     ///
-    /// What happens to a slot counts from the look that finds it: a frame that went out just behind a look makes the next beat that much later. So a program
-    /// looks sooner where slots were added or served, at the latest after a quarter of the shortest of these times.
+    /// What happens to a slot counts from the check that notices it: a frame that went out just after a check delays
+    /// the next empty frame by as much. So a program checks sooner if slots were added or served, at the latest after
+    /// a quarter of the shortest limit.
+    ///
+    /// O(n) for n slots.
     pub fn tick(&mut self, limits: Limits, now: u64) -> Option<u64> {
         let mut next = None;
         for key in 0..self.seats.capacity() {
@@ -409,7 +417,6 @@ impl<S: NonBlocking, H: Handler> Slots<S, H> {
         next
     }
 
-    /// When the clock asks something of the slot under the key next, if nothing happens before.
     fn deadline(&self, key: usize, limits: Limits) -> Option<u64> {
         match self.seats.get(key) {
             Some(seat) => seat.deadline(limits),
@@ -417,8 +424,11 @@ impl<S: NonBlocking, H: Handler> Slots<S, H> {
         }
     }
 
-    /// The clock is looked at for the slot under the key, in milliseconds from whatever moment: its connection beats where its peer would take us for gone
-    /// (part 2, 2.4.5), and where it has taken too long it is closed, and leaves by `SlotFault::TimedOut`; one that leaves already has ended then.
+    /// Checks the time limits of the slot under `key`. `now` is in milliseconds from a moment of the program's
+    /// choice.
+    ///
+    /// A connection whose peer would otherwise take it for gone sends an empty frame (part 2, 2.4.5). One that has
+    /// taken too long is closed, and leaves by [`SlotFault::TimedOut`]; one that leaves already ends.
     pub fn tick_one(&mut self, key: usize, limits: Limits, now: u64)
         ensures ticks { TicksAt S.remaining S.written S.failed H.told (held self.old.seats key) (held self.new.seats key) }
         ensures others { OthersStay self.old.seats self.new.seats key }
@@ -444,7 +454,7 @@ impl<S: NonBlocking, H: Handler> Slots<S, H> {
         }
     }
 
-    /// What the clock asks of the slot under the key is done: whether that ended it now.
+    /// Does what the time limits ask of the slot under `key`; returns whether that has ended it.
     fn act(&mut self, key: usize, due: Due) -> bool
         ensures ticks { TicksAt S.remaining S.written S.failed H.told (held self.old.seats key) (held self.new.seats key) }
         ensures others { OthersStay self.old.seats self.new.seats key }

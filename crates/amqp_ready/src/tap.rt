@@ -1,8 +1,8 @@
-//! What went over a stream, recorded for who asks for it later.
+//! Records what goes over a stream.
 use std::alloc::{AllocError, Global};
 use std::collections::VecDeque;
 
-/// Which way octets went over a stream.
+/// The direction in which octets went over a stream.
 #[derive(Clone, Copy, Debug, PartialEq, Eq)]
 pub enum Way {
     /// They were read.
@@ -11,16 +11,16 @@ pub enum Way {
     Out,
 }
 
-/// What was recorded of a stream.
+/// One record of what went over a stream.
 #[derive(Drop)]
 pub enum Recorded {
-    /// These octets went over it, in one call.
+    /// One call moved these octets.
     Octets(Way, Vec<u8>),
-    /// What went over it behind that was not recorded, for want of memory, nor is what goes over it from here on.
+    /// Memory was refused: from here on nothing is recorded.
     Cut,
 }
 
-/// A record of what went over a stream, of which the oldest is taken first.
+/// A record of what went over a stream; the oldest part is taken first.
 #[derive(Drop)]
 pub(crate) struct Tap {
     alloc: Global,
@@ -32,13 +32,12 @@ pub(crate) struct Tap {
 #[derive(Clone, Copy, PartialEq, Eq)]
 enum End {
     Open,
-    /// Memory was refused, which is not told yet.
+    /// Memory was refused; `take` has not reported it yet.
     Cut,
     Told,
 }
 
 impl Tap {
-    /// Nothing went over it.
     pub(crate) fn new(alloc: Global) -> Tap {
         Tap {
             alloc,
@@ -47,7 +46,7 @@ impl Tap {
         }
     }
 
-    /// So many octets of these, one behind the other, went this way. Where memory is refused the record ends.
+    /// Records the first `count` octets of `first` followed by `second`. If memory is refused the record ends.
     pub(crate) fn note(&mut self, way: Way, first: &[u8], second: &[u8], count: usize) {
         if count != 0 && self.end == End::Open && self.keep(way, first, second, count).is_err() {
             self.end = End::Cut;
@@ -71,7 +70,7 @@ impl Tap {
         }
     }
 
-    /// The oldest that was not taken.
+    /// Removes and returns the oldest part that was not taken.
     pub(crate) fn take(&mut self) -> Option<Recorded> {
         if let Some(recorded) = self.recorded.pop_front() {
             return Some(recorded);

@@ -1,4 +1,4 @@
-//! How long a slot may take, on a clock that the program hands in.
+//! Time limits of slots, on a clock that the program hands in.
 use amqp_conn::{Conn, Phase};
 use std::time::Duration;
 
@@ -7,37 +7,38 @@ use std::time::Duration;
 pub struct Limits {
     /// Until a connection that was added is open.
     pub open: u64,
-    /// Without an octet of the peer's while a connection is open; twice what it was told (`Config::idle_time_out`) is fair.
+    /// Without an octet from the peer while a connection is open. Twice the idle time-out that the peer was sent
+    /// (`Config::idle_time_out`) is a fair value.
     pub silence: u64,
     /// From our close, or from a fault, until a slot has ended.
     pub close: u64,
 }
 
-/// As these limits, and the moments of a clock, are told.
+/// Returns `span` in milliseconds, the unit of [`Limits`] and of the clock; at most `u64::MAX`.
 pub fn milliseconds(span: Duration) -> u64 {
     u64::try_from(span.as_millis()).unwrap_or(u64::MAX)
 }
 
-/// What a slot awaits.
+/// What a slot waits for.
 #[derive(Clone, Copy, PartialEq, Eq)]
 pub(crate) enum Span {
     Open,
-    /// Nothing: it runs.
+    /// Nothing: it is open.
     Nothing,
     End,
 }
 
-/// What the clock asks of a slot.
+/// What the time limits ask of a slot.
 #[derive(Clone, Copy, PartialEq, Eq)]
 pub(crate) enum Due {
     Nothing,
-    /// An empty frame, so that the peer does not take us for gone (part 2, 2.4.5).
+    /// An empty frame, so that the peer does not take the connection for gone (part 2, 2.4.5).
     Beat,
     /// It has taken too long.
     End,
 }
 
-/// What a slot shows when the clock is looked at.
+/// What a slot shows at a check of the time limits.
 #[derive(Clone, Copy)]
 pub(crate) struct Seen {
     pub span: Span,
@@ -47,7 +48,7 @@ pub(crate) struct Seen {
     pub put_out: u64,
 }
 
-/// When a slot was seen to do something last.
+/// When a slot was last seen to do something.
 #[derive(Clone, Copy)]
 pub(crate) struct Times {
     seen: Seen,
@@ -56,7 +57,7 @@ pub(crate) struct Times {
     sent: u64,
 }
 
-/// What the connection awaits.
+/// Returns what the connection waits for.
 pub(crate) fn span_of(conn: &Conn) -> Span {
     match conn.phase() {
         Phase::AwaitHeader | Phase::AwaitOpen => Span::Open,
@@ -65,7 +66,7 @@ pub(crate) fn span_of(conn: &Conn) -> Span {
     }
 }
 
-/// After how long without a frame of ours the peer closes, in milliseconds, where its open told; 0 is as if it had told none (part 2, 2.7.1).
+/// The peer's idle time-out in milliseconds, if its open has one; 0 is the same as none (part 2, 2.7.1).
 fn peer_patience(conn: &Conn) -> Option<u32> {
     match conn.peer()?.idle_time_out {
         Some(0) => None,
@@ -73,7 +74,6 @@ fn peer_patience(conn: &Conn) -> Option<u32> {
     }
 }
 
-/// The moment at which something was seen that counts so.
 fn moment(before: u64, count_before: u64, count: u64, now: u64) -> u64 {
     if count == count_before {
         return before;
@@ -82,7 +82,7 @@ fn moment(before: u64, count_before: u64, count: u64, now: u64) -> u64 {
 }
 
 impl Times {
-    /// Seen for the first time.
+    /// Returns the moments of a slot that is seen for the first time.
     pub(crate) fn new(seen: Seen, now: u64) -> Times {
         Times {
             seen,
@@ -92,7 +92,7 @@ impl Times {
         }
     }
 
-    /// Seen again.
+    /// Returns the moments of a slot that is seen again.
     pub(crate) fn next(self, seen: Seen, now: u64) -> Times {
         let since = if seen.span == self.seen.span {
             self.since
@@ -107,7 +107,7 @@ impl Times {
         }
     }
 
-    /// What is asked of it now.
+    /// Returns what the time limits ask for at `now`.
     pub(crate) fn due(self, conn: &Conn, limits: Limits, now: u64) -> Due {
         let waited = now.saturating_sub(self.since);
         match self.seen.span {
@@ -117,7 +117,7 @@ impl Times {
         }
     }
 
-    /// When something is asked of it next, if nothing is seen before.
+    /// Returns the moment at which the time limits ask for something next, if nothing is seen before.
     pub(crate) fn deadline(self, conn: &Conn, limits: Limits) -> u64 {
         match self.seen.span {
             Span::Open => self.since.saturating_add(limits.open),
@@ -145,7 +145,7 @@ impl Times {
     }
 }
 
-/// The sooner of two moments, where there are two.
+/// Returns the earlier of two moments, if there are two.
 pub(crate) fn sooner(one: Option<u64>, other: u64) -> Option<u64> {
     match one {
         Some(one) => Some(one.min(other)),
