@@ -1,4 +1,4 @@
--- How a connection grows: entries and units come behind those that were there, and none leaves it.
+-- How a connection grows: entries and units are appended, and none is removed.
 use Rattle.std.specs.Prelude.{ℕ, ◌≡◌, ◌+◌, ◌++◌, List, length}
 use Rattle.amqp_journal.specs.Units.{units}
 use Rattle.amqp_conn.specs.Connection.{Core}

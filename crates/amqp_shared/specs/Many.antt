@@ -8,7 +8,8 @@ use Rattle.amqp_shared.specs.Passes.{Tally, Answer, after}
 use Rattle.amqp_shared.specs.Session.{Makes, IsRefused}
 use Rattle.amqp_shared.specs.Waking.{Held, IsTold, brought_by_op}
 
--- whatever an operation and its answer do to what is seen of it: each that was done has its answer, and the one that was refused its refusal
+-- Does: what an operation and its answer do to a state. Each operation that was done has its answer, and the one that
+-- was refused its refusal.
 module _ {S : Type 0} (Does : S → Op → Answer → S → Type 0) where
   abbrev pub CallsAll : S → List Op → List (Receipt × Given) → Option Refusal → S → Type 0
   CallsAll old [] answers refused new = (answers ≡ []) × (refused ≡ None) × (new ≡ old)
@@ -16,11 +17,12 @@ module _ {S : Type 0} (Does : S → Op → Answer → S → Type 0) where
       ((answers ≡ []) × (e : Refusal) × (refused ≡ Some e) × Does old o (Err e) new)
       ⊎ ((r : Receipt × Given) × (rest : List (Receipt × Given)) × (answers ≡ r ∷ rest) × (between : S) × Does old o (Ok r) between × CallsAll between os rest refused new)
 
--- what lies under the lock: the operation was done, and who awaits what it brings is told; or it was refused, and nothing has changed
+-- the data under the lock: the operation was done, and the threads that wait for what it brings are woken; or it was
+-- refused, and nothing has changed
 abbrev pub Tells : Held → Op → Answer → Held → Type 0
 Tells old o (Ok r) new = Makes old.conn o r.1 new.conn × IsTold (brought_by_op o) old new
 Tells old o (Err e) new = IsRefused old.conn o e × (new ≡ old)
 
--- the pass notes it
+-- the pass records it
 abbrev pub Notes : Tally → Op → Answer → Tally → Type 0
 Notes old o a new = new ≡ after o a old

@@ -15,8 +15,8 @@ use Rattle.amqp_shared.specs.declared.refused.CloseReason.TheVariants.{PassesMis
 abbrev pub Answer : Type 0
 Answer = Result (Receipt × Given) Refusal
 
--- What a pass says: its parts, the steps that were made by it, and what its calls have asked and were answered, the newest first. A step that octets
--- make is counted, and nothing was asked by it.
+-- What a pass records: its parts, the steps that were made by it, and its calls with their answers, the newest first. A
+-- step that octets make is counted, but is no call.
 pub record Tally : Type 0 where
   pub parts : ℕ
   pub made : ℕ
@@ -25,7 +25,7 @@ pub record Tally : Type 0 where
 abbrev pub raised : Tally → Tally
 raised t = record t { made = t.made + 1 }
 
--- a call was answered so: one step more where it was done
+-- the pass after a call with this answer: one step more if the operation was done
 abbrev pub after : Op → Answer → Tally → Tally
 after o (Ok r) t = record t { made = t.made + 1; asked = (o, Ok r) ∷ t.asked }
 after o (Err e) t = record t { asked = (o, Err e) ∷ t.asked }
@@ -41,12 +41,13 @@ abbrev pub steps_fed : Result Fed ConnFault → ℕ
 steps_fed (Ok fed) = cond fed.stepped 1 0
 steps_fed (Err e) = 0
 
--- one more exactly where the feed made a step
+-- one step more exactly if the feed made one
 abbrev pub CountsStep : Result Fed ConnFault → Tally → Tally → Type 0
 CountsStep result old new = new ≡ record old { made = old.made + steps_fed result }
 
--- Of passes with these parts, which made so many steps of a journal of that length: some are missing only where their steps are not the journal's, and
--- none where all parts are there; both numbers are told. Want of memory is told only where none are found missing.
+-- Why passes with these parts and this many steps are refused for a journal of this length. Passes are missing only if
+-- their steps are not the journal's, and never if all parts are there; the reason contains both numbers. `NoMemory` is
+-- reported only if no passes are missing.
 abbrev pub IsCloseReason : ℕ → ℕ → ℕ → CloseReason → Type 0
 IsCloseReason parts made steps (PassesMissing told counted) = (told ≡ made) × (counted ≡ steps) × (made ≢ steps) × (parts ≢ 65536)
 IsCloseReason parts made steps NoMemory = parts ≢ 65536 → made ≡ steps
@@ -62,7 +63,7 @@ pub record Planted : Type 0 where
   -- how many units the ring has room for
   pub room : ℕ
 
--- the name that these members are of is the seed's
+-- the name with these members is the seed's
 pub record IsNamed (seed : Planted) (name parts : ℕ) (ring : Option Ring) : Type 0 where
   pub name_is : seed.name ≡ name
   pub parts_is : seed.parts ≡ parts

@@ -8,7 +8,7 @@ use Rattle.amqp_conn.specs.Connection.{Connection}
 use Rattle.amqp_shared.specs.declared.renewal.Renewal.{Renewal}
 use Rattle.amqp_shared.specs.declared.renewal.Renewal.TheVariants as renewal
 
--- so much credit is to be granted again, where so much of it is left
+-- credit is to be granted again when rest of it is left
 abbrev pub is_due : Renewal → ℕ → ℕ → Bool
 is_due renewal.Each credit rest = true
 is_due renewal.AtHalf credit rest = nat_le rest (credit / 2)

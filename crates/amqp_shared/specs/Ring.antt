@@ -1,4 +1,4 @@
--- Which ring an end is of.
+-- The ring that an end belongs to.
 use Rattle.std.specs.Prelude.{Option, Some}
 use denote.RawPtr.{Ptr}
 use Rattle.rtrb.specs.Shared.{Names}

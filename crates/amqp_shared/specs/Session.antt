@@ -1,4 +1,4 @@
--- What the calls on a lent session do.
+-- What the calls on a locked session do.
 use Rattle.std.specs.Prelude.{ℕ, ◌≡◌, ◌≢◌, ◌≤◌, ◌<◌, ◌+◌, Some, Result, Ok, Err, List, length, slice_get}
 use Rattle.amqp_rules.specs.declared.op.Op.{Op}
 use Rattle.amqp_rules.specs.declared.op.Op.TheVariants as op
@@ -18,8 +18,9 @@ use Rattle.amqp_shared.specs.Ring.{Ring}
 use Rattle.amqp_shared.specs.Units.{moved_of, unmoved}
 use Rattle.std.specs.Prelude.{Option}
 
--- What holds of a locked session at all times: the passes made the journal's steps; what was pushed is what left the connection; and units wait in
--- it only where the ring had no free slot when it was last looked at. The limit is the journal's.
+-- The invariant of the data under the lock: the passes have made the journal's steps; what was pushed is what left the
+-- connection; and units wait in the connection only if the ring had no free slot when it was last checked. The limit is
+-- the journal's.
 pub record IsHeld (c : Connection) (total : ℕ) (pushed : List frame.Unit) (free limit : ℕ) (ring own : Option Ring) (parts : ℕ) : Type 0 where
   pub counted : total ≡ length c.core.log.journal
   pub pushed_is : pushed ≡ moved_of c
@@ -35,13 +36,13 @@ pub record Makes (old : Connection) (o : Op) (gives : Given) (new : Connection) 
   pub unread : new.unread ≡ old.unread
   pub more : old.core.log.popped ≤ new.core.log.popped
 
--- the receipt stands for the operation at the journal's last entry, which gave what is told
+-- the receipt is for the operation at the journal's last entry, and the entry gave this
 pub record IsReceipt (l : Log) (o : Op) (gives : Given) (r : Receipt) : Type 0 where
   pub stands : Stands l o r.place r.link r.id
   pub last : r.place + 1 ≡ length l.journal
   pub gave : (e : Entry) × (slice_get l.journal r.place ≡ Some e) × (e.reply.given ≡ gives)
 
--- this refusal is due to the operation, or memory was refused where a reply is due
+-- this refusal is due to the operation, or a reply is due and memory ran out
 abbrev pub IsRefused : Connection → Op → Refusal → Type 0
 IsRefused c o e = IsRefusal refusal.NoMemory (due_in c.core.phase c.core.log o) e
 
@@ -49,7 +50,7 @@ IsRefused c o e = IsRefusal refusal.NoMemory (due_in c.core.phase c.core.log o) 
 abbrev pub IsDone : Op → Given → Connection → Type 0
 IsDone o gives new = (old : Connection) × Makes old o gives new
 
--- taking gives a delivery of that link
+-- a take returns a delivery of its link
 abbrev pub Fits : Op → Given → Type 0
 Fits (op.Take link) (given.Taken t) = t.link ≡ link
 Fits (op.Take link) given.Nothing = ⊥
@@ -65,7 +66,7 @@ Fits (op.Take link) (given.Parted k s) = ⊥
 Fits (op.Take link) (given.Resumed r) = ⊥
 Fits o gives = Unit {0}
 
--- what is told where a call does not wait on
+-- a call does not wait on such a refusal
 abbrev pub EndsWait : Refusal → Type 0
 EndsWait e = (e ≢ refusal.NoCredit) × (e ≢ refusal.NoWindow) × (e ≢ refusal.Nothing)
 
@@ -74,7 +75,7 @@ abbrev pub IsDueAtOnce : Result Reply Refusal → Type 0
 IsDueAtOnce (Ok reply) = Unit {0}
 IsDueAtOnce (Err e) = EndsWait e
 
--- what a call answers, and leaves
+-- the answer of a call, and the connection after it
 abbrev pub Calls : Connection → Op → Result (Receipt × Given) Refusal → Connection → Type 0
 Calls old o (Ok r) new = Makes old o r.1 new
 Calls old o (Err e) new = IsRefused old o e × (new ≡ old)

@@ -22,7 +22,7 @@ moved_of c = take c.core.log.popped (units_of c)
 abbrev pub backlog_of : Connection → List frame.Unit
 backlog_of c = drop c.core.log.popped (units_of c)
 
--- the later connection as if no unit had left it since the earlier one
+-- the new connection, as if no unit had left it since the old one
 abbrev pub unmoved : Connection → Connection → Connection
 unmoved old new = as_popped old.core.log.popped new
 

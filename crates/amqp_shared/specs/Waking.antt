@@ -1,5 +1,5 @@
--- What a step may make possible for those who wait, and who is told of it. A caller waits for credit or a window, for a delivery, or for what the peer
--- tells of a delivery; a writer waits for units.
+-- What a step may bring to the threads that wait, and which of them are woken. A caller waits for credit or a window,
+-- for a delivery, or for the peer's state of a delivery; a writer waits for units.
 use Rattle.std.specs.Prelude.{ℕ, ◌≡◌, ◌<◌, ◌-◌, ◌||◌, Bool, true, false, IsFalse, cond, nat_le, nat_lt, Option, Some, None, Result, Ok, Err, List, length, drop, slice_get}
 use Rattle.amqp_performatives.specs.declared.performative.Performative.{Performative}
 use Rattle.amqp_performatives.specs.declared.performative.Performative.TheVariants as says
@@ -26,23 +26,25 @@ use Rattle.amqp_shared.specs.declared.waiting.Change.{Change}
 use Rattle.amqp_shared.specs.declared.waiting.Change.TheVariants.{Nothing, Brings, Ends}
 use Rattle.amqp_shared.specs.declared.waiting.Waiters.{Waiters}
 
--- what lies under the lock: the connection, and who waits for what
+-- the data under the lock: the connection, and which threads wait for what
 pub record Held : Type 0 where
   pub conn : Connection
   pub waiters : Waiters
 
 -- # What a step may bring
 
--- Of our operations, a detach, for good or not (part 2, 2.6.6 and 2.6.4), and an end (part 2, 2.5.2) end a link or all of them: what is awaited there does not come any more. No
--- other one brings anything to who waits: credit, a window, a delivery and an outcome come from the peer.
+-- Of our operations, a detach, for good or not (part 2, 2.6.6 and 2.6.4), and an end (part 2, 2.5.2) end a link or all
+-- of them: what is awaited there does not come any more. No other operation brings anything: credit, a window, a
+-- delivery and an outcome come from the peer.
 abbrev pub brought_by_op : Op → Change
 brought_by_op (op.Detach link error) = Ends
 brought_by_op (op.Suspend link) = Ends
 brought_by_op (op.End error) = Ends
 brought_by_op _ = Nothing
 
--- Of what the peer says, a flow gives credit and windows (part 2, 2.6.7 and 2.5.6), and a disposition tells of deliveries (part 2, 2.7.6). A transfer brings
--- a delivery only where one becomes ready by it. All others begin or end what is waited on.
+-- Of the peer's frames, a flow brings credit and windows (part 2, 2.6.7 and 2.5.6), and a disposition brings states of
+-- deliveries (part 2, 2.7.6). A transfer brings a delivery only if one becomes ready by it. All others begin or end
+-- what threads wait on.
 abbrev pub brought_by_body : Performative → Change
 brought_by_body (says.Flow body) = Brings Room
 brought_by_body (says.Disposition body) = Brings Outcome
@@ -76,7 +78,7 @@ is_ended _ = false
 abbrev pub kept : Connection → List Entry
 kept c = drop c.core.log.forgotten c.core.log.journal
 
--- Octets bring what their step does. The peer's close and a fault end all; want of memory has changed nothing.
+-- Octets bring what their step brings. The peer's close and a fault end all; if memory ran out, nothing has changed.
 abbrev pub brought_by_feed : Connection → Result Fed ConnFault → Change
 brought_by_feed c (Ok fed) =
     cond fed.stepped (brought_in (slice_get (kept c) (length (kept c) - 1)) fed.given) (cond (is_ended c.core.phase) Ends Nothing)
@@ -92,19 +94,20 @@ brought c change = cond (is_full c) Ends change
 
 -- # What is awaited
 
--- where an operation finds nothing: learning awaits what the peer tells of a delivery, taking a delivery
+-- what an operation waits for if there is nothing yet: a learn for the peer's state of a delivery, a take for a
+-- delivery
 abbrev pub awaited_by : Op → Want
 awaited_by (op.Learn link) = Outcome
 awaited_by _ = Delivery
 
--- what a call waits for that is refused so; with any other refusal it does not wait
+-- what a call waits for after this refusal; after any other refusal it does not wait
 abbrev pub wanted : Op → Refusal → Option Want
 wanted o refusal.NoCredit = Some Room
 wanted o refusal.NoWindow = Some Room
 wanted o refusal.Nothing = Some (awaited_by o)
 wanted o e = None
 
--- a call is to wait for this: it is refused here for want of it
+-- a call has to wait for this: it is refused because this is missing
 pub record IsAwaited (c : Connection) (o : Op) (want : Want) : Type 0 where
   pub reason : Refusal
   pub refused : IsRefused c o reason
@@ -125,33 +128,34 @@ abbrev pub least_awaited : Option ℕ → ℕ → ℕ
 least_awaited None seen = seen
 least_awaited (Some least) seen = cond (nat_le least seen) least seen
 
--- units past this number are awaited too: the least number of all who wait stands for them
+-- units past this number are awaited too: the least number of all waiting threads is kept
 abbrev pub with_units : ℕ → Waiters → Waiters
 with_units seen w = record w { units = Some (least_awaited w.units seen) }
 
--- what a writer that has seen so many units is told of a connection: how many were put out, and whether it has ended; more than it has seen, or its end
+-- the news of a connection for a writer that has seen this many units: how many were put out, and whether the
+-- connection has ended; there are more than it has seen, or the connection has ended
 pub record IsNews (seen : ℕ) (c : Connection) (told : ℕ × Bool) : Type 0 where
   pub count : told.0 ≡ length (units c.core.log)
   pub ended : told.1 ≡ is_ended c.core.phase
   pub past : IsFalse told.1 → seen < told.0
 
--- # Who is told
+-- # Which threads are woken
 
--- there are more units than somebody awaits, or there will be none
+-- there are more units than some thread waits for, or there will be no more
 abbrev pub units_came : Connection → Option ℕ → Bool
 units_came c None = false
 units_came c (Some seen) = nat_lt seen (length (units c.core.log)) || is_ended c.core.phase
 
--- those who wait for units are told where there are some
+-- the threads that wait for units are woken if there are some
 abbrev pub told_of_units : Connection → Waiters → Waiters
 told_of_units c w = cond (units_came c w.units) (record w { units = None }) w
 
--- those who wait for what the change may bring are told, and no other
+-- the threads that wait for what the change may bring are woken, and no other
 abbrev pub told_of : Change → Waiters → Waiters
 told_of Nothing w = w
 told_of (Brings want) w = with_want want false w
 told_of Ends w = record w { room = false; delivery = false; outcome = false }
 
--- whoever awaits what this change brought is told, and nobody else: who was told awaits nothing any more
+-- the threads that wait for what this change brought are woken, and no other: they count as waiting no more
 abbrev pub IsTold : Change → Held → Held → Type 0
 IsTold change old new = new.waiters ≡ told_of (brought new.conn change) (told_of_units new.conn old.waiters)

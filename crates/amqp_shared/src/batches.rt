@@ -29,17 +29,18 @@ pub(crate) struct Judged {
     pub(crate) state: DeliveryState,
 }
 
-/// Deliveries whose ids follow one another, with one state: one disposition tells of all (part 2, 2.7.6).
+/// Deliveries with consecutive ids and the same state: one disposition covers them all (part 2, 2.7.6).
 #[derive(Drop)]
 pub(crate) struct Span {
     pub(crate) first: u32,
     pub(crate) last: u32,
-    /// Their receiver settles second (part 2, 2.8.3).
+    /// Whether the receiver settles second (part 2, 2.8.3).
     pub(crate) second: bool,
     pub(crate) state: DeliveryState,
 }
 
-/// Deliveries that are taken together: those that are not consumed yet, and those that were. There is room for one, and for so many more.
+/// Deliveries that are taken together: those that are not consumed yet, and those that were. It has room for `more + 1`
+/// deliveries.
 #[derive(Drop)]
 pub(crate) struct Batch {
     items: VecDeque<Taken>,
@@ -64,7 +65,6 @@ impl Model for Batch {
 }
 
 impl Batch {
-    /// Room for one and so many more, and none in it.
     pub(crate) fn new(alloc: Global, more: u32) -> Result<Batch, AllocError>
         ensures { IfOk result (λ b. b.more ≡ more) }
     {
@@ -76,14 +76,13 @@ impl Batch {
         })
     }
 
-    /// How many were taken and are not consumed.
+    /// Returns how many deliveries were taken and are not consumed yet.
     pub(crate) fn len(&self) -> usize
         ensures { result ≡ length self.now.items }
     {
         self.items.len()
     }
 
-    /// There is none in it.
     fn clear(&mut self)
         ensures { self.new ≡ record self.old { items = []; judged = [] } }
     {
@@ -91,7 +90,6 @@ impl Batch {
         self.judged.clear();
     }
 
-    /// There is room for one more.
     fn has_room(&self) -> bool
         ensures room { IsTrue result → length self.now.items + length self.now.judged ≤ self.now.more }
         ensures full { IsFalse result → self.now.more < length self.now.items + length self.now.judged }
@@ -99,7 +97,6 @@ impl Batch {
         self.items.len() + self.judged.len() <= self.more as usize
     }
 
-    /// One more that was taken.
     fn put(&mut self, item: Taken)
         requires { length self.old.items + length self.old.judged ≤ self.old.more }
         ensures { self.new ≡ record self.old { items = self.old.items ++ item ∷ [] } }
@@ -107,7 +104,7 @@ impl Batch {
         self.items.push_back_reserved(item);
     }
 
-    /// Has the work consume the first that is not consumed: whether there was one.
+    /// Has the work consume the next delivery. `None` if all are consumed.
     fn judge<W: Work>(&mut self, work: &mut W) -> Option<()>
         ensures some { IfSome result (λ u. (j : _) × (self.old.items ≡ j.item ∷ self.new.items) × (self.new.judged ≡ self.old.judged ++ j ∷ []) × (self.new.more ≡ self.old.more) × W.consumes work.old j.item j.state work.new) }
         ensures none { IfNone result ((self.old.items ≡ []) × (self.new ≡ self.old) × (work.new ≡ work.old)) }
@@ -118,7 +115,7 @@ impl Batch {
         Some(())
     }
 
-    /// Has the work consume all, in their order.
+    /// Has the work consume all deliveries, in order.
     pub(crate) fn judge_all<W: Work>(&mut self, work: &mut W)
         requires { self.old.judged ≡ [] }
         ensures consumed { ConsumesAll W.consumes work.old self.new.judged work.new }
@@ -128,7 +125,6 @@ impl Batch {
         while let Some(()) = self.judge(work) {}
     }
 
-    /// The first that was consumed.
     fn next_judged(&mut self) -> Option<Judged>
         ensures some { IfSome result (λ j. self.old ≡ record self.new { judged = j ∷ self.new.judged }) }
         ensures none { IfNone result ((self.old.judged ≡ []) × (self.new ≡ self.old)) }
@@ -137,7 +133,6 @@ impl Batch {
     }
 }
 
-/// The delivery that a take has told.
 fn delivery_of(told: Given) -> Taken
     requires { taken_in told ≢ None }
     ensures { told ≡ given.Taken result }
@@ -148,7 +143,6 @@ fn delivery_of(told: Given) -> Taken
     }
 }
 
-/// Another delivery of the link, if one is ready.
 fn take_one<N: Name>(
     shared: &Shared<N>,
     guard: &mut Guard<'_, N>,
@@ -164,7 +158,6 @@ fn take_one<N: Name>(
     }
 }
 
-/// What else is ready of the link, as far as there is room.
 fn take_more<N: Name>(
     shared: &Shared<N>,
     guard: &mut Guard<'_, N>,
@@ -184,7 +177,8 @@ fn take_more<N: Name>(
     }
 }
 
-/// The next deliveries of the link: it waits for one, and takes what else is ready, as far as there is room. What was in the batch before is let go.
+/// Waits for a delivery of the link, and takes what else is ready, as far as there is room. Drops what was in the batch
+/// before.
 pub(crate) fn take_batch<N: Name, R: Wait>(
     rt: &R,
     shared: &Shared<N>,
@@ -213,7 +207,6 @@ pub(crate) fn take_batch<N: Name, R: Wait>(
 }
 
 impl Span {
-    /// Of one delivery.
     fn of(one: Judged) -> Span
         ensures { result ≡ alone one }
     {
@@ -226,7 +219,7 @@ impl Span {
         }
     }
 
-    /// The delivery comes behind its last one (part 2, 2.8.10), and the same is told of it.
+    /// Ids are serial numbers, so the one after the last may wrap (part 2, 2.8.10).
     fn is_next(&self, one: &Judged) -> bool
         ensures { IsTrue result ↔ IsNext self.now one.now }
     {
@@ -236,7 +229,6 @@ impl Span {
             && one.state == self.state
     }
 
-    /// With this delivery behind the others.
     fn and(self, one: Judged) -> Span
         ensures { result ≡ longer self one }
     {
@@ -247,7 +239,6 @@ impl Span {
     }
 }
 
-/// An operation whose answer is not looked at.
 fn apply<N: Name>(
     shared: &Shared<N>,
     guard: &mut Guard<'_, N>,
@@ -268,8 +259,8 @@ fn apply<N: Name>(
     }
 }
 
-/// Tells the state of a span, and settles it unless the sender is to settle first (part 2, 2.7.3). One that is no longer held was settled by the peer
-/// meanwhile.
+/// Sends the state of a span, and settles it unless the sender is to settle first (part 2, 2.7.3). If nothing is held
+/// any more, the peer has settled it meanwhile.
 fn tell_span<N: Name>(
     shared: &Shared<N>,
     guard: &mut Guard<'_, N>,
@@ -298,8 +289,8 @@ fn tell_span<N: Name>(
     }
 }
 
-/// The span that is open behind this delivery. One that came settled is not told of; one that does not follow the open span begins another, and the open one is
-/// told.
+/// Returns the span that is open after this delivery. A delivery that came settled gets no state; one that does not
+/// continue the open span begins another, and the state of the open one is sent.
 fn go_to<N: Name>(
     shared: &Shared<N>,
     guard: &mut Guard<'_, N>,
@@ -331,7 +322,6 @@ fn go_to<N: Name>(
     }
 }
 
-/// Tells the states of all that were consumed, by one disposition for those that follow one another in one state.
 fn tell_all<N: Name>(
     shared: &Shared<N>,
     guard: &mut Guard<'_, N>,
@@ -355,7 +345,7 @@ fn tell_all<N: Name>(
     }
 }
 
-/// How many deliveries of the link may still begin; none where there is no such link.
+/// Returns how many deliveries of the link may still begin; 0 if there is no such link.
 fn credit_of<N: Name>(guard: &Guard<'_, N>, link: u32) -> u32
     ensures { result ≡ credit_on guard.now.conn link }
 {
@@ -365,7 +355,6 @@ fn credit_of<N: Name>(guard: &Guard<'_, N>, link: u32) -> u32
     }
 }
 
-/// Grants the link's credit again, where that is due.
 fn grant_if_due<N: Name>(
     shared: &Shared<N>,
     guard: &mut Guard<'_, N>,
@@ -390,7 +379,6 @@ fn grant_if_due<N: Name>(
     apply(shared, guard, pass, grant)
 }
 
-/// Tells the states of all that were consumed, and grants the credit again, where that is due.
 fn settle_all<N: Name>(
     shared: &Shared<N>,
     guard: &mut Guard<'_, N>,
@@ -410,7 +398,7 @@ fn settle_all<N: Name>(
     }
 }
 
-/// The same on the session that the lock lends.
+/// Sends the states of all consumed deliveries, and grants the credit if it is due, under one lock.
 pub(crate) fn settle_batch<N: Name, R: Wait>(
     rt: &R,
     shared: &Shared<N>,

@@ -1,4 +1,4 @@
-//! A shared connection is taken apart, and all that belongs to it comes together again.
+//! Taking a shared connection apart.
 ghost use Rattle.std.specs.Prelude.{◌≡◌, ◌≢◌, ◌<◌, ◌≤◌, ◌+◌, ◌++◌, ◌↔◌, [], length, vec_len, vec_capacity, IfOk, IfErr, IsTrue};
 ghost use Rattle.amqp_journal.specs.Units.{units};
 ghost use Rattle.amqp_shared.specs.Passes.{total_made, total_parts, IsCloseReason};
@@ -17,26 +17,29 @@ use amqp_journal::unit::Unit;
 /// A shared connection that was taken apart.
 #[derive(Drop)]
 pub struct Closed {
-    /// The connection; no unit waits in it any more.
+    /// The connection. No unit waits in it any more.
     pub conn: Conn,
     /// How many units the writer took.
     pub taken: u64,
-    /// The units that were put out and not taken, in their order.
+    /// The units that were put out and not taken, in order.
     pub left: Vec<Unit>,
 }
 
-/// Why a shared connection was not taken apart, with all that was handed in.
+/// A shared connection that was not taken apart: the reason, and all arguments of [`Shared::close`].
 #[derive(Drop)]
 pub struct NotClosed<N: Name> {
+    /// Why it was not taken apart.
     pub reason: CloseReason,
-    /// What lay under the lock.
+    /// The data under the lock.
     pub locked: Locked<N>,
+    /// The passes.
     pub passes: Vec<Pass<N>>,
+    /// The writer's end.
     pub writer: WriterEnd<N>,
 }
 
 impl<N: Name> NotClosed<N> {
-    /// All that was handed in, to go on with.
+    /// Returns the shared connection, the passes and the writer's end, to go on with them.
     pub fn into_parts(self) -> (Shared<N>, Vec<Pass<N>>, WriterEnd<N>)
         ensures { (result.1.items ≡ self.passes.items) × (result.2 ≡ self.writer) }
     {
@@ -44,7 +47,7 @@ impl<N: Name> NotClosed<N> {
         (Shared::new(locked), passes, writer)
     }
 
-    /// The same, before it is shared again.
+    /// `into_parts`, before the mutex exists: the contract can speak of the data under the lock here.
     fn all(self) -> (Locked<N>, Vec<Pass<N>>, WriterEnd<N>)
         ensures { (result.0 ≡ self.locked) × (result.1.items ≡ self.passes.items) × (result.2 ≡ self.writer) }
     {
@@ -59,14 +62,18 @@ impl<N: Name> NotClosed<N> {
 }
 
 impl<N: Name> Shared<N> {
-    /// Takes the connection out, with the passes and the writer's end that belong to it: the units that the writer took, and then those that are
-    /// left, are the connection's units, each once and in their order. It waits for nobody, since nobody else can hold what it is given. It costs a step
-    /// for each pass, and for each unit that is left.
+    /// Takes the connection apart, with its passes and its writer's end, and returns the connection and the units that
+    /// nobody took.
+    ///
+    /// The units that the writer took, and then those that are left, are the connection's units, each once and in
+    /// order. It does not block: it owns all its arguments, so no other thread holds the lock. O(p + u) for p passes
+    /// and u units that are left.
     ///
     /// # Errors
     ///
-    /// `PassesMissing` where the given passes have not made the journal's steps, and never where all 65536 parts are there; `NoMemory`.
-    /// All is handed back as it was.
+    /// [`CloseReason::PassesMissing`] if the passes have not made the journal's steps, and never if they have all 65536
+    /// parts; [`CloseReason::NoMemory`] if there is no memory for the units that are left. All arguments are returned
+    /// in [`NotClosed`].
     pub fn close(self, passes: Vec<Pass<N>>, writer: WriterEnd<N>) -> Result<Closed, NotClosed<N>>
         ensures units { IfOk result (λ c. writer ++ c.left.items ≡ units_of c.conn) }
         ensures none_waits { IfOk result (λ c. backlog_of c.conn ≡ []) }
@@ -81,7 +88,7 @@ impl<N: Name> Shared<N> {
     }
 }
 
-/// `Shared::close`, of what lay under the lock.
+/// `Shared::close`, of the data under the lock: the contract can speak of it here.
 fn close<N: Name>(
     locked: Locked<N>,
     passes: Vec<Pass<N>>,
@@ -118,14 +125,13 @@ fn close<N: Name>(
     }
 }
 
-/// Whether passes with these parts, which have made so many steps, lack some of the journal's.
+/// Passes with all parts have made all steps, so they are not counted against the journal.
 fn is_missing(parts: u128, made: u128, steps: u64) -> bool
     ensures { IsTrue result ↔ (parts ≢ 65536) × (made ≢ steps) }
 {
     parts != 65536 && made != steps as u128
 }
 
-/// The connection with what the ring and the backlog hold; there is room for all of it.
 fn take_apart<N: Name>(
     locked: Locked<N>,
     parts: u128,

@@ -14,7 +14,7 @@ use rtrb::Consumer;
 use std::alloc::Global;
 use std::sync::ledger::{Book, Share};
 
-/// The parts of all passes, and the steps that were made by them.
+/// Returns the parts of all passes, and the steps that were made by them.
 pub(crate) fn totals<N: Name>(passes: &[Pass<N>]) -> (u128, u128)
     ensures parts { result.0 ≡ total_parts passes.now }
     ensures made { result.1 ≡ total_made passes.now }
@@ -28,7 +28,6 @@ pub(crate) fn totals<N: Name>(passes: &[Pass<N>]) -> (u128, u128)
     (parts, made)
 }
 
-/// All shares in one.
 fn gather<N: Name>(passes: Vec<Pass<N>>) -> Option<Share<N>>
     ensures some { IfSome result (λ s. (s.parts ≡ total_parts passes.items) × (s.amount ≡ total_made passes.items)) }
     ensures none { IfNone result (total_parts passes.items ≡ 0) }
@@ -53,7 +52,7 @@ fn gather<N: Name>(passes: Vec<Pass<N>>) -> Option<Share<N>>
     Some(share)
 }
 
-/// All passes together made the steps that the book counts.
+/// Does nothing at run time: it shows that all passes together have made the steps that the book counts.
 pub(crate) fn all_made<N: Name>(book: &mut Book<N>, passes: Vec<Pass<N>>)
     requires { (N.parts ≡ 65536) × (total_parts passes.items ≡ 65536) }
     ensures { total_made passes.items ≡ book.old.total }
@@ -63,7 +62,6 @@ pub(crate) fn all_made<N: Name>(book: &mut Book<N>, passes: Vec<Pass<N>>)
     }
 }
 
-/// Takes out what the ring holds.
 pub(crate) fn empty_ring(
     consumer: &mut Consumer<Unit, Global, Numbered>,
     count: usize,
@@ -78,7 +76,6 @@ pub(crate) fn empty_ring(
     }
 }
 
-/// The first unit of those that wait.
 fn next_waiting(conn: &mut Conn) -> Unit
     requires { conn.old.core.log.popped < length (units conn.old.core.log) }
     ensures unit { backlog_of conn.old ≡ result ∷ backlog_of conn.new }
@@ -90,7 +87,6 @@ fn next_waiting(conn: &mut Conn) -> Unit
     }
 }
 
-/// Takes out what waits in the connection.
 pub(crate) fn empty_backlog(conn: &mut Conn, count: usize, left: &mut Vec<Unit>)
     requires { (conn.old.core.log.popped + count ≡ length (units conn.old.core.log)) × (vec_len left.old + count ≤ vec_capacity left.old) }
     ensures items { left.new.items ≡ left.old.items ++ backlog_of conn.old }

@@ -1,4 +1,4 @@
-//! Threads that take deliveries and settle them.
+//! Threads that take deliveries, consume them and settle them.
 ghost use Rattle.std.specs.Prelude.{◌≡◌, ℕ, ◌<◌, map, slice_index_or, vec_len, IfOk, IfSome};
 ghost use Rattle.amqp_shared.specs.Consuming.{ConsumesLeft, Finishes};
 ghost use Rattle.amqp_shared.specs.Batching.{RunsBatches, FinishesBatches};
@@ -19,8 +19,10 @@ use std::sync::Wait;
 use std::thread;
 use std::thread::Threads;
 
-/// What a consumer does with a delivery. A work may say by `consumes` which states it gives to which deliveries, and what it is then: `run_consumers`
-/// tells what it did with each in these words.
+/// What a consumer does with a delivery.
+///
+/// An implementation may specify by `consumes` which state it returns for which delivery, and how it changes. The
+/// contract of [`run_consumers`] describes what was done with each delivery in these terms.
 pub trait Work {
     ghost use Rattle.std.specs.Prelude.{⊤};
     ghost use Rattle.amqp_performatives.specs.declared.state.DeliveryState.{DeliveryState};
@@ -28,43 +30,49 @@ pub trait Work {
 
     ghost consumes: { Self → Taken → DeliveryState → Self → Type 0 } = { λ _ _ _ _. ⊤ };
 
-    /// Consumes a delivery, and says its state (part 3, 3.4). It is called without the lock.
+    /// Consumes a delivery, and returns its state (part 3, 3.4). Called without the lock.
     fn consume(&mut self, item: &Taken) -> DeliveryState
         ensures { Self.consumes self.old item.now result self.new };
 
-    /// What it consumed was told, and its credit granted where that was due, or what stops it was refused on the way. It is called without the lock, behind each batch:
-    /// whoever writes what he puts out by himself does it here. A work that says nothing does nothing.
+    /// Called without the lock after each batch: the states were sent and due credit was granted, or an operation was
+    /// refused on the way.
+    ///
+    /// A program whose consumers write their units themselves writes them here. The default does nothing.
     fn told(&mut self)
         ensures { self.new ≡ self.old }
     {}
 }
 
-/// What a consumer hands back.
+/// What a consumer returns when it has stopped.
 #[derive(Drop)]
 pub struct Consumed<N: Name, W> {
+    /// Its pass, with the steps that it made.
     pub pass: Pass<N>,
+    /// Its work.
     pub work: W,
-    /// How many deliveries it has taken and consumed.
+    /// How many deliveries it took and consumed.
     pub count: u64,
-    /// How many it has consumed that the link had left, once no more could be taken: these were no steps, and nobody is told of their states.
+    /// How many it then consumed that the link had left. They were no steps, and their states are not sent.
     pub left: u64,
-    /// What ended it.
+    /// The refusal that ended it.
     pub stopped: Refusal,
 }
 
-/// What consumers take deliveries by.
+/// The terms on which consumers take deliveries.
 #[derive(Clone, Copy, Debug, PartialEq, Eq)]
 pub struct Terms {
-    /// The link that they take them of.
+    /// The number of the link.
     pub link: u32,
-    /// How many deliveries in all may come, whenever credit is granted. Those that wait to be taken are not counted: where the peer is faster than its consumers, more
-    /// and more wait.
+    /// The link's credit after each grant, in deliveries.
+    ///
+    /// Deliveries that wait to be taken are not counted: if the peer is faster than its consumers, more and more
+    /// deliveries wait.
     pub credit: u32,
-    /// When it is granted.
+    /// When credit is granted again.
     pub renewal: Renewal,
 }
 
-/// What a consumer's thread starts with.
+/// The arguments of a consumer's thread.
 #[derive(Drop)]
 struct Job<N: Name, W> {
     pass: Pass<N>,
@@ -73,7 +81,7 @@ struct Job<N: Name, W> {
     batch: Batch,
 }
 
-/// What a consumer was until it was stopped.
+/// A consumer that was stopped, before it consumes what the link left.
 #[derive(Drop)]
 struct Stopped<N: Name, W> {
     pass: Pass<N>,
@@ -82,7 +90,6 @@ struct Stopped<N: Name, W> {
     stopped: Refusal,
 }
 
-/// Takes, consumes, disposes and grants, until an operation is refused.
 fn consume_all<N: Name, W: Work, R: Wait>(
     rt: &R,
     shared: &Shared<N>,
@@ -118,7 +125,7 @@ fn consume_all<N: Name, W: Work, R: Wait>(
             terms.credit,
             terms.renewal,
         ) {
-            // Some of it may have gone out before the refusal.
+            // Some of the states may have gone out before the refusal.
             work.told();
             return Stopped {
                 pass,
@@ -132,7 +139,7 @@ fn consume_all<N: Name, W: Work, R: Wait>(
     unreachable!()
 }
 
-/// The next delivery that the link left; none where there is none, or for want of memory.
+/// Returns the next delivery that the link left; `None` if there is none, or if memory runs out.
 fn next_left<N: Name, R: Wait>(rt: &R, shared: &Shared<N>, link: u32) -> Option<Taken>
     ensures { IfSome result (λ t. t.link ≡ link) }
 {
@@ -146,7 +153,7 @@ fn next_left<N: Name, R: Wait>(rt: &R, shared: &Shared<N>, link: u32) -> Option<
     }
 }
 
-/// Consumes what the link left, until nothing of it is there, or memory is refused: how many deliveries.
+/// Returns how many deliveries of those that the link left were consumed: all, unless memory runs out.
 fn consume_left<N: Name, W: Work, R: Wait>(
     rt: &R,
     shared: &Shared<N>,
@@ -168,7 +175,6 @@ fn consume_left<N: Name, W: Work, R: Wait>(
     count
 }
 
-/// What a consumer's thread does: all that can be taken, and then what the link left.
 fn consume<N: Name, W: Work, R: Wait>(rt: &R, shared: &Shared<N>, job: Job<N, W>) -> Consumed<N, W>
     ensures { FinishesBatches W.consumes job.terms job.batch.more (record { pass = job.pass; work = job.work }) result.count result.left result.stopped (record { pass = result.pass; work = result.work }) }
 {
@@ -190,19 +196,23 @@ fn consume<N: Name, W: Work, R: Wait>(rt: &R, shared: &Shared<N>, job: Job<N, W>
     }
 }
 
-/// One thread for each work: it takes deliveries of the link as they come, consumes each, disposes it unless it came settled, and grants the
-/// credit again (so many deliveries in all may come), until an operation is refused. It returns once each has stopped: not while the connection runs
-/// and refuses nothing. Each hands back its pass, which says what it asked and was answered: a step for each delivery that it took, one where it
-/// disposed it, and one where it granted. Once it is stopped it consumes what the link left, if it is gone or the connection has ended, and settles
-/// none of it. None of either is allowed, and gives an empty list.
+/// Runs one consumer thread for each work, until an operation of each was refused, and returns what they return.
 ///
-/// A consumer looks at the credit behind what it has consumed alone. Where deliveries use all of it that nobody takes, since they are aborted or resumed, whoever feeds
-/// grants it again, or the consumers wait for good; so they do where one is stopped by what it was to tell (`FrameTooBig`, want of memory), and the credit
-/// that it would have granted is wanting.
+/// A consumer takes deliveries of the link as they come. It consumes each, sends its state unless the delivery came
+/// settled, and sets the link's credit to `credit` again. Its pass records these calls and their answers: a step for
+/// each delivery that it took, one for each state that it sent, and one for each grant. A stopped consumer also
+/// consumes the deliveries that the link left, if the link is gone or the connection has ended, and sends no states of
+/// them. The call blocks as long as the connection runs and refuses nothing. With no passes and no works it returns an
+/// empty list.
+///
+/// A consumer grants credit only after a delivery that it consumed. If deliveries that nobody takes (because they are
+/// aborted or resumed) use up the credit, the thread that feeds must grant it again, or the consumers wait for ever.
+/// The same holds if a consumer is stopped by a state that it could not send (`FrameTooBig`, or memory runs out),
+/// because it does not grant the credit of that delivery.
 ///
 /// # Errors
 ///
-/// Want of memory: the passes and works are gone then, and what the consumers did stands.
+/// `AllocError` if memory runs out. The passes and works are lost then, and the steps that the consumers made remain.
 pub fn run_consumers<N: Name + Send + Sync, W: Work + Send + Drop, R: Threads + Wait + Sync>(
     rt: &R,
     shared: &Shared<N>,
@@ -218,12 +228,13 @@ pub fn run_consumers<N: Name + Send + Sync, W: Work + Send + Drop, R: Threads + 
     run_consumers_with(rt, shared, passes, works, link, credit, Renewal::Each)
 }
 
-/// The same, where the credit is granted again only as `renewal` has it: fewer flows, and a peer that counts from a credit of its own is never granted
-/// more than it knows of.
+/// Runs consumers as [`run_consumers`] does, but grants credit only as `renewal` says.
+///
+/// [`Renewal::AtHalf`] and [`Renewal::AtZero`] send fewer flows than [`Renewal::Each`].
 ///
 /// # Errors
 ///
-/// Those of `run_consumers`.
+/// `AllocError` as for [`run_consumers`].
 pub fn run_consumers_with<N: Name + Send + Sync, W: Work + Send + Drop, R: Threads + Wait + Sync>(
     rt: &R,
     shared: &Shared<N>,
@@ -245,13 +256,17 @@ pub fn run_consumers_with<N: Name + Send + Sync, W: Work + Send + Drop, R: Threa
     run_consumers_in_batches(rt, shared, passes, works, terms, 0)
 }
 
-/// The same in batches: a consumer takes with each delivery as many more as are ready, at most so many, under one lock; consumes them without it; and under one lock
-/// tells their states, those whose ids follow one another in one state by one disposition (part 2, 2.7.6), and grants the credit once, where that is due. So its pass has
-/// a step for each delivery that it took, one for each such disposition, and one for each grant. Room for a whole batch is made for each consumer before any begins.
+/// Runs consumers as [`run_consumers_with`] does, but in batches.
+///
+/// Under one lock, a consumer takes a delivery and up to `more` others that are ready. It consumes them without the
+/// lock. Under one lock, it sends their states, with one disposition for deliveries in the same state whose ids are
+/// consecutive (part 2, 2.7.6), and grants the credit once if it is due. Its pass has a step for each delivery that it
+/// took, one for each disposition, and one for each grant. Room for a whole batch is allocated for each consumer before
+/// any of them starts.
 ///
 /// # Errors
 ///
-/// Those of `run_consumers`.
+/// `AllocError` as for [`run_consumers`].
 pub fn run_consumers_in_batches<
     N: Name + Send + Sync,
     W: Work + Send + Drop,
@@ -274,7 +289,6 @@ pub fn run_consumers_in_batches<
     }
 }
 
-/// A job for each pass, with its work.
 fn jobs_of<N: Name, W: Drop>(
     passes: Vec<Pass<N>>,
     works: Vec<W>,

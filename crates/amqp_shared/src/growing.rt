@@ -12,7 +12,7 @@ use amqp_journal::unit::Unit;
 use rtrb::Producer;
 use std::alloc::Global;
 
-/// What always holds of a connection; it does nothing.
+/// Does nothing at run time: its contract states what always holds of a connection.
 pub(crate) fn recall(conn: &Conn)
     ensures within { PutWithin (length conn.now.core.log.journal) conn.now.core.log.put }
     ensures some { conn.now.core.log.popped ≤ length (units conn.now.core.log) }
@@ -41,7 +41,7 @@ pub(crate) fn push_units(conn: &mut Conn, producer: &mut Producer<Unit, Global, 
     }
 }
 
-/// How many entries the feed has appended.
+/// Returns how many entries the feed has appended.
 pub(crate) fn steps_of(answer: &Result<Fed, ConnFault>) -> u64
     ensures steps { result ≡ steps_fed answer.now }
     ensures most { result ≤ 1 }

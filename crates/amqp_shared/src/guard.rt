@@ -1,4 +1,4 @@
-//! What the lock lends: the session, and who is to be woken once it is given back.
+//! The guard that the lock returns: it lends the session, and wakes threads on its release.
 ghost use Rattle.std.specs.Prelude.{◌≡◌};
 
 use crate::locked::Locked;
@@ -10,14 +10,16 @@ use std::marker::Model;
 use std::sync::{Condvar, Mutex, MutexGuard, Wait};
 use std::time::Duration;
 
-/// So often it is looked whether a condition was told before a thread sleeps: some microseconds.
+/// How often a thread checks its condition before it sleeps: some microseconds.
 const LOOKS: u32 = 50;
 
-/// No thread sleeps longer, in seconds: it looks once more then, and finds what it had found.
+/// The longest sleep, in seconds. A thread that wakes without a notification tries again and goes back to sleep.
 const LONGEST: u64 = 86400;
 
-/// The session of a connection that threads share, lent until this is dropped. Contracts see it as what lies under the lock. Whoever a step has told is woken behind
-/// that, so that nobody wakes up to find it still lent.
+/// The session of a shared connection, lent until this guard is dropped.
+///
+/// Contracts see it as the data under the lock. Dropping it first releases the lock and then wakes threads, so that no
+/// thread wakes up only to find the lock taken.
 pub struct Guard<'a, N: Name> {
     pub(crate) locked: MutexGuard<'a, Locked<N>>,
     pub(crate) conditions: &'a Conditions,
@@ -48,7 +50,7 @@ impl<'a, N: Name> Drop for Guard<'a, N> {
     }
 }
 
-/// Gives the lock back, and then wakes those whom steps have told, and of those who sleep until a delivery comes the one whose turn it is.
+/// Threads are woken after the lock is released, so that they do not wake up only to find it taken.
 fn give_back<'a, N: Name>(
     locked: MutexGuard<'a, Locked<N>>,
     conditions: &Conditions,
@@ -62,7 +64,7 @@ fn give_back<'a, N: Name>(
     mutex
 }
 
-/// The condition was told since it was told so often, or is while it is looked at.
+/// Spins for some microseconds, because a sleep costs a system call.
 fn is_told(condition: &Condvar, seen: u64) -> bool {
     for _ in 0..LOOKS {
         if condition.notifications() != seen {
@@ -74,21 +76,19 @@ fn is_told(condition: &Condvar, seen: u64) -> bool {
 }
 
 impl<'a, N: Name> Guard<'a, N> {
-    /// The connection: its phase, its journal, its endpoint.
+    /// Returns the connection, with its phase, its journal and its endpoint.
     pub fn conn(&self) -> &Conn
         ensures { result.now ≡ self.now.conn }
     {
         self.locked.conn()
     }
 
-    /// Whoever waits for this is to be woken.
     pub(crate) fn note(&mut self, want: Want)
         ensures { self.new ≡ self.old }
     {
         self.due = self.due.and(want);
     }
 
-    /// Whoever waits for units is to be woken.
     pub(crate) fn note_units(&mut self)
         ensures { self.new ≡ self.old }
     {
@@ -98,15 +98,14 @@ impl<'a, N: Name> Guard<'a, N> {
         };
     }
 
-    /// Gives the lock back until the condition is told, and takes it again. Who was to be woken is woken before. It looks for a while, some microseconds, before it
-    /// sleeps: what comes soon costs no call of the system.
+    /// Releases the lock until the condition is notified, and takes it again. Wakes the noted threads before it waits.
     pub(crate) fn wait<R: Wait>(self, rt: &R, condition: &Condvar) -> Guard<'a, N> {
         let Guard {
             locked,
             conditions,
             due,
         } = self;
-        // Read under the lock: nothing that is told from here on is missed.
+        // Read under the lock: no notification from here on is missed.
         let seen = condition.notifications();
         let mutex = give_back(locked, conditions, due);
         if !is_told(condition, seen) {

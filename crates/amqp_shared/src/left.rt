@@ -1,4 +1,4 @@
-//! A call that waits, and has what its link left where it waits in vain.
+//! A call that waits, and also returns what its link left if it waited in vain.
 ghost use Rattle.std.specs.Prelude.{◌≤◌, ◌≡◌, IfOk, IfErr};
 ghost use Rattle.amqp_conn.specs.Connection.{Connection};
 ghost use Rattle.amqp_shared.specs.Passes.{after};
@@ -19,17 +19,24 @@ use amqp_rules::reply::Given;
 use std::alloc::AllocError;
 use std::sync::Wait;
 
-/// What a call came to that waits: the receipt and what it gave; or why it stopped, and the first that its link left, if any, as `Shared::pop_left_by` answers.
+/// The result of [`Shared::call_wait_or_left`].
+///
+/// `Ok` is the receipt and what the operation gave. `Err` is the refusal, and the first thing that the link left, if
+/// any, as [`Shared::pop_left_by`] returns it.
 pub type Waited = Result<(Receipt, Given), (Refusal, Result<Option<Left>, AllocError>)>;
 
 impl<N: Name> Shared<N> {
-    /// As `call_wait`; and where an operation that takes or learns is refused, mostly since its link, the session or the connection has ended, it has the first that the link
-    /// left for it, as `pop_left_by`, under the same lock: nobody has it before. That is no step. None is had where the link left
-    /// none, or where the operation neither takes nor learns.
+    /// Does an operation as [`Shared::call_wait`] does; if a take or a learn is refused, also returns the first thing
+    /// that its link left.
+    ///
+    /// Such an operation is mostly refused because its link, the session or the connection has ended. What the link
+    /// left is taken under the same lock, so no other thread gets it first. This is no step. `None` if the link left
+    /// nothing, or if the operation is neither a take nor a learn.
     ///
     /// # Errors
     ///
-    /// Those of `call_wait`, each with what is had; where that wants memory, nothing that is left has changed, and it is there to be asked for again.
+    /// The refusals of [`Shared::call_wait`], each with what the link left. `AllocError` in its place if memory runs
+    /// out: what is left has not changed then, and can be popped later.
     pub fn call_wait_or_left<'b, R: Wait>(
         &self,
         rt: &R,
@@ -55,7 +62,7 @@ impl<N: Name> Shared<N> {
         }
     }
 
-    /// The first that the link left to who takes of it or learns by it.
+    /// A take gets what a receiver left, a learn what a sender left.
     fn left_for(&self, guard: &mut Guard<'_, N>, op: &Op) -> Result<Option<Left>, AllocError>
         ensures { LeavesBehind op.now guard.old.conn result guard.new.conn }
     {
@@ -66,7 +73,7 @@ impl<N: Name> Shared<N> {
         }
     }
 
-    /// `pop_left_by`, by its one clause on the connection.
+    /// `pop_left_by`, with one clause on the connection.
     fn left_by(
         &self,
         guard: &mut Guard<'_, N>,

@@ -1,20 +1,21 @@
 //! One AMQP 1.0 connection shared by threads.
 #![tactic(auto)]
 //!
-//! | module | what it has |
+//! | module | contents |
 //! |---|---|
-//! | `shared` | `Shared`: the lock, and the calls on the session that it lends |
+//! | `shared` | `Shared`: the lock, and the calls on the session under it |
 //! | `many` | several operations under one lock |
-//! | `guard` | what the lock lends, and who is woken once it is given back |
-//! | `locked` | what lies under the lock: the connection, the book of its passes, and the end of the ring that is pushed to |
-//! | `pass`, `history` | `Pass`: a share of the right to make steps, with the number of those made by it, and what clauses know of its calls |
-//! | `writer` | `WriterEnd`: from which units are written to a socket, without the lock |
-//! | `consumers`, `batches` | threads that take deliveries and settle them, one by one or several at once |
-//! | `seed`, `name` | a connection before it is shared, and what tells one shared connection's passes and ring from another's |
-//! | `close`, `closing`, `refused` | how all comes together again |
+//! | `left` | a waiting call that also returns what its link left |
+//! | `guard` | `Guard`: the session while the lock is held, and the wake-ups on its release |
+//! | `locked` | `Locked`: the connection, the book of its passes, and the producer of the ring, under the lock |
+//! | `pass`, `history` | `Pass`: a share of the right to make steps, with its number of steps |
+//! | `writer` | `WriterEnd`: the consumer of the ring, from which units are written without the lock |
+//! | `consumers`, `batches`, `renewal` | threads that take deliveries, settle them and grant credit |
+//! | `seed`, `name` | a connection before it is shared, and the type that distinguishes shared connections |
+//! | `close`, `closing`, `refused` | taking a shared connection apart |
 //! | `growing` | what each call adds to a connection |
-//! | `waiting` | what threads wait for, and what may bring it |
-//! | `sleepers` | who sleeps until a delivery comes, and which of them is woken |
+//! | `waiting` | what threads wait for, and which steps may bring it |
+//! | `sleepers` | the threads that sleep until a delivery comes, and which of them is woken |
 //!
 //! # How threads share a connection
 //!
@@ -23,35 +24,40 @@
 //!  reader ──────────────► lock ──►                                                 (no lock, no memory)
 //! ```
 //!
-//! 1. `Seed::new` makes the connection, and `open_shared` shares it: a `Shared`, which threads use by reference, the first `Pass`, and the
-//!    `WriterEnd`.
-//! 2. **Callers** take the lock and do operations on the guard: `call`, or `call_wait`, which waits where credit, a window, a delivery or an outcome
-//!    is wanting. Each thread has a pass of its own (`Pass::split`).
-//! 3. **The reader** reads from the socket without the lock, takes it, and feeds the guard what came (`feed`). Where the octets end it
-//!    calls `lost`.
-//! 4. **The writer** takes units from the ring and writes them, without the lock, and no write holds up those who want it. Where `take` answers
-//!    `None` it calls `wait_units` with what it has taken, which takes the lock and moves more to the ring. It ends where the phase is `Closed`
-//!    and all units are taken.
-//!    Or the threads that put units out write them, each once it has given the guard back: the writer's end then lies under a lock of its own
-//!    (`amqp_pair` does so, and `Work::told` says to a consumer when).
-//! 5. Whoever waits for what a step has brought is woken when the guard is dropped, or goes into a call that waits, once for all steps that were made with it. Of those that wait for a delivery of
-//!    one link and have one of sixteen seats one is woken at a time: it looks, takes what it wants, and where it leaves something the next one is woken as it gives the lock
-//!    back. Whoever waits looks for some microseconds before he sleeps.
-//! 6. `close`, with all passes and the writer's end, gives the connection back, and the units that nobody took.
+//! 1. `Seed::new` creates the connection, and `open_shared` shares it. It returns a `Shared`, which threads use by
+//!    reference, the first `Pass`, and the `WriterEnd`.
+//! 2. **Callers** take the lock and do operations on the guard: `call`, or `call_wait`, which waits if credit, a
+//!    window, a delivery or an outcome is missing. Each thread has a pass of its own (`Pass::split`).
+//! 3. **The reader** reads from the socket without the lock, then takes the lock and feeds the octets to the guard
+//!    (`feed`). When the octets end, it calls `lost`.
+//! 4. **The writer** takes units from the ring and writes them without the lock, so a slow write blocks no other
+//!    thread. When `take` returns `None`, the writer calls `wait_units` with the number of units that it has taken;
+//!    this takes the lock and moves more units to the ring. The writer ends when the phase is `Closed` and all units
+//!    are taken. Alternatively, the threads that put units out write them after they have released the guard. The
+//!    writer's end then has a lock of its own, as in `amqp_pair`; `Work::told` is called when a consumer should write.
+//! 5. Threads that wait for what a step has brought are woken when the guard is dropped, or is passed to a call that
+//!    waits: once for all steps that were made with it. Up to sixteen threads that wait for a delivery have a seat. Of
+//!    those with a seat on one link, one is woken at a time; if it leaves something ready, the next one is woken when
+//!    it releases the lock. A waiting thread spins for some microseconds before it sleeps.
+//! 6. `close`, with all passes and the writer's end, returns the connection and the units that nobody took.
 //!
 //! # What is proved
 //!
-//! What lies under the lock is a `Conn`, with all that its type keeps: its journal is lawful, and the endpoint is what the journal makes it. Each call
-//! on a lent guard does what the same call of `Conn` does, and units may go on to the ring. The passes' steps are the journal's, and a
-//! unit is pushed once, in order, and numbered: what the writer took, then what the ring holds, then the backlog, are the units.
+//! The lock guards a `Conn`, with all that its type keeps: its journal is lawful, and the endpoint is what the journal
+//! makes it. Each call on a guard does what the same call of `Conn` does, and units may move on to the ring. The passes
+//! have made exactly the journal's steps. Each unit is pushed once, in order, and numbered: what the writer took, then
+//! what the ring holds, then the backlog, are the units.
 //!
-//! # What is not
+//! # What is not proved
 //!
-//! - **Who comes first.** Nothing is said of the order in which threads get the lock, nor that each gets it.
-//! - **That a thread is woken**, that a call which waits returns, or that all ends. Where a call that may wait returns, its clauses hold.
-//! - **What a socket carried.** That the octets of a unit were written whole, and that what was read is what the peer wrote, is the program's to see to.
-//! - **What a call that takes the lock by itself did to the session**, but what its clauses say of the guard that it gives back: `lock` lends
-//!   a session whose journal is as long as the passes' steps, and that it goes on from what was there before is shown by tests.
+//! - **Order.** Nothing is stated about the order in which threads get the lock, nor that each of them gets it.
+//! - **Progress.** Nothing is stated about whether a thread is woken, or whether a call that waits returns. If such a
+//!   call returns, its clauses hold.
+//! - **The socket.** The program is responsible for writing the octets of each unit whole, and for feeding what the
+//!   peer wrote.
+//! - **The session across calls that take the lock themselves**, beyond what their clauses state of the guard that they
+//!   return. `lock` returns a session whose journal is as long as the passes' steps; that it goes on from the session
+//!   before is shown by tests.
 
 mod batches;
 mod close;

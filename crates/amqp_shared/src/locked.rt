@@ -1,4 +1,4 @@
-//! What lies under the lock.
+//! The data under the lock.
 ghost use Rattle.std.specs.Prelude.{◌≡◌, ◌≢◌, ◌<◌, ◌≤◌, ◌^◌, ◌+◌, ◌-◌, ◌↔◌, [], length, true, false, IfOk, IfErr, IfSome, IfNone, IsTrue, IsFalse, OnErr, OnOk, Ok};
 ghost use Rattle.amqp_journal.specs.Units.{units};
 ghost use Rattle.amqp_conn.specs.Connection.{connection, in_phase};
@@ -28,17 +28,19 @@ use std::alloc::{AllocError, Global};
 use std::marker::Model;
 use std::sync::ledger::Book;
 
-/// What lies under the lock. Contracts see it as its connection, and who waits for what: the passes made the journal's steps, and the units that left the connection were
-/// pushed to the writer's ring, in their order.
+/// The data under the lock of a shared connection.
+///
+/// Contracts see it as its connection, and which threads wait for what. Its invariant: the passes have made the
+/// journal's steps, and the units that left the connection were pushed to the writer's ring, in order.
 #[derive(Drop)]
 pub struct Locked<N: Name> {
     pub(crate) conn: Conn,
     pub(crate) book: Book<N>,
     pub(crate) producer: Producer<Unit, Global, Numbered>,
-    /// How many entries the journal may have.
+    /// The maximum number of journal entries.
     pub(crate) limit: u32,
     pub(crate) waiters: Waiters,
-    /// Who sleeps until a delivery comes.
+    /// The threads that sleep until a delivery comes.
     pub(crate) sleepers: Sleepers,
 }
 
@@ -60,14 +62,13 @@ impl<N: Name> Model for Locked<N> {
 }
 
 impl<N: Name> Locked<N> {
-    /// The connection: its phase, its journal, its endpoint.
+    /// Returns the connection, with its phase, its journal and its endpoint.
     pub fn conn(&self) -> &Conn
         ensures { result.now ≡ self.now.conn }
     {
         &self.conn
     }
 
-    /// Moves units to the ring, as many as fit.
     pub(crate) fn move_units(&mut self)
         ensures moves { MovesUnits self.old.conn self.new.conn }
         ensures waiters { self.new.waiters ≡ self.old.waiters }
@@ -75,21 +76,18 @@ impl<N: Name> Locked<N> {
         push_units(&mut self.conn, &mut self.producer);
     }
 
-    /// The octets ended.
     pub(crate) fn lost(&mut self)
         ensures { self.new ≡ record self.old { conn = connection (in_phase Phase.Closed self.old.conn.core) [] } }
     {
         self.conn.lost();
     }
 
-    /// Forgets the journal's entries so far.
     pub(crate) fn forget(&mut self)
         ensures { self.new ≡ record self.old { conn = forgotten self.old.conn } }
     {
         self.conn.forget();
     }
 
-    /// The first of what is left.
     pub(crate) fn pop_left(&mut self) -> Result<Option<Left>, AllocError>
         ensures gives { IfOk result (λ given. Gives self.old.conn.core given self.new.conn.core) }
         ensures unread { self.new.conn.unread ≡ self.old.conn.unread }
@@ -99,7 +97,6 @@ impl<N: Name> Locked<N> {
         self.conn.pop_left()
     }
 
-    /// The first that the link of this number left.
     pub(crate) fn pop_left_by(&mut self, role: Role, link: u32) -> Result<Option<Left>, AllocError>
         ensures gives { IfOk result (λ given. GivesOf role link self.old.conn.core given self.new.conn.core) }
         ensures unread { self.new.conn.unread ≡ self.old.conn.unread }
@@ -109,7 +106,6 @@ impl<N: Name> Locked<N> {
         self.conn.pop_left_by(role, link)
     }
 
-    /// How many things are left.
     pub(crate) fn left_len(&mut self) -> Result<usize, AllocError>
         ensures len { IfOk result (λ n. n ≡ length (left_of self.old.conn.core)) }
         ensures still { OnOk result ((left_of self.new.conn.core ≡ left_of self.old.conn.core) × (but_left self.new.conn.core ≡ but_left self.old.conn.core)) }
@@ -121,7 +117,7 @@ impl<N: Name> Locked<N> {
     }
 
     #[tactic(auto, using(crate::proofs::Growth::operation_grows))]
-    /// An operation, counted in the pass.
+    /// `recall` states the bounds of the counts for the proof.
     pub(crate) fn apply(&mut self, pass: &mut Pass<N>, op: &Op) -> Result<(Receipt, Given), Refusal>
         ensures step { IfOk result (λ r. Makes self.old.conn op.now r.1 self.new.conn) }
         ensures fits { IfOk result (λ r. Fits op.now r.1) }
@@ -145,7 +141,7 @@ impl<N: Name> Locked<N> {
     }
 
     #[tactic(auto, using(crate::proofs::Growth::feed_grows))]
-    /// A feed, whose step is counted in the pass.
+    /// `recall` states the bounds of the counts for the proof.
     pub(crate) fn feed(&mut self, pass: &mut Pass<N>, octets: &Octets<'_>) -> Result<Fed, ConnFault>
         ensures fed { Feeds self.old.conn octets.now result (unmoved self.old.conn self.new.conn) }
         ensures progress { octets.now ≢ [] → MovesOn result }
@@ -161,7 +157,6 @@ impl<N: Name> Locked<N> {
     }
 
     #[tactic(auto, using(crate::proofs::Growth::close_grows))]
-    /// Puts out our close.
     pub(crate) fn shut(&mut self, error: Option<Boxed<AmqpError>>) -> Result<(), CloseRefusal>
         ensures closes { Closes self.old.conn.core error result (unmoved self.old.conn self.new.conn).core }
         ensures unread { self.new.conn.unread ≡ self.old.conn.unread }
@@ -178,21 +173,20 @@ impl<N: Name> Locked<N> {
         }
     }
 
-    /// How many units were put out.
     pub(crate) fn put_out(&self) -> u64
         ensures { result ≡ length (units self.now.conn.core.log) }
     {
         self.conn.logged().put_out()
     }
 
-    /// Units past this number are awaited.
     pub(crate) fn await_units(&mut self, seen: u64)
         ensures { self.new ≡ record self.old { waiters = with_units seen self.old.waiters } }
     {
         self.waiters = self.waiters.with_units(seen);
     }
 
-    /// Whether units that are awaited were put out, or the connection has ended while some are awaited: nobody awaits them any more.
+    /// Returns whether the threads that wait for units have to be woken, and counts them as woken: units past the
+    /// awaited number were put out, or the connection has ended.
     pub(crate) fn end_await_units(&mut self) -> bool
         ensures waiters { self.new ≡ record self.old { waiters = told_of_units self.old.conn self.old.waiters } }
         ensures came { result ≡ units_came self.old.conn self.old.waiters.units }
@@ -213,14 +207,13 @@ impl<N: Name> Locked<N> {
         }
     }
 
-    /// A caller waits for this.
     pub(crate) fn wait_for(&mut self, want: Want)
         ensures { self.new ≡ record self.old { waiters = with_want want true self.old.waiters } }
     {
         self.waiters = self.waiters.set(want, true);
     }
 
-    /// Whether callers wait for this: none do any more.
+    /// Returns whether callers wait for this, and counts them as woken.
     pub(crate) fn end_wait_for(&mut self, want: Want) -> bool
         ensures waiters { self.new ≡ record self.old { waiters = with_want want false self.old.waiters } }
         ensures waited { result ≡ waits_for want self.old.waiters }
@@ -230,7 +223,7 @@ impl<N: Name> Locked<N> {
         waited
     }
 
-    /// The seat of the sleeper that is to be woken once the lock is given back, if there is one.
+    /// Returns the seat of the sleeper to wake once the lock is released, if there is one.
     pub(crate) fn rouse(&mut self) -> Option<usize>
         ensures { self.new ≡ self.old }
     {
@@ -238,22 +231,21 @@ impl<N: Name> Locked<N> {
         self.sleepers.rouse(&self.conn, is_full)
     }
 
-    /// The connection has ended.
     pub(crate) fn is_closed(&self) -> bool
         ensures { result ≡ is_ended self.now.conn.core.phase }
     {
         is_closed(&self.conn)
     }
 
-    /// As many steps were made as the journal may have.
+    /// A full journal refuses all further steps.
     pub(crate) fn is_at_limit(&self) -> bool
         ensures { result ≡ is_full self.now.conn }
     {
         self.conn.logged().steps() >= self.limit
     }
 
-    /// What is told to a writer that has seen so many units: how many were put out, and whether the connection has ended. None where there are no
-    /// more, and it has not.
+    /// Returns how many units were put out, and whether the connection has ended. `None` if there are no more than
+    /// `seen`, and it has not.
     pub(crate) fn news(&self, seen: u64) -> Option<(u64, bool)>
         ensures some { IfSome result (λ r. (r.0 ≡ length (units self.now.conn.core.log)) × (r.1 ≡ is_ended self.now.conn.core.phase) × (IsFalse r.1 → seen < r.0)) }
         ensures none { IfNone result ((length (units self.now.conn.core.log) ≤ seen) × (IsFalse (is_ended self.now.conn.core.phase))) }
@@ -268,7 +260,7 @@ impl<N: Name> Locked<N> {
     }
 }
 
-/// So many steps more in the book, and in the pass: one or none.
+/// Adds steps to the book and to the pass: `audit` first shows that the pass has made no more than the book counts.
 fn raise<N: Name>(book: &mut Book<N>, pass: &mut Pass<N>, steps: u64)
     requires { (book.old.total < 2 ^ 64 - 1) × (steps ≤ 1) }
     ensures total { book.new.total ≡ book.old.total + steps }

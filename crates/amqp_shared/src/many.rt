@@ -12,22 +12,24 @@ use amqp_rules::refusal::Refusal;
 use amqp_rules::reply::Given;
 use std::alloc::{AllocError, Global};
 
-/// What several operations were answered.
+/// The answers of [`Shared::call_many`].
 #[derive(Drop)]
 pub struct Called {
-    /// Of those that were done, in their order.
+    /// The receipt and the result of each operation that was done, in order.
     pub answers: Vec<(Receipt, Given)>,
-    /// Why the one behind them was refused, if there was one.
+    /// Why the next operation was refused; `None` if all were done.
     pub refused: Option<Refusal>,
 }
 
 impl<N: Name> Shared<N> {
-    /// Operations of the application on the lent session, in their order, up to the first that is refused; each is done and answered as by `call`. The pass has a
-    /// step for each that was done.
+    /// Does several operations on the locked session, in order, up to the first that is refused.
+    ///
+    /// Each is done and answered as by [`Shared::call`], and counted in the pass. The refusal of an operation is in
+    /// [`Called::refused`].
     ///
     /// # Errors
     ///
-    /// Want of memory for the answers, before anything is done.
+    /// `AllocError` if there is no memory for the answers; no operation was done then.
     pub fn call_many(
         &self,
         alloc: Global,

@@ -1,11 +1,12 @@
-//! What belongs to one shared connection, told apart by a type.
+//! The type that distinguishes one shared connection from another.
 use amqp_journal::unit::Unit;
 use rtrb::Protocol;
 use std::marker::Brand;
 use std::sync::ledger::Ledger;
 
-/// What belongs to one shared connection: its ledger, and its ring. A type of this trait has no values; it says which passes and which
-/// writer's end go with which connection.
+/// The name of one shared connection: which passes and which writer's end belong to it.
+///
+/// A type of this trait has no values. [`std::marker::Brand`] implements it.
 pub trait Name: Ledger {
     ghost use Rattle.std.specs.Prelude.{Option};
     ghost use Rattle.amqp_shared.specs.Ring.{Ring};
@@ -19,7 +20,7 @@ impl Name for Brand {
     ghost ring = { None };
 }
 
-/// The rule of a writer's ring: the units that go in are numbered from 0.
+/// The protocol of a writer's ring: the units that are pushed are numbered from 0.
 #[derive(Clone, Copy)]
 pub struct Numbered;
 

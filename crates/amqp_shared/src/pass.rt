@@ -1,4 +1,4 @@
-//! The right to make steps, shared out among threads.
+//! The right to make steps, distributed among threads.
 ghost use Rattle.std.specs.Prelude.{◌≡◌, ◌<◌, ◌≤◌, ◌+◌, ◌^◌, [], ◌∷◌, IfSome, IfNone};
 ghost use Rattle.amqp_shared.specs.Passes.{Tally};
 
@@ -11,12 +11,13 @@ use amqp_rules::reply::Given;
 use std::marker::Model;
 use std::sync::ledger::Share;
 
-/// What a call answers.
 pub(crate) type Answer = Result<(Receipt, Given), Refusal>;
 
-/// The right to make steps, with the number of those made by it. It has some of the 65536 parts that a connection's right is cut into: when
-/// all come back, their steps are the journal's. Making a step costs its count alone: what its calls asked and were answered, only
-/// clauses know.
+/// A share of the right to make steps, with the number of steps that were made by it.
+///
+/// It has some of the 65536 parts of a connection's right. When all parts come back to
+/// [`Shared::close`](crate::Shared::close), the passes' steps are the journal's. At run time a pass only counts; its
+/// calls and their answers (`asked`) exist in contracts alone.
 #[derive(Drop)]
 pub struct Pass<N: Name> {
     pub(crate) share: Share<N>,
@@ -41,15 +42,16 @@ impl<N: Name> Model for Pass<N> {
 }
 
 impl<N: Name> Pass<N> {
-    /// How many steps the calls with this pass have appended.
+    /// Returns how many steps the calls with this pass have made.
     pub fn made(&self) -> u64
         ensures { result ≡ self.now.made }
     {
         self.made
     }
 
-    /// A pass of its own, with one part of this one, that has made nothing. `None` exactly where this one has one part: a pass that was split
-    /// off has one, so splits are made of the first.
+    /// Splits off a pass with one part, which has made no step. `None` if this pass has only one part itself.
+    ///
+    /// A pass that was split off has one part, so all passes are split off the first one.
     pub fn split(&mut self) -> Option<Pass<N>>
         ensures some { IfSome result (λ p. (p ≡ record { parts = 1; made = 0; asked = [] }) × (self.new.parts + 1 ≡ self.old.parts) × (self.new.made ≡ self.old.made) × (self.new.asked ≡ self.old.asked)) }
         ensures none { IfNone result ((self.new ≡ self.old) × (self.old.parts ≡ 1)) }
@@ -66,7 +68,7 @@ impl<N: Name> Pass<N> {
         })
     }
 
-    /// The newest call: what it asked, and what it was answered.
+    /// Records a call and its answer, for contracts alone.
     pub(crate) fn note(&mut self, op: &Op, answer: &Answer)
         ensures { self.new ≡ record self.old { asked = (op.now, answer.now) ∷ self.old.asked } }
     {

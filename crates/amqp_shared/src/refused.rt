@@ -1,19 +1,20 @@
-//! Why a shared connection is not taken apart.
+//! The reasons why a shared connection cannot be taken apart.
 ghost use Rattle.std.specs.Prelude.{◌≡◌};
 
 use thiserror::Error;
 
-/// Why a shared connection is not taken apart.
+/// Why a shared connection was not taken apart.
 #[derive(Clone, Copy, PartialEq, Eq, Debug, Error)]
 pub enum CloseReason {
-    /// The passes that were given have not made the journal's steps.
+    /// The given passes have not made all of the journal's steps: some passes are missing.
     #[error("the passes made {made} steps, and the journal has {steps}")]
     PassesMissing {
-        /// The steps that the given passes have made together.
+        /// How many steps the given passes have made together.
         made: u128,
-        /// The journal's length.
+        /// How many steps the journal has.
         steps: u64,
     },
+    /// There is no memory for the units that nobody took.
     #[error("memory was refused")]
     NoMemory,
 }

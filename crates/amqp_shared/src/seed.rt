@@ -13,7 +13,9 @@ use std::alloc::Global;
 use std::marker::Model;
 use std::sync::ledger::Blank;
 
-/// A connection with its ring and its ledger, which no name stands for yet.
+/// A connection before it is shared, with its ring and its ledger. No name is bound to it yet.
+///
+/// [`open_shared`](crate::open_shared) shares it.
 #[derive(Drop)]
 pub struct Seed {
     pub(crate) conn: Conn,
@@ -41,12 +43,14 @@ impl Model for Seed {
 }
 
 impl Seed {
-    /// A connection whose header waits to go out, with a ring of so many units for its writer. It takes room for them, for eight octets, and
-    /// for our open.
+    /// Creates a connection whose header waits to go out, with a ring of `ring` units (1 to 65536) for its writer.
+    ///
+    /// Allocates the ring, and what `Conn::new` allocates: the connection, eight octets, and our open.
     ///
     /// # Errors
     ///
-    /// `BadConfig` where a setting is out of its limits, or our open is longer than the 512 octets that every peer takes; `NoMemory`.
+    /// [`StartFault::BadConfig`] if a setting is out of its limits, or if our open is longer than the 512 octets that
+    /// every peer accepts (part 2, 2.7.1); [`StartFault::NoMemory`] if memory runs out.
     pub fn new(alloc: Global, config: Config, ring: usize) -> Result<Seed, StartFault>
         requires { (1 ≤ ring) × (ring ≤ 65536) }
         ensures { MatchResult result (λ s. IsFit config × (s.conn ≡ connection (new_core config) []) × (s.parts ≡ 65536) × (s.room ≡ ring)) (λ e. IsStartFault e config) }

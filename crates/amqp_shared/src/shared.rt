@@ -1,4 +1,4 @@
-//! A connection that threads share, and the calls on the session that is lent under its lock.
+//! A connection that threads share, and the calls on the session under its lock.
 ghost use Rattle.std.specs.Prelude.{◌≡◌, ◌≢◌, ◌<◌, ◌≤◌, [], length, true, false, None, IfOk, IfErr, OnOk, OnErr, IsFalse};
 ghost use Rattle.amqp_conn.specs.Connection.{Connection, connection, in_phase};
 ghost use Rattle.amqp_conn.specs.Feeding.{Feeds, MovesOn};
@@ -33,14 +33,19 @@ use std::marker::PhantomData;
 use std::sync::{Mutex, Wait};
 
 /// A connection that threads share by reference.
+///
+/// [`Shared::lock`] lends the session; most other calls take its guard. [`Shared::close`] takes the connection apart
+/// again.
 #[derive(Drop)]
 pub struct Shared<N: Name> {
     pub(crate) locked: Mutex<Locked<N>>,
     pub(crate) conditions: Conditions,
 }
 
-/// Opens a seed under its name: what threads share, the first pass, which has all parts and has made nothing, and the writer's end, from which
-/// nothing was taken. Who calls it is generic over the name, and is given `std::marker::Brand` for it (`amqp_example` shows how).
+/// Opens a seed under its name: returns what threads share, the first pass, and the writer's end.
+///
+/// The pass has all 65536 parts and has made no step, and nothing was taken from the writer's end. The caller is
+/// generic over the name and gets `std::marker::Brand` for it (see `amqp_example`).
 pub fn open_shared<N: Name>(seed: Seed) -> (Shared<N>, Pass<N>, WriterEnd<N>)
     requires { IsNamed seed N.name N.parts N.ring }
     ensures pass { result.1 ≡ record { parts = 65536; made = 0; asked = [] } }
@@ -50,7 +55,7 @@ pub fn open_shared<N: Name>(seed: Seed) -> (Shared<N>, Pass<N>, WriterEnd<N>)
     (Shared::new(locked), pass, writer)
 }
 
-/// The same, before it is shared: the seed's connection lies under the lock, and nobody waits.
+/// `open_shared`, before the mutex exists: the contract can speak of the connection here.
 fn open_locked<N: Name>(seed: Seed) -> (Locked<N>, Pass<N>, WriterEnd<N>)
     requires { IsNamed seed N.name N.parts N.ring }
     ensures conn { MovesUnits seed.conn result.0.conn }
@@ -99,7 +104,10 @@ impl<N: Name> Shared<N> {
         }
     }
 
-    /// Takes the lock, and lends what lies under it until the guard is dropped: then those are woken whom its steps have told. It may wait.
+    /// Takes the lock and returns a guard that lends the session until it is dropped.
+    ///
+    /// Blocks until the lock is free. Dropping the guard releases the lock and wakes the threads that waited for what
+    /// its steps have brought.
     pub fn lock<R: Wait>(&self, rt: &R) -> Guard<'_, N> {
         Guard {
             locked: self.locked.lock(rt),
@@ -108,12 +116,14 @@ impl<N: Name> Shared<N> {
         }
     }
 
-    /// An operation of the application on the lent session, as `Conn::apply`, counted in the pass. Its receipt stands for it at the journal's
-    /// last entry.
+    /// Does an operation of the application on the locked session, as `Conn::apply` does, and counts it in the pass.
+    ///
+    /// Returns what the operation gave, and its receipt, which is for the journal's last entry.
     ///
     /// # Errors
     ///
-    /// Those of `Conn::apply`. A refusal has changed nothing.
+    /// Those of `Conn::apply`: the refusal that is due to the operation, or [`Refusal::NoMemory`]. The session is as
+    /// before then.
     pub fn call(
         &self,
         guard: &mut Guard<'_, N>,
@@ -134,7 +144,7 @@ impl<N: Name> Shared<N> {
         answer
     }
 
-    /// `call`, before the pass notes it.
+    /// `call`, before the pass notes it: `call_wait` notes only its last attempt.
     fn attempt(&self, guard: &mut Guard<'_, N>, pass: &mut Pass<N>, op: &Op) -> Answer
         ensures step { IfOk result (λ r. Makes guard.old.conn op.now r.1 guard.new.conn) }
         ensures fits { IfOk result (λ r. Fits op.now r.1) }
@@ -155,11 +165,15 @@ impl<N: Name> Shared<N> {
         }
     }
 
-    /// Octets that were heard, lent or shared, as `Conn::feed`; a step that they make is counted in the pass.
+    /// Feeds octets that the peer sent, lent or shared, as `Conn::feed` does. A step that they make is counted in the
+    /// pass.
+    ///
+    /// Takes at most one frame; the answer contains how many octets were used, and the caller feeds the rest again.
     ///
     /// # Errors
     ///
-    /// Those of `Conn::feed`.
+    /// Those of `Conn::feed`: a fault that ends the connection, `Closed` if it had ended before, or `NoMemory`, which
+    /// changes nothing.
     pub fn feed(
         &self,
         guard: &mut Guard<'_, N>,
@@ -178,11 +192,11 @@ impl<N: Name> Shared<N> {
         result
     }
 
-    /// Puts out our close with the error, as `Conn::close`.
+    /// Puts out our close with the error, as `Conn::close` does (part 2, 2.4.3).
     ///
     /// # Errors
     ///
-    /// Those of `Conn::close`; nothing has changed then.
+    /// Those of `Conn::close`: `NotOpen`, `NotWritable`, `FrameTooBig` and `NoMemory`. Nothing has changed then.
     pub fn shut(
         &self,
         guard: &mut Guard<'_, N>,
@@ -203,7 +217,8 @@ impl<N: Name> Shared<N> {
         }
     }
 
-    /// The octets ended, as `Conn::lost`.
+    /// Ends the connection because the octets ended, as `Conn::lost` does: its phase is `Closed`, and what was not read
+    /// is dropped.
     pub fn lost(&self, guard: &mut Guard<'_, N>)
         ensures lost { guard.new.conn ≡ connection (in_phase Phase.Closed guard.old.conn.core) [] }
         ensures told { IsTold Ends guard.old guard.new }
@@ -212,11 +227,14 @@ impl<N: Name> Shared<N> {
         self.tell(guard, Change::Ends);
     }
 
-    /// The first of what is left, as `Conn::pop_left`. It is no step, and wakes nobody.
+    /// Returns the first thing that the links left, and removes it, as `Conn::pop_left` does. `None` if nothing is
+    /// left.
+    ///
+    /// This is no step, and wakes no thread.
     ///
     /// # Errors
     ///
-    /// Those of `Conn::pop_left`; nothing has changed then.
+    /// `AllocError` if memory runs out; nothing has changed then.
     pub fn pop_left(&self, guard: &mut Guard<'_, N>) -> Result<Option<Left>, AllocError>
         ensures gives { IfOk result (λ given. Gives guard.old.conn.core given guard.new.conn.core) }
         ensures unread { guard.new.conn.unread ≡ guard.old.conn.unread }
@@ -226,12 +244,15 @@ impl<N: Name> Shared<N> {
         guard.locked.pop_left()
     }
 
-    /// The first that the link of this number left, a delivery of a receiver or an outcome of a sender, as `Conn::pop_left_by`: for who has waited for a delivery or an outcome of that link, and was told
-    /// that the link, the session or the connection has ended. It is no step, and wakes nobody.
+    /// Returns the first thing that this link left, and removes it, as `Conn::pop_left_by` does: a delivery of a
+    /// receiver, or an outcome of a sender.
+    ///
+    /// It is meant for a caller that waited for a delivery or an outcome when the link, the session or the connection
+    /// ended. This is no step, and wakes no thread. O(n) for n things that are left.
     ///
     /// # Errors
     ///
-    /// Those of `Conn::pop_left`; nothing has changed then.
+    /// `AllocError` if memory runs out; nothing has changed then.
     pub fn pop_left_by(
         &self,
         guard: &mut Guard<'_, N>,
@@ -246,11 +267,11 @@ impl<N: Name> Shared<N> {
         guard.locked.pop_left_by(role, link)
     }
 
-    /// How many things are left, as `Conn::left_len`.
+    /// Returns how many things the links left, as `Conn::left_len` does.
     ///
     /// # Errors
     ///
-    /// Those of `Conn::pop_left`; nothing has changed then.
+    /// `AllocError` if memory runs out; nothing has changed then.
     pub fn left_len(&self, guard: &mut Guard<'_, N>) -> Result<usize, AllocError>
         ensures len { IfOk result (λ n. n ≡ length (left_of guard.old.conn.core)) }
         ensures still { OnOk result ((left_of guard.new.conn.core ≡ left_of guard.old.conn.core) × (but_left guard.new.conn.core ≡ but_left guard.old.conn.core)) }
@@ -261,15 +282,16 @@ impl<N: Name> Shared<N> {
         guard.locked.left_len()
     }
 
-    /// Forgets the lent session's entries so far, as `Conn::forget`. The passes' steps are those of the whole
-    /// journal, as before. It wakes nobody.
+    /// Forgets the entries of the locked session's journal so far, as `Conn::forget` does.
+    ///
+    /// The passes' steps remain those of the whole journal. Wakes no thread.
     pub fn forget(&self, guard: &mut Guard<'_, N>)
         ensures { guard.new ≡ record guard.old { conn = forgotten guard.old.conn } }
     {
         guard.locked.forget();
     }
 
-    /// Moves units to the ring, as many as fit. It takes no memory.
+    /// Moves units from the connection to the writer's ring, as many as fit. Allocates nothing.
     pub fn move_units(&self, guard: &mut Guard<'_, N>)
         ensures moves { MovesUnits guard.old.conn guard.new.conn }
         ensures waiters { guard.new.waiters ≡ guard.old.waiters }
@@ -277,14 +299,17 @@ impl<N: Name> Shared<N> {
         guard.locked.move_units();
     }
 
-    /// As `call`, but where credit, a window, a delivery or an outcome is wanting it waits for a change and tries again: it looks for some microseconds, and then sleeps. The guard that it gives
-    /// back is of the session after the operation, or of the one that refused it.
+    /// Does an operation as `call` does, but waits as long as credit, a window, a delivery or an outcome is missing.
+    ///
+    /// While it waits, the lock is free: it spins for some microseconds, then sleeps, and tries again once it is woken.
+    /// The guard that it returns lends the session after the operation, or the session that refused it.
     ///
     /// # Errors
     ///
-    /// Those of `call` but `NoCredit`, `NoWindow` and `Nothing`, for which it waits. Where a link, the session or the connection ends, or the journal is
-    /// full, it looks again, and tells what it is refused for then. On a link that we have detached or put aside nothing comes any more, and a call that takes or
-    /// learns waits until the peer has left it, too.
+    /// Those of `call` except [`Refusal::NoCredit`], [`Refusal::NoWindow`] and [`Refusal::Nothing`], for which it
+    /// waits. If a link, the session or the connection ends, or the journal is full, it tries again and returns the
+    /// refusal that is due then. Nothing more comes on a link that this end has detached or suspended: a call that
+    /// takes or learns there waits until the peer has left the link, too.
     pub fn call_wait<'b, R: Wait>(
         &self,
         rt: &R,
@@ -310,7 +335,7 @@ impl<N: Name> Shared<N> {
         unreachable!()
     }
 
-    /// Gives the lock back until what is wanted may have come, and takes it again.
+    /// A taker of a delivery waits at a seat of its own, if one is free; all others share a condition.
     fn sleep<'b, R: Wait>(&self, rt: &R, guard: Guard<'b, N>, want: Want, op: &Op) -> Guard<'b, N> {
         match op {
             Op::Take { link } => self.sleep_for_delivery(rt, guard, *link),
@@ -318,7 +343,6 @@ impl<N: Name> Shared<N> {
         }
     }
 
-    /// The same for a delivery of this link.
     fn sleep_for_delivery<'b, R: Wait>(
         &self,
         rt: &R,
@@ -332,7 +356,7 @@ impl<N: Name> Shared<N> {
         guard
     }
 
-    /// One turn of a call that waits: what it answers; or what it waits for now, and nothing else has changed.
+    /// One attempt of a call that waits. `Err` is what it waits for now; nothing else has changed then.
     fn turn(&self, guard: &mut Guard<'_, N>, pass: &mut Pass<N>, op: &Op) -> Result<Answer, Want>
         ensures step { IfOk result (λ a. IfOk a (λ r. Makes guard.old.conn op.now r.1 guard.new.conn)) }
         ensures fits { IfOk result (λ a. IfOk a (λ r. Fits op.now r.1)) }
@@ -369,8 +393,10 @@ impl<N: Name> Shared<N> {
         }
     }
 
-    /// Moves units to the ring, and waits until more than `seen` units were put out or the connection has ended. It answers how many were put
-    /// out, and whether the phase is `Closed`. A writer passes what it has taken.
+    /// Moves units to the ring, and blocks until more than `seen` units were put out or the connection has ended.
+    ///
+    /// Returns how many units were put out, and whether the phase is `Closed`. A writer passes the number of units that
+    /// it has taken.
     pub fn wait_units<R: Wait>(&self, rt: &R, seen: u64) -> (u64, bool)
         ensures { (c : Connection) × IsNews seen c result }
     {
@@ -379,7 +405,7 @@ impl<N: Name> Shared<N> {
         news
     }
 
-    /// What `wait_units` answers, of the session whose guard it gives back.
+    /// `wait_units`, with the guard: the contract can speak of its session here.
     fn news_past<'b, R: Wait>(&'b self, rt: &R, seen: u64) -> (Guard<'b, N>, (u64, bool))
         ensures { IsNews seen result.0.conn result.1 }
     {
@@ -395,7 +421,7 @@ impl<N: Name> Shared<N> {
         unreachable!()
     }
 
-    /// Tells all who await what has come: units, and what the change may have brought, which is anything where the journal is full.
+    /// A full journal refuses whatever comes, so then everyone who waits has to look again.
     fn tell(&self, guard: &mut Guard<'_, N>, change: Change)
         ensures conn { guard.new.conn ≡ guard.old.conn }
         ensures told { IsTold change guard.old guard.new }
@@ -409,7 +435,7 @@ impl<N: Name> Shared<N> {
         self.wake_callers(guard, change);
     }
 
-    /// Notes in the guard those that wait for units, where there are some now.
+    /// Notes in the guard the threads that wait for units, if there are new units now.
     fn wake_writer(&self, guard: &mut Guard<'_, N>)
         ensures { guard.new ≡ record guard.old { waiters = told_of_units guard.old.conn guard.old.waiters } }
     {
@@ -418,7 +444,7 @@ impl<N: Name> Shared<N> {
         }
     }
 
-    /// Notes callers who wait for what the change may have brought.
+    /// Notes in the guard the callers that wait for what the change may have brought.
     fn wake_callers(&self, guard: &mut Guard<'_, N>, change: Change)
         ensures { guard.new ≡ record guard.old { waiters = told_of change guard.old.waiters } }
     {
@@ -433,7 +459,7 @@ impl<N: Name> Shared<N> {
         }
     }
 
-    /// Where it is noted that callers are to be woken, but for those at seats (`Locked::rouse`): some wait for this, and none do any more.
+    /// Threads at seats are not noted here: `Locked::rouse` chooses one of them when the lock is released.
     fn wake(&self, guard: &mut Guard<'_, N>, want: Want)
         ensures { guard.new ≡ record guard.old { waiters = with_want want false guard.old.waiters } }
     {

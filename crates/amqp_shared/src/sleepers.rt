@@ -1,21 +1,23 @@
-//! Who sleeps until a delivery comes, each at a condition of its own, so that one is woken where one has come.
+//! The threads that sleep until a delivery comes, each at a condition of its own, so that one delivery wakes one
+//! thread.
 ghost use Rattle.std.specs.Prelude.{◌≡◌, IsTrue, IsFalse};
 ghost use Rattle.amqp_shared.specs.Sleeping.{IsNothingYet};
 
 use amqp_conn::{Conn, Phase, Role};
 use amqp_rules::status::LinkStatus;
 
-/// So many may sleep at conditions of their own; those beyond share one.
+/// How many threads can sleep at conditions of their own; all others share one.
 pub(crate) const SEATS: usize = 16;
 
-/// What the thread that has a seat does.
+/// The state of a seat.
 #[derive(Clone, Copy)]
 enum Seat {
     /// No thread has it.
     Free,
-    /// It sleeps until its link has a delivery, or a take of it is refused for another reason than that there is none. Who went to sleep later has the greater number.
+    /// A thread sleeps until the link has a delivery, or until a take would be refused for another reason than that
+    /// there is none. A thread that went to sleep later has a greater `since`.
     Sleeps { link: u32, since: u64 },
-    /// It is woken, and has not looked yet.
+    /// The thread was woken, and has not tried again yet.
     Woken { link: u32 },
 }
 
@@ -32,16 +34,19 @@ impl Seat {
     }
 }
 
-/// Those who sleep. One of a link is woken at a time, the one that went to sleep last, whose memory is the nearest; once it has looked, and has left something, the next
-/// one is. Who gives the lock back wakes one, of whatever link.
+/// The threads that sleep until a delivery comes.
+///
+/// Of the threads of one link, one is woken at a time: the one that went to sleep last, since its memory is most likely
+/// still cached. If it leaves something ready, the next one is woken. Each release of the lock wakes one thread, of
+/// whatever link.
 #[derive(Clone, Copy)]
 pub(crate) struct Sleepers {
     seats: [Seat; SEATS],
-    /// How many sleep at seats.
+    /// How many threads sleep at seats.
     asleep: u32,
-    /// How many sleep without one.
+    /// How many threads sleep without a seat.
     others: u32,
-    /// How many went to sleep until now.
+    /// How many threads went to sleep at seats so far.
     count: u64,
 }
 
@@ -53,7 +58,7 @@ impl Sleepers {
         count: 0,
     };
 
-    /// A thread goes to sleep for a delivery of the link: its seat, if one is free.
+    /// Counts a thread that goes to sleep for a delivery of the link, and returns its seat, if one is free.
     pub(crate) fn sit(&mut self, link: u32) -> Option<usize> {
         let Some(place) = self.seats.iter().position(|seat| seat.is_free()) else {
             self.others = self.others.saturating_add(1);
@@ -71,7 +76,7 @@ impl Sleepers {
         Some(place)
     }
 
-    /// The thread of this seat, or one without, is up, and holds the lock.
+    /// Counts the thread of this seat, or a thread without one, as awake: it holds the lock again.
     pub(crate) fn rise(&mut self, place: Option<usize>) {
         let Some(place) = place else {
             self.others = self.others.saturating_sub(1);
@@ -83,12 +88,12 @@ impl Sleepers {
         self.put(place, Seat::Free);
     }
 
-    /// Some sleep without a seat.
     pub(crate) fn has_others(&self) -> bool {
         self.others > 0
     }
 
-    /// The seat of the one to be woken, which is woken from now on. Where the connection takes no operation any more, all are to be, one behind the other.
+    /// Returns the seat of the thread to wake, and counts it as woken. If the connection does no operation any more,
+    /// each sleeper is woken in its turn.
     pub(crate) fn rouse(&mut self, conn: &Conn, is_full: bool) -> Option<usize> {
         if self.asleep == 0 {
             return None;
@@ -100,7 +105,7 @@ impl Sleepers {
         Some(place)
     }
 
-    /// The last one that went to sleep of those that have something to look at, and its link.
+    /// Returns the seat and the link of the thread that went to sleep last among those with news.
     fn last(&self, conn: &Conn, has_ended: bool) -> Option<(usize, u32)> {
         let mut found = None;
         let mut latest = 0;
@@ -118,7 +123,6 @@ impl Sleepers {
         found
     }
 
-    /// A thread that waited on this link is woken, and has not looked yet.
     fn is_woken_on(&self, link: u32) -> bool {
         self.seats.iter().any(|seat| seat.is_woken_on(link))
     }
@@ -130,8 +134,8 @@ impl Sleepers {
     }
 }
 
-/// A delivery of the link can be taken, or it is gone: who takes would not be told that there is nothing. (On a link that we have left nothing comes any more, and
-/// there is nothing until the peer leaves it, too.)
+/// Returns whether a take would not be refused with `Nothing`: a delivery is ready, or the link is gone. Nothing more
+/// comes on a link that this end has left; there is no news until the peer leaves it, too.
 fn has_news(conn: &Conn, link: u32) -> bool
     ensures { IsFalse result → IsNothingYet conn.now link }
 {
@@ -141,7 +145,6 @@ fn has_news(conn: &Conn, link: u32) -> bool
     }
 }
 
-/// The link receives, and nothing waits on it.
 fn is_nothing_yet(status: LinkStatus) -> bool
     ensures { IsTrue result → (status.role ≡ Role.Receiver) × (status.ready ≡ 0) }
 {

@@ -1,4 +1,4 @@
-//! What threads wait for, and what may bring it.
+//! What threads wait for, and which steps may bring it.
 ghost use Rattle.std.specs.Prelude.{◌≡◌, ◌-◌, length, slice_get, Ok};
 ghost use Rattle.amqp_shared.specs.Waking.{with_want, waits_for, with_units, awaited_by, brought_by_op, brought_by_feed, brought_in, brought_by, brought_by_step, brought_by_frame, brought_by_body, is_ended};
 
@@ -18,26 +18,27 @@ pub(crate) enum Want {
     Room,
     /// A delivery that is ready.
     Delivery,
-    /// What the peer tells of a delivery.
+    /// The peer's state of a delivery.
     Outcome,
 }
 
-/// What a call may have brought to those who wait.
+/// What a call may have brought to the threads that wait.
 #[derive(Clone, Copy, PartialEq, Eq)]
 pub(crate) enum Change {
     Nothing,
     Brings(Want),
-    /// What is waited for may have come, or may not come any more: all who wait look again, but those at seats for whose link that is not so.
+    /// What is awaited may have come, or may not come any more: all waiting threads try again, except those at seats
+    /// whose link has no news.
     Ends,
 }
 
-/// Where threads wait.
+/// The conditions at which threads wait.
 #[derive(Drop)]
 pub(crate) struct Conditions {
     room: Condvar,
-    /// For those that have no seat.
+    /// For threads that have no seat.
     delivery: Condvar,
-    /// One for each seat of those that wait for a delivery.
+    /// One for each seat of a thread that waits for a delivery.
     seats: [Condvar; SEATS],
     outcome: Condvar,
     /// Units were put out, or the connection has ended.
@@ -55,7 +56,6 @@ impl Conditions {
         }
     }
 
-    /// Where those wait who want this.
     pub(crate) fn of(&self, want: Want) -> &Condvar {
         match want {
             Want::Room => &self.room,
@@ -64,7 +64,6 @@ impl Conditions {
         }
     }
 
-    /// Where who has this seat waits for a delivery, or who has none.
     pub(crate) fn at(&self, seat: Option<usize>) -> &Condvar {
         match seat {
             Some(place) => self.seats.get(place).unwrap_or(&self.delivery),
@@ -72,7 +71,8 @@ impl Conditions {
         }
     }
 
-    /// Wakes all who wait for what is due, but of those who have seats and wait for a delivery this one; and of the others those there are.
+    /// Of the threads that have seats only the one at `seat` is woken; `others` says whether threads without a seat
+    /// sleep.
     pub(crate) fn wake(&self, due: Due, seat: Option<usize>, others: bool) {
         if due.units {
             self.units.notify_all();
@@ -92,7 +92,7 @@ impl Conditions {
     }
 }
 
-/// Who is to be woken: those that wait for these.
+/// What has come: the threads that wait for it are to be woken.
 #[derive(Clone, Copy)]
 pub(crate) struct Due {
     pub(crate) units: bool,
@@ -109,7 +109,6 @@ impl Due {
         outcome: false,
     };
 
-    /// Those that wait for this, too.
     pub(crate) fn and(self, want: Want) -> Due {
         match want {
             Want::Room => Due { room: true, ..self },
@@ -125,16 +124,16 @@ impl Due {
     }
 }
 
-/// Who waits for what.
+/// Which threads wait for what.
 #[derive(Clone, Copy)]
 pub(crate) struct Waiters {
-    /// The least number past which units are awaited; none where no thread awaits units.
+    /// The least number past which units are awaited; `None` if no thread waits for units.
     pub(crate) units: Option<u64>,
     /// Some caller waits for credit or a window.
     pub(crate) room: bool,
     /// Some caller waits for a delivery.
     pub(crate) delivery: bool,
-    /// Some caller waits for what the peer tells of a delivery.
+    /// Some caller waits for the peer's state of a delivery.
     pub(crate) outcome: bool,
 }
 
@@ -146,7 +145,6 @@ impl Waiters {
         outcome: false,
     };
 
-    /// The same but for this.
     pub(crate) fn set(self, want: Want, waits: bool) -> Waiters
         ensures { result ≡ with_want want waits self }
     {
@@ -166,7 +164,6 @@ impl Waiters {
         }
     }
 
-    /// Whether some caller waits for this.
     pub(crate) fn wait_for(self, want: Want) -> bool
         ensures { result ≡ waits_for want self }
     {
@@ -177,7 +174,6 @@ impl Waiters {
         }
     }
 
-    /// The same, where units past this number are awaited too.
     pub(crate) fn with_units(self, seen: u64) -> Waiters
         ensures { result ≡ with_units seen self }
     {
@@ -192,7 +188,8 @@ impl Waiters {
     }
 }
 
-/// What is awaited where an operation finds nothing: taking awaits a delivery, learning what the peer tells of one.
+/// Returns what an operation waits for if there is nothing yet: a take waits for a delivery, a learn for the peer's
+/// state of one.
 pub(crate) fn awaited_by(op: &Op) -> Want
     ensures { result ≡ awaited_by op.now }
 {
@@ -202,8 +199,8 @@ pub(crate) fn awaited_by(op: &Op) -> Want
     }
 }
 
-/// What an operation may bring to others who wait: its link or its session is gone, or is to go. No other one brings anything to who waits already: credit, a
-/// window, a delivery and an outcome come from the peer.
+/// Returns what an operation may bring to other threads that wait: its link or its session is gone, or is about to go.
+/// No other operation brings anything to them, because credit, a window, a delivery and an outcome come from the peer.
 pub(crate) fn brought_by(op: &Op) -> Change
     ensures { result ≡ brought_by_op op.now }
 {
@@ -227,7 +224,7 @@ pub(crate) fn brought_by(op: &Op) -> Change
     }
 }
 
-/// What octets that were fed may have brought.
+/// Returns what octets that were fed may have brought to the threads that wait.
 pub(crate) fn brought(conn: &Conn, answer: &Result<Fed, ConnFault>) -> Change
     ensures { result ≡ brought_by_feed conn.now answer.now }
 {
@@ -238,7 +235,6 @@ pub(crate) fn brought(conn: &Conn, answer: &Result<Fed, ConnFault>) -> Change
     }
 }
 
-/// What they brought that were taken.
 fn of_fed(conn: &Conn, fed: &Fed) -> Change
     ensures { result ≡ brought_by_feed conn.now (Ok fed.now) }
 {
@@ -252,7 +248,6 @@ fn of_fed(conn: &Conn, fed: &Fed) -> Change
     }
 }
 
-/// The connection has ended.
 pub(crate) fn is_closed(conn: &Conn) -> bool
     ensures { result ≡ is_ended conn.now.core.phase }
 {
@@ -262,7 +257,6 @@ pub(crate) fn is_closed(conn: &Conn) -> bool
     }
 }
 
-/// What the journal's last step may have brought, which gave this.
 fn stepped(journal: &[Entry], given: &Given) -> Change
     ensures { result ≡ brought_in (slice_get journal.now (length journal.now - 1)) given.now }
 {
@@ -312,8 +306,8 @@ fn in_frame(frame: &Frame) -> Change
     }
 }
 
-/// A flow gives credit and windows (part 2, 2.5.6 and 2.6.7), a disposition tells outcomes (part 2, 2.7.6). A transfer by which no delivery
-/// becomes ready brings nothing.
+/// A flow brings credit and windows (part 2, 2.5.6 and 2.6.7), a disposition brings outcomes (part 2, 2.7.6). A
+/// transfer by which no delivery becomes ready brings nothing.
 fn in_body(body: &Performative) -> Change
     ensures { result ≡ brought_by_body body.now }
 {

@@ -1,4 +1,4 @@
-//! The end from which units are written to a socket.
+//! The end of the ring from which units are written to a socket.
 ghost use Rattle.std.specs.Prelude.{◌≡◌, ◌<◌, ◌≤◌, ◌+◌, ◌-◌, ◌^◌, ◌++◌, ◌∷◌, [], length, IfSome, IfNone};
 ghost use Rattle.rtrb.specs.Ring.{received, known_items, SameConsumer};
 
@@ -8,8 +8,10 @@ use rtrb::Consumer;
 use std::alloc::Global;
 use std::marker::{Model, PhantomData};
 
-/// The writer's end of the ring. Contracts see it as the units that were taken. It needs neither the lock nor memory: what is in the ring is taken
-/// whatever the threads that use the session do.
+/// The writer's end of the ring.
+///
+/// Contracts see it as the units that were taken. It needs neither the lock nor memory, so it is independent of the
+/// threads that use the session.
 #[derive(Drop)]
 pub struct WriterEnd<N: Name> {
     pub(crate) consumer: Consumer<Unit, Global, Numbered>,
@@ -31,8 +33,11 @@ impl<N: Name> Model for WriterEnd<N> {
 }
 
 impl<N: Name> WriterEnd<N> {
-    /// The next unit of the ring: its octets are to be written whole, and in this order. `None` says nothing of what the ring holds; more may
-    /// wait in the connection, which `Shared::wait_units` and `Shared::move_units` move to the ring.
+    /// Returns the next unit, and removes it from the ring. The program must write its octets whole, and the units in
+    /// this order.
+    ///
+    /// `None` does not mean that all units are taken: more may wait in the connection. `Shared::wait_units` and
+    /// `Shared::move_units` move them to the ring.
     pub fn take(&mut self) -> Option<Unit>
         ensures some { IfSome result (λ unit. (self.new ≡ self.old ++ unit ∷ []) × (unit.number ≡ length self.old)) }
         ensures none { IfNone result (self.new ≡ self.old) }
@@ -46,7 +51,7 @@ impl<N: Name> WriterEnd<N> {
         }
     }
 
-    /// How many units were taken.
+    /// Returns how many units were taken.
     pub fn taken(&self) -> u64
         ensures { result ≡ length self.now }
     {
@@ -54,7 +59,6 @@ impl<N: Name> WriterEnd<N> {
     }
 }
 
-/// The next unit of the ring; `None` only where it gives none.
 fn next_of(consumer: &mut Consumer<Unit, Global, Numbered>) -> Option<Unit>
     ensures ring { SameConsumer consumer.old consumer.new }
     ensures some { IfSome result (λ unit. (received consumer.new ≡ received consumer.old ++ unit ∷ []) × (unit.number ≡ length (received consumer.old)) × (unit.number < 2 ^ 64 - 1)) }
