@@ -140,6 +140,7 @@ SIZES = (
     Case("a link is suspended with 1,100 deliveries", "script", script(*sending(1100), "suspend 0"), "ok given=suspended:00000000:-,"),
     Case("a link's name of 2,000 octets", "script", script(attach(b"n" * 2000, 0, True)), "ok given=offered:0"),
     Case("a description of 2,000 octets", "script", script("attach sender q 2 0 0 0", attach(b"q", 0, False), gone(error(b"d" * 2000))), "ok given=gone:0"),
+    Case("an attach with properties of 17 pairs", "script", script(attach(b"q", 0, True, NULL, NULL, NULL, pairs(17))), "ok given=offered:0"),
     Case("modified, with 17 annotations, is learnt", "script", script(*learnt(MODIFIED)), "ok given=learned:2:modified:1"),
     Case("rejected, with a long description and info, is learnt", "script", script(*learnt(REJECTED)), "ok given=learned:2:rejected:1"),
 )
