@@ -1,6 +1,7 @@
 //! Why a call of the library fails.
 use amqp_conn::{AmqpError, CloseRefusal, ConnFault, Refusal, StartFault};
 use amqp_messages::MessageFault;
+use amqp_policy::Shown;
 use std::alloc::AllocError;
 use std::fmt::{Display, Formatter};
 use std::{fmt, io};
@@ -54,27 +55,11 @@ impl Display for Ended {
 
 /// Writes the condition, and the description if there is one, each behind a colon.
 fn write_error<W: fmt::Write>(f: &mut Formatter<W>, error: &AmqpError) -> fmt::Result {
-    f.write_str(": ")?;
-    write_escaped(f, error.condition.as_str())?;
+    write!(f, ": {}", Shown(error.condition.as_str()))?;
     match &error.description {
-        Some(description) => {
-            f.write_str(": ")?;
-            write_escaped(f, description.as_str())
-        }
+        Some(description) => write!(f, ": {}", Shown(description.as_str())),
         None => Ok(()),
     }
-}
-
-/// Writes a text of the peer's. What could end the line, or steer a terminal, is escaped.
-fn write_escaped<W: fmt::Write>(f: &mut Formatter<W>, text: &str) -> fmt::Result {
-    for it in text.chars() {
-        if it.is_control() || it == '\\' {
-            write!(f, "\\x{:02x}", u32::from(it))?;
-        } else {
-            f.write_char(it)?;
-        }
-    }
-    Ok(())
 }
 
 /// Why a call of a [`Client`](crate::Client) fails.

@@ -13,6 +13,7 @@
 //! | `received` | which messages of a receiver are in doubt |
 //! | `queues` | messages in memory, by address |
 //! | `backoff` | how long to wait before the next attempt to connect |
+//! | `shown` | which characters of a peer's text are escaped in a line |
 #![tactic(auto)]
 
 mod backoff;
@@ -22,6 +23,7 @@ mod parts;
 mod queues;
 mod received;
 mod sent;
+mod shown;
 mod waits;
 mod window;
 
@@ -32,5 +34,6 @@ pub use parts::{has_more, part, parts_join, room_in_frame};
 pub use queues::{Queued, Queues};
 pub use received::{ReceivedDoubts, received_laws};
 pub use sent::{Begun, SentDoubts, sent_laws};
+pub use shown::Shown;
 pub use waits::{TICK, Waits};
 pub use window::is_window_due;
