@@ -4,5 +4,7 @@
 pub mod Printed
 -- the standard's names of composite types and of their fields
 pub mod Names
+-- values as text
+pub mod Values
 -- the line of a frame
 pub mod Lines

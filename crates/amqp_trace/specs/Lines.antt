@@ -61,6 +61,11 @@ abbrev pub IsLine : Direction → Frame → List ℕ → Type 0
 IsLine direction frame line =
     (body : List ℕ) × IsBody frame.body (head direction frame.channel) body × (line ≡ body ++ payload_text frame.payload)
 
+-- What the octets of a protocol header say (part 2, 2.2): behind four of them, the protocol's id and its version.
+abbrev pub protocol_of : List ℕ → Option Protocol
+protocol_of (_ ∷ _ ∷ _ ∷ _ ∷ id ∷ major ∷ minor ∷ revision ∷ []) = Some (record { id = id; major = major; minor = minor; revision = revision })
+protocol_of _ = None
+
 abbrev pub version_text : Protocol → List ℕ
 version_text p = decimal p.major ++ codes "." ++ decimal p.minor ++ codes "." ++ decimal p.revision
 

@@ -1,8 +1,10 @@
 //! The standard's names of composite types and of their fields, in order (part 2, 2.7 and 2.8.14; part 3, 3.4 and 3.5).
-ghost use Rattle.std.specs.Prelude.{◌≡◌, ℕ, length, IfSome};
+ghost use Rattle.std.specs.Prelude.{◌≡◌, ℕ, length, option_map, IfSome};
+ghost use Rattle.amqp_types.specs.declared.value.Value.TheViews.{out-Value};
 ghost use Rattle.amqp_performatives.specs.declared.performative.Performative.{Performative};
 ghost use Rattle.amqp_performatives.specs.declared.composite.Composite.{Composite};
-ghost use Rattle.amqp_trace.specs.Names.{type_name, field_names, texts, IsNamed};
+ghost use Rattle.amqp_performatives.specs.Composite.{type_of};
+ghost use Rattle.amqp_trace.specs.Names.{type_name, field_names, texts, type_data, composite_type, source_type, target_type, is_descriptor, terminus_type, described_type, IsNamed};
 
 use amqp_performatives::Composite;
 use amqp_types::Value;
@@ -173,50 +175,65 @@ pub(crate) struct Named {
 
 /// The type that the descriptor is of, if it is a delivery state, an error, a source or a target.
 pub(crate) fn find_named(descriptor: &Value) -> Option<Named>
-    ensures { IfSome result IsNamed }
+    ensures printable { IfSome result IsNamed }
+    ensures data { option_map type_data result ≡ described_type (out-Value descriptor.now) }
+{
+    if is_of(descriptor, Composite::Error) {
+        return Some(named_as(Composite::Error));
+    }
+    if is_of(descriptor, Composite::Received) {
+        return Some(named_as(Composite::Received));
+    }
+    if is_of(descriptor, Composite::Accepted) {
+        return Some(named_as(Composite::Accepted));
+    }
+    if is_of(descriptor, Composite::Rejected) {
+        return Some(named_as(Composite::Rejected));
+    }
+    if is_of(descriptor, Composite::Released) {
+        return Some(named_as(Composite::Released));
+    }
+    if is_of(descriptor, Composite::Modified) {
+        return Some(named_as(Composite::Modified));
+    }
+    find_terminus(descriptor)
+}
+
+fn find_terminus(descriptor: &Value) -> Option<Named>
+    ensures printable { IfSome result IsNamed }
+    ensures data { option_map type_data result ≡ terminus_type (out-Value descriptor.now) }
+{
+    if is_descriptor(descriptor, 0x28, "amqp:source:list") {
+        return Some(source());
+    }
+    if is_descriptor(descriptor, 0x29, "amqp:target:list") {
+        return Some(target());
+    }
+    None
+}
+
+/// Whether the value is the descriptor of this type.
+fn is_of(descriptor: &Value, kind: Composite) -> bool
+    ensures { result ≡ is_descriptor (type_of kind) (out-Value descriptor.now) }
+{
+    is_descriptor(descriptor, kind.number(), kind.name())
+}
+
+/// Whether the value is this number or this symbol.
+fn is_descriptor(descriptor: &Value, number: u8, name: &str) -> bool
+    ensures { result ≡ is_descriptor (number, name.now) (out-Value descriptor.now) }
 {
     match descriptor {
-        Value::Ulong(number) => named_by_number(*number),
-        Value::Symbol(name) => named_by_symbol(name.as_str()),
-        _ => None,
-    }
-}
-
-fn named_by_number(number: u64) -> Option<Named>
-    ensures { IfSome result IsNamed }
-{
-    match number {
-        0x1d => Some(named_as(Composite::Error)),
-        0x23 => Some(named_as(Composite::Received)),
-        0x24 => Some(named_as(Composite::Accepted)),
-        0x25 => Some(named_as(Composite::Rejected)),
-        0x26 => Some(named_as(Composite::Released)),
-        0x27 => Some(named_as(Composite::Modified)),
-        0x28 => Some(source()),
-        0x29 => Some(target()),
-        _ => None,
-    }
-}
-
-fn named_by_symbol(name: &str) -> Option<Named>
-    ensures { IfSome result IsNamed }
-{
-    match name {
-        "amqp:error:list" => Some(named_as(Composite::Error)),
-        "amqp:received:list" => Some(named_as(Composite::Received)),
-        "amqp:accepted:list" => Some(named_as(Composite::Accepted)),
-        "amqp:rejected:list" => Some(named_as(Composite::Rejected)),
-        "amqp:released:list" => Some(named_as(Composite::Released)),
-        "amqp:modified:list" => Some(named_as(Composite::Modified)),
-        "amqp:source:list" => Some(source()),
-        "amqp:target:list" => Some(target()),
-        _ => None,
+        Value::Ulong(found) => *found == u64::from(number),
+        Value::Symbol(found) => found.as_str() == name,
+        _ => false,
     }
 }
 
 #[tactic(auto, using(crate::proofs::Tables::type_printable, crate::proofs::Tables::fields_printable))]
 fn named_as(kind: Composite) -> Named
-    ensures { IsNamed result }
+    ensures printable { IsNamed result }
+    ensures data { type_data result ≡ composite_type kind }
 {
     Named {
         number: kind.number(),
@@ -227,7 +244,8 @@ fn named_as(kind: Composite) -> Named
 
 /// A source (part 3, 3.5.3).
 fn source() -> Named
-    ensures { IsNamed result }
+    ensures printable { IsNamed result }
+    ensures data { type_data result ≡ source_type }
 {
     Named {
         number: 0x28,
@@ -238,7 +256,8 @@ fn source() -> Named
 
 /// A target (part 3, 3.5.4).
 fn target() -> Named
-    ensures { IsNamed result }
+    ensures printable { IsNamed result }
+    ensures data { type_data result ≡ target_type }
 {
     Named {
         number: 0x29,

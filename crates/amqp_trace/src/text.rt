@@ -1,7 +1,7 @@
 //! A line of text.
 ghost use Rattle.std.specs.Prelude.{◌≡◌, ◌++◌, ◌<◌, [], ◌∷◌, true, false, codes, decimal, OnOk, OnErr, IfOk};
-ghost use Rattle.std.specs.Fmt.{signed_decimal};
-ghost use Rattle.amqp_trace.specs.Printed.{are_printable, hex_digit, shown, escaped, Continues};
+ghost use Rattle.std.specs.Fmt.{digits, signed_decimal};
+ghost use Rattle.amqp_trace.specs.Printed.{are_printable, hex_digit, hex, hex_octets, shown, escaped, Continues};
 
 use crate::frame::Direction;
 use crate::look::{NO_COLOR, RED, color_of};
@@ -133,17 +133,25 @@ impl Line {
     }
 
     /// Puts the number in hexadecimal behind the others.
-    #[tactic(auto, using(crate::proofs::Going::goes_on, crate::proofs::Going::goes_far))]
+    #[tactic(auto, using(crate::proofs::Going::put_two))]
     pub(crate) fn put_hex(&mut self, n: u64) -> Result<(), AllocError>
-        ensures { OnOk result (Continues self.old self.new) }
+        ensures text { OnOk result (self.new ≡ self.old ++ hex n) }
+        ensures goes { OnOk result (Continues self.old self.new) }
     {
         self.put("0x")?;
-        let count = (67 - n.leading_zeros().min(63)) / 4;
-        for place in (0..count).rev() {
-            let digit = (n >> (4 * place)) % 16;
-            self.put_digit(digit as u8)?;
+        self.put_digits(n)
+    }
+
+    /// Puts the hexadecimal digits of the number behind the others.
+    #[cycle(digits)]
+    fn put_digits(&mut self, n: u64) -> Result<(), AllocError>
+        ensures text { OnOk result (self.new ≡ self.old ++ digits 16 false n) }
+    {
+        if n < 16 {
+            return self.put_digit(n as u8);
         }
-        Ok(())
+        self.put_digits(n / 16)?;
+        self.put_digit((n % 16) as u8)
     }
 
     /// Puts a hexadecimal digit behind the others.
@@ -174,6 +182,18 @@ impl Line {
                 self.put_digit(octet % 16)
             }
         }
+    }
+
+    /// Puts two hexadecimal digits for each octet behind the others.
+    pub(crate) fn put_hex_octets(&mut self, octets: &[u8]) -> Result<(), AllocError>
+        ensures text { OnOk result (self.new ≡ self.old ++ hex_octets octets.now) }
+        ensures goes { OnOk result (Continues self.old self.new) }
+    {
+        for octet in octets {
+            self.put_digit(*octet / 16)?;
+            self.put_digit(*octet % 16)?;
+        }
+        Ok(())
     }
 
     /// Puts octets behind the others, escaped where they are not printable.

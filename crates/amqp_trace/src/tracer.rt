@@ -1,5 +1,6 @@
 //! Octets of one end of a connection as lines, however they are cut.
-ghost use Rattle.std.specs.Prelude.{◌≢◌, ◌<◌, ◌≤◌, [], IfOk, length};
+ghost use Rattle.std.specs.Prelude.{◌≡◌, ◌≢◌, ◌<◌, ◌≤◌, [], IfOk, length};
+ghost use Rattle.amqp_trace.specs.Lines.{protocol_of};
 
 use crate::frame::{Direction, Protocol, frame_line, header_line};
 use crate::look::Look;
@@ -110,14 +111,8 @@ impl Tracer {
     }
 
     fn header(&self) -> Result<Option<Line>, FrameFault> {
-        let [_, _, _, _, id, major, minor, revision] = self.front.as_slice() else {
+        let Some(protocol) = protocol_of(self.front.as_slice()) else {
             return Ok(None);
-        };
-        let protocol = Protocol {
-            id: *id,
-            major: *major,
-            minor: *minor,
-            revision: *revision,
         };
         let line = header_line(self.alloc, self.direction, protocol)?;
         Ok(Some(self.dress(line)))
@@ -130,6 +125,21 @@ impl Tracer {
         }
         line
     }
+}
+
+/// The protocol that these octets name, if they are as many as a header has.
+fn protocol_of(front: &[u8]) -> Option<Protocol>
+    ensures { result ≡ protocol_of front.now }
+{
+    let [_, _, _, _, id, major, minor, revision] = front else {
+        return None;
+    };
+    Some(Protocol {
+        id: *id,
+        major: *major,
+        minor: *minor,
+        revision: *revision,
+    })
 }
 
 /// Whether the octets begin as a header does. No frame begins so that is shorter than a gigaoctet.
