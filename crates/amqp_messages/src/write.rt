@@ -1,5 +1,5 @@
 //! Messages and how they are written, in their canonical encoding.
-ghost use Rattle.std.specs.Prelude.{◌≡◌, ◌↔◌, ℕ, List, Some, None, Err, OnOk, OnErr};
+ghost use Rattle.std.specs.Prelude.{◌≡◌, ◌↔◌, ℕ, List, [], Some, None, Err, IfOk, OnOk, OnErr, vec_capacity};
 ghost use Rattle.amqp_types.specs.Canon.{Writes, Appends, capped};
 ghost use Rattle.amqp_messages.specs.Sections.{SectionData, seen};
 ghost use Rattle.amqp_messages.specs.Messages.{seen_all, IsMessage};
@@ -9,6 +9,7 @@ use crate::message::Message;
 use crate::order::{is_of_body, may_follow};
 use crate::section::Section;
 use amqp_types::{MAX_DEPTH, WriteFault, append_value, size_within};
+use std::alloc::Global;
 
 fn are_ordered(sections: &[Section]) -> bool
     ensures { result ≡ is_message (seen_all sections.now) }
@@ -78,6 +79,21 @@ pub fn message_size(message: &Message) -> Option<u64>
     }
 }
 
+// An empty buffer with room for the octets of the message, and for no more.
+fn buffer_for(alloc: Global, message: &Message) -> Result<Vec<u8>, WriteFault>
+    ensures room { IfOk result (λ octets. Some (vec_capacity octets) ≡ capped (message_form (seen_all message.now.sections))) }
+    ensures empty { IfOk result (λ octets. octets.items ≡ []) }
+    ensures refused { (result ≡ Err WriteFault.NotWritable) ↔ (message_form (seen_all message.now.sections) ≡ None) }
+{
+    let Some(size) = message_size(message) else {
+        return Err(WriteFault::NotWritable);
+    };
+    match Vec::with_capacity(alloc, size as usize) {
+        Ok(octets) => Ok(octets),
+        Err(_) => Err(WriteFault::NoMemory),
+    }
+}
+
 /// Appends the message to `out`, with the shortest format code that fits for each value (part 1, 1.6).
 ///
 /// Each descriptor is written as its number. The message is encoded into a temporary buffer that is allocated once, and
@@ -92,10 +108,10 @@ pub fn write_message(message: &Message, out: &mut Vec<u8>) -> Result<(), WriteFa
     ensures refused { (result ≡ Err WriteFault.NotWritable) ↔ (message_form (seen_all message.now.sections) ≡ None) }
     ensures err { OnErr result (out.new.items ≡ out.old.items) }
 {
-    let Some(size) = message_size(message) else {
-        return Err(WriteFault::NotWritable);
+    let mut octets = match buffer_for(*out.allocator(), message) {
+        Ok(octets) => octets,
+        Err(fault) => return Err(fault),
     };
-    let mut octets = Vec::with_capacity(*out.allocator(), size as usize)?;
     match put_sections(message.sections.as_slice(), &mut octets) {
         Ok(()) => {
             out.extend_from_slice(&octets)?;
