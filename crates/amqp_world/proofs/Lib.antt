@@ -10,5 +10,10 @@ pub mod Meeting
 pub mod Promising
 pub mod Sending
 pub mod Finding
+-- What the octets of an end say to the other.
+pub mod Channel
+pub mod Said
+pub mod Written
+pub mod Octets
 -- Two ends that hear each other until nothing waits.
 pub mod HeardMore

@@ -23,12 +23,16 @@ use Rattle.amqp_laws.specs.Said.{ends, hears_no_end, is_own_end, transfer_in}
 use Rattle.amqp_laws.specs.Live.{live}
 use Rattle.amqp_laws.specs.At.{at}
 use Rattle.amqp_laws.specs.Lawful.{Answers}
+use Rattle.amqp_laws.specs.Said.{max_in}
+use Rattle.amqp_laws.specs.Written.{AreInRange, IsStepInRange}
+use Rattle.amqp_rules.specs.Ranges.{IsBodyInRange, IsOpInRange}
 use Rattle.amqp_journal.specs.Log.{Log, Appends, logging, own_due, heard_due}
 use Rattle.amqp_pair_laws.specs.Moves.{and_one, count, said_as}
 use Rattle.amqp_pair_laws.specs.World.{IsFair, World, hears, sends}
 use Rattle.amqp_pair_laws.specs.Premise.{IsPlain, KeepsToHeard, ids_heard}
 use Rattle.amqp_pair_laws.proofs.Lag.{and_one-few}
 use Rattle.amqp_world.specs.Calls.{resumes, waiting}
+use Rattle.amqp_world.specs.Octets.{OpensOnce}
 use Rattle.amqp_world.specs.declared.heard.Hearing.{Hearing}
 use Rattle.amqp_world.specs.Knowing.{Knows, Meets, having_done, having_heard, reaches_ahead, serials}
 use Rattle.amqp_world.proofs.Places.{back-one, count-stays, count-there}
@@ -66,7 +70,14 @@ pub record Goes (mine theirs : Log) (step : Step) (reply : Reply) : Type 0 where
   pub answers : Answers (at mine.config (past mine.journal)) step reply
   pub told : KeepsToHeard step (past mine.journal)
   pub plain : IsPlain step
+  pub range : IsStepInRange step
+  pub later : max_in step ≡ None
   pub next : HearsNext step mine theirs
+
+-- no entry but the first is the peer's open
+later-opens : (told : ℕ) (e : Entry) (past : List Entry) → max_in e.step ≡ None → OpensOnce told past → OpensOnce told (e ∷ past)
+later-opens told e [] none opens = absurd opens
+later-opens told e (x ∷ past) none opens = (none, opens)
 
 -- the move, at the end that hears
 world-hears : (mine theirs : Log) (step : Step) (reply : Reply) (moves : ℕ) → Goes mine theirs step reply → World theirs.config mine.config moves (past theirs.journal) (past mine.journal)
@@ -98,6 +109,9 @@ met h mine theirs step reply g m =
       limits = m.limits;
       their_limits = m.their_limits;
       whole = m.whole;
+      unput = m.unput;
+      opens = (m.opens.0, subst (λ (p : List Entry). OpensOnce m.opens.0 p) (sym (back-logged mine step reply)) (later-opens m.opens.0 e (past mine.journal) g.later m.opens.1));
+      range = subst (λ (p : List Entry). AreInRange p) (sym (back-logged mine step reply)) (g.range, m.range);
       moves = suc m.moves;
       world = world-heard mine theirs step reply m.moves g m.world;
       knows = m.knows;
@@ -215,8 +229,8 @@ is-plain _ h = tt
 
 -- an operation that keeps to what was heard
 goes-own : (h : Hearing) (mine theirs : Log) (op : Op) (reply : Reply) → IsWithinLimits mine.config → length mine.journal < mine.config.journal_limit → Answers (at mine.config (past mine.journal)) (Own op) reply
-    → KeepsToHeard (Own op) (past mine.journal) → resumes op ≡ false → Goes mine theirs (Own op) reply
-goes-own h mine theirs op reply limits room answers told plain = record { limits = limits; room = room; answers = answers; told = told; plain = is-plain op plain; next = tt }
+    → KeepsToHeard (Own op) (past mine.journal) → resumes op ≡ false → IsOpInRange op → Goes mine theirs (Own op) reply
+goes-own h mine theirs op reply limits room answers told plain range = record { limits = limits; room = room; answers = answers; told = told; plain = is-plain op plain; range = range; later = refl; next = tt }
 
 done-meets : (h : Hearing) (mine theirs : Log) (op : Op) (reply : Reply) → Goes mine theirs (Own op) reply → Meets h mine theirs → Meets (having_done op h) (logging mine (Own op) reply) theirs
 done-meets h mine theirs op reply g m =
@@ -224,6 +238,9 @@ done-meets h mine theirs op reply g m =
       limits = m.limits;
       their_limits = m.their_limits;
       whole = m.whole;
+      unput = m.unput;
+      opens = m.opens;
+      range = m.range;
       moves = suc m.moves;
       world = world-hears mine theirs (Own op) reply m.moves g m.world;
       knows = subst (λ (p : List Entry). Knows (having_done op h) p) (sym (back-logged mine (Own op) reply)) (knows-done h (past mine.journal) op reply m.knows);
@@ -232,21 +249,21 @@ done-meets h mine theirs op reply g m =
       all = m.all ∙ sym (ap (λ (p : List Entry). count hears p) (back-logged mine (Own op) reply));
     }
 
-pub own-meets : (h : Hearing) (mine new theirs : Log) (op : Op) (given : Given) → KeepsToHeard (Own op) (past mine.journal) → resumes op ≡ false → Appends mine (Own op) (own_due mine op) given new → Meets h mine theirs
+pub own-meets : (h : Hearing) (mine new theirs : Log) (op : Op) (given : Given) → KeepsToHeard (Own op) (past mine.journal) → resumes op ≡ false → IsOpInRange op → Appends mine (Own op) (own_due mine op) given new → Meets h mine theirs
     → Meets (having_done op h) new theirs
-own-meets h mine new theirs op given told plain h' m =
+own-meets h mine new theirs op given told plain range h' m =
     let a = own-appended mine new op given h' in
-    subst (λ (l : Log). Meets (having_done op h) l theirs) (sym a.is) (done-meets h mine theirs op a.reply (goes-own h mine theirs op a.reply m.limits a.room a.answers told plain) m)
+    subst (λ (l : Log). Meets (having_done op h) l theirs) (sym a.is) (done-meets h mine theirs op a.reply (goes-own h mine theirs op a.reply m.limits a.room a.answers told plain range) m)
 
-pub own-met : (h : Hearing) (mine new theirs : Log) (op : Op) (given : Given) → KeepsToHeard (Own op) (past mine.journal) → resumes op ≡ false → Appends mine (Own op) (own_due mine op) given new → Meets h theirs mine
+pub own-met : (h : Hearing) (mine new theirs : Log) (op : Op) (given : Given) → KeepsToHeard (Own op) (past mine.journal) → resumes op ≡ false → IsOpInRange op → Appends mine (Own op) (own_due mine op) given new → Meets h theirs mine
     → Meets h theirs new
-own-met h mine new theirs op given told plain h' m =
+own-met h mine new theirs op given told plain range h' m =
     let a = own-appended mine new op given h' in
-    subst (λ (l : Log). Meets h theirs l) (sym a.is) (met h mine theirs (Own op) a.reply (goes-own h mine theirs op a.reply m.their_limits a.room a.answers told plain) m)
+    subst (λ (l : Log). Meets h theirs l) (sym a.is) (met h mine theirs (Own op) a.reply (goes-own h mine theirs op a.reply m.their_limits a.room a.answers told plain range) m)
 
 goes-heard : (mine theirs : Log) (f : Frame) (reply : Reply) → IsWithinLimits mine.config → length mine.journal < mine.config.journal_limit → Answers (at mine.config (past mine.journal)) (Heard f) reply
-    → waiting mine theirs ≡ Some f → Goes mine theirs (Heard f) reply
-goes-heard mine theirs f reply limits room answers waits = record { limits = limits; room = room; answers = answers; told = tt; plain = tt; next = waits }
+    → waiting mine theirs ≡ Some f → IsBodyInRange f.body → Goes mine theirs (Heard f) reply
+goes-heard mine theirs f reply limits room answers waits range = record { limits = limits; room = room; answers = answers; told = tt; plain = tt; range = range; later = refl; next = waits }
 
 -- the place of the frame's entry was found
 pub record IsThere (h : Hearing) (theirs : Log) (f : Frame) : Type 0 where
@@ -261,6 +278,9 @@ heard-by h mine theirs f reply g there m =
       limits = m.limits;
       their_limits = m.their_limits;
       whole = m.whole;
+      unput = m.unput;
+      opens = m.opens;
+      range = m.range;
       moves = suc m.moves;
       world = world-hears mine theirs (Heard f) reply m.moves g m.world;
       knows =
@@ -273,17 +293,17 @@ heard-by h mine theirs f reply g there m =
           ∙ ap (λ (k : ℕ). k + 1) m.all ∙ sym (ap (λ (p : List Entry). count hears p) (back-logged mine (Heard f) reply));
     }
 
-pub heard-meets : (h : Hearing) (mine new theirs : Log) (f : Frame) (given : Given) → waiting mine theirs ≡ Some f → IsThere h theirs f → Appends mine (Heard f) (heard_due mine f) given new → Meets h mine theirs
+pub heard-meets : (h : Hearing) (mine new theirs : Log) (f : Frame) (given : Given) → waiting mine theirs ≡ Some f → IsBodyInRange f.body → IsThere h theirs f → Appends mine (Heard f) (heard_due mine f) given new → Meets h mine theirs
     → Meets (having_heard f h) new theirs
-heard-meets h mine new theirs f given waits there h' m =
+heard-meets h mine new theirs f given waits range there h' m =
     let a = heard-appended mine new f given h' in
-    subst (λ (l : Log). Meets (having_heard f h) l theirs) (sym a.is) (heard-by h mine theirs f a.reply (goes-heard mine theirs f a.reply m.limits a.room a.answers waits) there m)
+    subst (λ (l : Log). Meets (having_heard f h) l theirs) (sym a.is) (heard-by h mine theirs f a.reply (goes-heard mine theirs f a.reply m.limits a.room a.answers waits range) there m)
 
-pub heard-met : (h : Hearing) (mine new theirs : Log) (f : Frame) (given : Given) → waiting mine theirs ≡ Some f → Appends mine (Heard f) (heard_due mine f) given new → Meets h theirs mine
+pub heard-met : (h : Hearing) (mine new theirs : Log) (f : Frame) (given : Given) → waiting mine theirs ≡ Some f → IsBodyInRange f.body → Appends mine (Heard f) (heard_due mine f) given new → Meets h theirs mine
     → Meets h theirs new
-heard-met h mine new theirs f given waits h' m =
+heard-met h mine new theirs f given waits range h' m =
     let a = heard-appended mine new f given h' in
-    subst (λ (l : Log). Meets h theirs l) (sym a.is) (met h mine theirs (Heard f) a.reply (goes-heard mine theirs f a.reply m.their_limits a.room a.answers waits) m)
+    subst (λ (l : Log). Meets h theirs l) (sym a.is) (met h mine theirs (Heard f) a.reply (goes-heard mine theirs f a.reply m.their_limits a.room a.answers waits range) m)
 
 -- the place moves over entries that sent nothing
 pub meets-place : (h : Hearing) (place : ℕ) (mine theirs : Log) → place ≤ length theirs.journal → count sends (past (take place theirs.journal)) ≡ count sends (past (take h.place theirs.journal)) → Meets h mine theirs
@@ -293,6 +313,9 @@ meets-place h place mine theirs inside same m =
       limits = m.limits;
       their_limits = m.their_limits;
       whole = m.whole;
+      unput = m.unput;
+      opens = m.opens;
+      range = m.range;
       moves = m.moves;
       world = m.world;
       knows = record { frames = m.knows.frames; ids = m.knows.ids; few = m.knows.few; ended = m.knows.ended };

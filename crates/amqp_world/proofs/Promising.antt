@@ -40,6 +40,9 @@ start-meets mine theirs max_frame their_max limits their_limits =
       limits = limits;
       their_limits = their_limits;
       whole = refl;
+      unput = refl;
+      opens = (their_max, refl);
+      range = (tt, tt);
       moves = 2;
       world = inr (inl ((tt, tt), record { fair = fair-open theirs their_max their_limits; next = tt }), record { fair = fair-open mine max_frame limits; next = tt });
       knows = record { frames = refl; ids = refl; few = omega arith; ended = refl };

@@ -10,11 +10,13 @@ use Rattle.amqp_laws.specs.declared.entry.Entry.{Entry}
 use Rattle.amqp_laws.specs.Past.{past, some_entry}
 use Rattle.amqp_laws.specs.Said.{ends, is_own_end, transfer_in}
 use Rattle.amqp_laws.specs.Live.{live}
+use Rattle.amqp_laws.specs.Written.{AreInRange}
 use Rattle.amqp_journal.specs.Log.{Log}
 use Rattle.amqp_pair_laws.specs.Moves.{count}
 use Rattle.amqp_pair_laws.specs.World.{World, hears, sends}
 use Rattle.amqp_pair_laws.specs.Premise.{ids_heard}
 use Rattle.amqp_world.specs.declared.heard.Hearing.{Hearing}
+use Rattle.amqp_world.specs.Octets.{OpensOnce}
 
 abbrev pub unheard : ℕ → Hearing
 unheard first_id = record { frames = 0; firsts = 0; place = 0; first_id = first_id; ended = false }
@@ -55,6 +57,10 @@ pub record Meets (h : Hearing) (mine theirs : Log) : Type 0 where
   pub their_limits : IsWithinLimits theirs.config
   -- nothing of what the other did was forgotten
   pub whole : theirs.forgotten ≡ 0
+  -- its octets are those of its frames alone, which are as short as it was told at first
+  pub unput : theirs.put ≡ []
+  pub opens : (told : ℕ) × OpensOnce told (past theirs.journal)
+  pub range : AreInRange (past theirs.journal)
   pub moves : ℕ
   pub world : World theirs.config mine.config moves (past theirs.journal) (past mine.journal)
   pub knows : Knows h (past mine.journal)

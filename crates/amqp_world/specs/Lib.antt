@@ -6,6 +6,8 @@ pub mod Sides
 pub mod Calls
 -- what holds of every two ends
 pub mod Promises
+-- what the octets of an end say to the other
+pub mod Octets
 -- two ends that hear each other until nothing waits
 pub mod AtRest
 -- what the code keeps beside the journals

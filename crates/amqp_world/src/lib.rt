@@ -22,6 +22,7 @@
 #![tactic(auto)]
 
 mod ahead;
+mod fitting;
 pub mod heard;
 mod next;
 pub mod refusal;

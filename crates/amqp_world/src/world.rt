@@ -12,11 +12,13 @@ ghost use Rattle.amqp_world.specs.Sides.{of, other, opened};
 ghost use Rattle.amqp_world.specs.declared.side.Side.{Side};
 ghost use Rattle.amqp_world.specs.Promises.{AgreesAtRest, AreReached, HearingEnds, IsAgreed, KnowsTheOther, TakesNext, TransferFindsRoom, TakesWhatWasSent, TakesEver, TakesOnAttached, TakesAll, HearsWhatWasSaid, HasWhatItSaid, LearnsWhatWasSaid};
 ghost use Rattle.amqp_world.specs.Calls.{Does, IsRefused, Hears, IsUnheard};
+ghost use Rattle.amqp_world.specs.Octets.{HearsTheOctets};
 ghost use Rattle.amqp_world.specs.AtRest.{HaveHeard, IsAtRest, IsBounded, IsStopped, Turned, how_far};
 ghost use Rattle.amqp_world.specs.Knowing.{Knows, Meets};
 ghost use Rattle.amqp_world.specs.declared.heard.Hearing.{Hearing};
 
 use crate::ahead::reaches_ahead;
+use crate::fitting::{body_fits, op_fits};
 use crate::heard::{Heard, Hearing};
 use crate::next::{next_frame, whole};
 use crate::refusal::{HearRefusal, WorldRefusal};
@@ -24,6 +26,7 @@ use crate::resuming::resumes;
 use crate::settings::Settings;
 use crate::settling::{Settled, Turn, Unsettled};
 use crate::side::Side;
+use amqp_frames::written_is_framed;
 use amqp_journal::logged::Logged;
 use amqp_pair_laws::laws::laws;
 use amqp_rules::op::Op;
@@ -151,6 +154,9 @@ impl World {
     ///
     /// When each end has heard all that the other sent, they agree on their sessions, and while these are mapped on windows, links, counts, credit, drains
     /// and unsettled deliveries (`agree`). Two ends that only hear, in any order, hear at most twice as many frames as were in flight (`ends`).
+    ///
+    /// The octets of all units of an end are just the frames that it sent, none longer than the other takes, and what the other heard are the first of
+    /// these that have a body (`octets`). So a framer, to which these octets are fed in any pieces, reads what is heard (`amqp_frames`, `cutting`).
     pub fn laws(&self)
         ensures reached { (side : Side) → AreReached (of side self.now) (of (other side) self.now) }
         ensures next { (side : Side) → TakesNext (of side self.now) (of (other side) self.now) }
@@ -165,9 +171,12 @@ impl World {
         ensures learnt { (side : Side) → LearnsWhatWasSaid (of side self.now) (of (other side) self.now) }
         ensures agree { (side : Side) → AgreesAtRest (of side self.now) (of (other side) self.now) }
         ensures ends { (side : Side) → HearingEnds (of side self.now) (of (other side) self.now) }
+        ensures octets { (side : Side) → HearsTheOctets (of side self.now) (of (other side) self.now) }
     {
         let _ = &self.a;
         laws();
+        amqp_laws::laws::laws();
+        written_is_framed();
     }
 
     /// Returns whether nothing is on its way: each end has heard all frames with a body that the other sent.
@@ -293,6 +302,7 @@ fn own_by(mine: &mut Logged, hearing: &mut Hearing, op: &Op) -> Result<Given, Wo
     if resumes(op) {
         return Err(WorldRefusal::Resuming);
     }
+    op_fits(op);
     match mine.apply(op) {
         Ok(given) => {
             hearing.own(op);
@@ -319,6 +329,7 @@ fn hear_from(
         return Err(HearRefusal::Empty);
     };
     laws();
+    body_fits(frame);
     match mine.receive(frame) {
         Ok(given) => {
             hearing.hear(frame);

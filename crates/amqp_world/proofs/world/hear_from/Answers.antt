@@ -31,14 +31,14 @@ returns-in-Ok-clause-meets c =
     let h = record c.args.hearing.now { place = c.next_frame.new.place } in
     let x : Found h c.args.mine.now c.args.theirs.now c.in-Some.frame.now =
     found c.args.hearing.now c.next_frame.new.place c.args.mine.now c.args.theirs.now c.whole.result.now c.in-Some.frame.now c.requires c.whole.ensures c.in-Some.ensures.next c.in-Some.ensures.within c.in-Some.ensures.all c.in-Some.ensures.there in
-    subst (λ (k : Hearing). Meets k c.receive.new.self c.args.theirs.now) (sym c.hear.ensures) (heard-meets h c.args.mine.now c.receive.new.self c.args.theirs.now c.in-Some.frame.now c.in-Ok.given x.waits x.there c.in-Ok.ensures.step x.meets)
+    subst (λ (k : Hearing). Meets k c.receive.new.self c.args.theirs.now) (sym c.hear.ensures) (heard-meets h c.args.mine.now c.receive.new.self c.args.theirs.now c.in-Some.frame.now c.in-Ok.given x.waits c.body_fits.ensures x.there c.in-Ok.ensures.step x.meets)
 
 pub returns-in-Ok-clause-met : goal.returns-in-Ok-clause-met
 returns-in-Ok-clause-met c =
     let h = record c.args.hearing.now { place = c.next_frame.new.place } in
     let x : Found h c.args.mine.now c.args.theirs.now c.in-Some.frame.now =
     found c.args.hearing.now c.next_frame.new.place c.args.mine.now c.args.theirs.now c.whole.result.now c.in-Some.frame.now c.requires c.whole.ensures c.in-Some.ensures.next c.in-Some.ensures.within c.in-Some.ensures.all c.in-Some.ensures.there in
-    λ k m. heard-met k c.args.mine.now c.receive.new.self c.args.theirs.now c.in-Some.frame.now c.in-Ok.given x.waits c.in-Ok.ensures.step m
+    λ k m. heard-met k c.args.mine.now c.receive.new.self c.args.theirs.now c.in-Some.frame.now c.in-Ok.given x.waits c.body_fits.ensures c.in-Ok.ensures.step m
 
 pub returns-in-JournalFull-clause-refusal : goal.returns-in-JournalFull-clause-refusal
 returns-in-JournalFull-clause-refusal c =

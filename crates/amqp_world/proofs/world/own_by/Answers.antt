@@ -16,13 +16,13 @@ returns-in-Ok-clause-meets c =
     λ theirs m.
     subst (λ (h : Hearing). Meets h c.apply.new.self theirs) (sym c.own.ensures)
     (own-meets c.args.hearing.now c.args.mine.now c.apply.new.self theirs c.args.op.now c.in-Ok.given
-    (keeps-by c.args.hearing.now (past c.args.mine.now.journal) c.args.op.now c.requires (sym c.reaches_ahead.ensures ∙ c.if-reaches_ahead.false)) (sym c.resumes.ensures ∙ c.if-resumes.false) c.in-Ok.ensures.step m)
+    (keeps-by c.args.hearing.now (past c.args.mine.now.journal) c.args.op.now c.requires (sym c.reaches_ahead.ensures ∙ c.if-reaches_ahead.false)) (sym c.resumes.ensures ∙ c.if-resumes.false) c.op_fits.ensures c.in-Ok.ensures.step m)
 
 pub returns-in-Ok-clause-met : goal.returns-in-Ok-clause-met
 returns-in-Ok-clause-met c =
     λ h theirs m.
     own-met h c.args.mine.now c.apply.new.self theirs c.args.op.now c.in-Ok.given
-    (keeps-by c.args.hearing.now (past c.args.mine.now.journal) c.args.op.now c.requires (sym c.reaches_ahead.ensures ∙ c.if-reaches_ahead.false)) (sym c.resumes.ensures ∙ c.if-resumes.false) c.in-Ok.ensures.step m
+    (keeps-by c.args.hearing.now (past c.args.mine.now.journal) c.args.op.now c.requires (sym c.reaches_ahead.ensures ∙ c.if-reaches_ahead.false)) (sym c.resumes.ensures ∙ c.if-resumes.false) c.op_fits.ensures c.in-Ok.ensures.step m
 
 pub returns-in-Err-clause-refusal : goal.returns-in-Err-clause-refusal
 returns-in-Err-clause-refusal c = (keeps-by c.args.hearing.now (past c.args.mine.now.journal) c.args.op.now c.requires (sym c.reaches_ahead.ensures ∙ c.if-reaches_ahead.false), (sym c.resumes.ensures ∙ c.if-resumes.false), c.in-Err.ensures.refusal)

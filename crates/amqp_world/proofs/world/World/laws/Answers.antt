@@ -2,6 +2,7 @@ use Rattle.std.proofs.Common.{subst}
 use Rattle.amqp_world.specs.Sides.{Sides, of, other}
 use Rattle.amqp_world.specs.Knowing.{IsPair}
 use Rattle.amqp_world.proofs.Promising.{agrees, either, finds-room, has-said, hearing-ends, hears-said, knows-other, learns-said, reached, takes-all, takes-ever, takes-next, takes-on-attached, takes-sent}
+use Rattle.amqp_world.proofs.Octets.{hears-octets}
 use Rattle.amqp_world.proofs.world.World.laws.Goals as goal
 
 pub returns-clause-reached : goal.returns-clause-reached
@@ -96,4 +97,10 @@ pub returns-clause-ends : goal.returns-clause-ends
 returns-clause-ends c =
     λ side.
     hearing-ends c.laws.ensures.ends (of side c.args.self.now) (of (other side) c.args.self.now)
+    (either c.self.inside.a_hears c.self.inside.b_hears c.args.self.now (subst (λ (w : Sides). IsPair c.self.inside.a_hears c.self.inside.b_hears w.a w.b) c.self.view_is c.self.invariant) side)
+
+pub returns-clause-octets : goal.returns-clause-octets
+returns-clause-octets c =
+    λ side.
+    hears-octets c.written_is_framed.ensures c.laws-2.ensures.written (of side c.args.self.now) (of (other side) c.args.self.now)
     (either c.self.inside.a_hears c.self.inside.b_hears c.args.self.now (subst (λ (w : Sides). IsPair c.self.inside.a_hears c.self.inside.b_hears w.a w.b) c.self.view_is c.self.invariant) side)
