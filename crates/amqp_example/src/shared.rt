@@ -4,7 +4,9 @@ ghost use Rattle.amqp_shared.specs.Passes.{IsNamed};
 use crate::connection::End;
 use crate::operations::attach;
 use amqp_conn::{Bytes, Config, Octets, Op, Role, Tag, Text, ops};
-use amqp_shared::{Closed, Guard, Name, NotClosed, Pass, Seed, Shared, WriterEnd, open_shared};
+use amqp_shared::{
+    Closed, Guard, Name, NotClosed, Pass, Retention, Seed, Shared, WriterEnd, open_shared,
+};
 use anyhow::{bail, ensure};
 use std::alloc::{AllocError, Global};
 use std::io::Write;
@@ -40,7 +42,7 @@ fn share<R: AllocGlobal + Threads + Wait + Sync>(
     peer: &mut End,
 ) -> anyhow::Result<()> {
     let config = Config::new(Text::new(rt.alloc(), "shared")?);
-    let seed = Seed::new(rt.alloc(), config, RING)?;
+    let seed = Seed::new(rt.alloc(), config, RING, Retention::All)?;
     talk::<Brand, R>(rt, lines, seed, peer)
 }
 
@@ -50,7 +52,7 @@ fn talk<N: Name + Send + Sync, R: AllocGlobal + Threads + Wait + Sync>(
     seed: Seed,
     peer: &mut End,
 ) -> anyhow::Result<()>
-    requires { IsNamed seed N.name N.parts N.ring }
+    requires { IsNamed seed N.name N.parts N.ring N.retention }
 {
     let (shared, mut pass, mut units) = open_shared::<N>(seed);
     let mut ours = Ours {

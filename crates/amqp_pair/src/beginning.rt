@@ -6,7 +6,7 @@ use crate::options::{MAX_FRAME, Options};
 use crate::reading::WINDOW;
 use crate::writing::RING;
 use amqp_conn::Config;
-use amqp_shared::Seed;
+use amqp_shared::{Retention, Seed};
 use amqp_types::Text;
 use std::alloc::Global;
 
@@ -26,8 +26,16 @@ pub fn seed(alloc: Global, name: &str, options: &Options) -> Result<Seed, PairFa
         window: WINDOW,
         journal_limit: 1073741824,
     };
-    match Seed::new(alloc, config, RING) {
+    match Seed::new(alloc, config, RING, retention_for(options.keep)) {
         Ok(seed) => Ok(seed),
         Err(fault) => Err(PairFault::Start(fault)),
+    }
+}
+
+/// An end that keeps a number of entries forgets all of them when it has more.
+fn retention_for(keep: Option<u32>) -> Retention {
+    match keep {
+        Some(_) => Retention::UntilForgotten,
+        None => Retention::All,
     }
 }

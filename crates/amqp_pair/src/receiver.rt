@@ -53,7 +53,7 @@ fn receive<N, R>(
 where
     N: Name + Send + Sync,
     R: Threads + Wait + Sync,
-    requires { IsNamed seed N.name N.parts N.ring }
+    requires { IsNamed seed N.name N.parts N.ring N.retention }
 {
     match Means::new(alloc, stream) {
         Ok(means) => receive_by::<N, R>(rt, alloc, seed, options, means),
@@ -75,7 +75,7 @@ fn receive_by<N, R>(
 where
     N: Name + Send + Sync,
     R: Threads + Wait + Sync,
-    requires { IsNamed seed N.name N.parts N.ring }
+    requires { IsNamed seed N.name N.parts N.ring N.retention }
 {
     let (shared, mut reading, writer) = open_shared::<N>(seed);
     let beginning = Beginning {

@@ -12,6 +12,7 @@ use Rattle.bytes.specs.contracts.unique.BytesMut as buffer
 use Rattle.bytes.specs.contracts.shared.Bytes as bytes
 use Rattle.amqp_history.proofs.history.History.TheSendSync as history_crosses
 use Rattle.amqp_shared.proofs.waiting.Conditions.TheSendSync as conditions
+use Rattle.amqp_shared.proofs.retention.Retention.TheSendSync as retention
 use Rattle.amqp_shared.proofs.waiting.Waiters.TheSendSync as waiters
 use Rattle.amqp_shared.proofs.sleepers.Sleepers.TheSendSync as sleepers
 use Rattle.std.proofs.sync.ledger.Book.TheSendSync as book
@@ -265,7 +266,7 @@ producer_send = producer.the_field_send _ _ _ _ _ unit.the_send heap.the_send fr
 inside_send : (N : RattleType) (n : name.Ghosts N.Denot) (l : ledger.Ghosts N.Denot) → IsSend (inside.the_row N n l)
 inside_send N n l =
     recorded_send (inside.the_field N n l).row _ _ (inside.the_type N n l).to_one
-    (struct_send (shape (inside.the_type N n l)) (conn_send, (book.the_send N l, (producer_send, (search sendable, (search (sendable, crosses, waiters.the_field_send), (search (sendable, crosses, sleepers.the_field_send), tt)))))))
+    (struct_send (shape (inside.the_type N n l)) (conn_send, (book.the_send N l, (producer_send, (search sendable, (search (sendable, crosses, retention.the_field_send), (search (sendable, crosses, waiters.the_field_send), (search (sendable, crosses, sleepers.the_field_send), tt))))))))
 
 pub locked_send : (N : RattleType) (n : name.Ghosts N.Denot) (l : ledger.Ghosts N.Denot) → IsSend (locked.the_row N n l)
 locked_send N n l = search (sendable, inside_send) depth 10

@@ -1,5 +1,5 @@
 -- What an operation that was done gives, and its receipt.
-use Rattle.std.proofs.Common.{◌≡◌, ℕ, ◌+◌, ◌++◌, List, [], ◌∷◌, length, Bool, true, false, cond, Option, Some, None, Ok, Err, refl, sym, ap, ◌∙◌, subst, nat_le, length-append}
+use Rattle.std.proofs.Common.{◌≡◌, ℕ, ◌+◌, ◌≤◌, ◌++◌, List, [], ◌∷◌, length, Bool, true, false, cond, Option, Some, None, Ok, Err, refl, sym, ap, ◌∙◌, subst, nat_le, arith, length-append}
 use Rattle.std.specs.Prelude.{slice_get, find, not, ◌==◌}
 use Rattle.std.proofs.lemmas.Bool.{eqb-true}
 use Rattle.amqp_events.specs.Joined.{Delivery}
@@ -93,15 +93,17 @@ last-get : {X : Type 0} (xs : List X) (x : X) → slice_get (xs ++ x ∷ []) (le
 last-get [] x = refl
 last-get (y ∷ ys) x = last-get ys x
 
-pub is-receipt : (k l : Core) (o : Op) (gives : Given) (j : Log) (r : Receipt) → Does k o (Ok gives) l → j.journal ≡ l.log.journal
-    → r.place ≡ length k.log.journal → r.link ≡ given_link gives → r.id ≡ given_id gives → IsReceipt j o gives r
-is-receipt k l o gives j r (reply, due, is-given, is) same place link id =
+pub is-receipt : (k l : Core) (o : Op) (gives : Given) (j : Log) (r : Receipt) → Does k o (Ok gives) l → j.journal ≡ l.log.journal → j.forgotten ≡ l.log.forgotten
+    → k.log.forgotten ≤ length k.log.journal → r.place ≡ length k.log.journal → r.link ≡ given_link gives → r.id ≡ given_id gives → IsReceipt j o gives r
+is-receipt k l o gives j r (reply, due, is-given, is) same kept stored place link id =
     let e : Entry = record { step = Own o; reply = reply } in
     let journal : j.journal ≡ k.log.journal ++ e ∷ [] = same ∙ ap (λ (x : Core). x.log.journal) is in
     let there : slice_get j.journal r.place ≡ Some e = ap (λ n. slice_get j.journal n) place ∙ ap (λ xs. slice_get xs (length k.log.journal)) journal ∙ last-get k.log.journal e in
     let many = ap length journal ∙ length-append k.log.journal (e ∷ []) in
+    let forgotten : j.forgotten ≡ k.log.forgotten = kept ∙ ap (λ (x : Core). x.log.forgotten) is in
     record {
       stands = (e, there, refl, ap given_link (sym is-given) ∙ sym link, ap given_id (sym is-given) ∙ sym id);
+      stored = omega (arith, forgotten, stored, place);
       last = ap (λ n. n + 1) place ∙ sym many;
       gave = (e, there, sym is-given);
     }

@@ -30,10 +30,11 @@ use Rattle.amqp_conn.proofs.Calls.{closes-once}
 use Rattle.amqp_shared.specs.Growing.{Grows}
 use Rattle.amqp_shared.specs.Passes.{steps_fed}
 use Rattle.amqp_shared.specs.Units.{numbered_from}
+use Rattle.amqp_shared.proofs.Forgetting.{Keeps, fed-keeps, ends-keeps}
 use Rattle.amqp_shared.proofs.Numbering.{taken-append}
 
 pub stands : (k : Core) → Grows k k 0
-stands k = record { popped = refl; settings = refl; more = []; all = sym (append-nil (units k.log)); journal = sym (add-zero (length k.log.journal)) }
+stands k = record { popped = refl; forgotten = refl; settings = refl; more = []; all = sym (append-nil (units k.log)); journal = sym (add-zero (length k.log.journal)) }
 
 pub stays : (k l : Core) → l ≡ k → Grows k l 0
 stays k l e = subst (λ (x : Core). Grows k x 0) (sym e) (stands k)
@@ -44,6 +45,7 @@ steps k l s r w e =
     subst (λ (x : Core). Grows k x 1) (sym e)
     (record {
       popped = refl;
+      forgotten = refl;
       settings = refl;
       more = octets_sent (record { step = s; reply = r });
       all = logged-behind k.log (record { step = s; reply = r }) w;
@@ -54,23 +56,23 @@ steps k l s r w e =
 pub sends : (k l : Core) (p : Phase) (x : List ℕ) → l ≡ in_phase p (sending x k) → Grows k l 0
 sends k l p x e =
     subst (λ (y : Core). Grows k y 0) (sym e)
-    (record { popped = refl; settings = refl; more = x ∷ []; all = put-behind k.log x; journal = sym (add-zero (length k.log.journal)) })
+    (record { popped = refl; forgotten = refl; settings = refl; more = x ∷ []; all = put-behind k.log x; journal = sym (add-zero (length k.log.journal)) })
 
 entries : (before after : List Entry) (b : Bool) (given : Given) → AddsEntry before after b given → length after ≡ length before + cond b 1 0
 entries before after true given (e, is, gives) = ap length is ∙ length-append before (e ∷ [])
 entries before after false given (same, gives) = ap length same ∙ sym (add-zero (length before))
 
-onward : (k l : Core) (n : ℕ) → Onward k l → Within k → length l.log.journal ≡ length k.log.journal + n → Grows k l n
-onward k l n o w h =
+onward : (k l : Core) (n : ℕ) → Onward k l → Keeps k l → Within k → length l.log.journal ≡ length k.log.journal + n → Grows k l n
+onward k l n o f w h =
     let b = o.behind w in
-    record { popped = o.popped; settings = o.limits; more = b.more; all = b.all; journal = h }
+    record { popped = o.popped; forgotten = f; settings = o.limits; more = b.more; all = b.all; journal = h }
 
 -- a feed that takes octets, or answers a violation
 fed-grows : (c d : Connection) (piece : List ℕ) (fed : Fed) → Within c.core → Feeds c piece (Ok fed) d → Grows c.core d.core (cond fed.stepped 1 0)
 fed-grows c d piece fed w t = by fed.violation t
   where
     by : (v : Option Violation) → Takes c piece fed v d → Grows c.core d.core (cond fed.stepped 1 0)
-    by None t = onward c.core d.core (cond fed.stepped 1 0) (fed-onward c d (take fed.used piece) t.1) w (entries c.core.log.journal d.core.log.journal fed.stepped fed.given t.2)
+    by None t = onward c.core d.core (cond fed.stepped 1 0) (fed-onward c d (take fed.used piece) t.1) (fed-keeps c d (take fed.used piece) t.1) w (entries c.core.log.journal d.core.log.journal fed.stepped fed.given t.2)
     by (Some v) t =
         let a = t.2.answers in
         subst (λ (b : Bool). Grows c.core d.core (cond b 1 0)) (sym t.1) (steps c.core d.core (Own a.op) a.reply w a.does)
@@ -79,7 +81,7 @@ fed-grows c d piece fed w t = by fed.violation t
 ends-grows : (e : ConnFault) (k l : Core) → Within k → l ≡ ending e k → Grows k l 0
 ends-grows e k l w is =
     let journal : length (ending e k).log.journal ≡ length k.log.journal + 0 = ap length (closes-once e k).journal ∙ sym (add-zero (length k.log.journal)) in
-    subst (λ (x : Core). Grows k x 0) (sym is) (onward k (ending e k) 0 (ends-onward e k) w journal)
+    subst (λ (x : Core). Grows k x 0) (sym is) (onward k (ending e k) 0 (ends-onward e k) (ends-keeps e k) w journal)
 
 ended-grows : (e : ConnFault) (c d : Connection) (piece : List ℕ) → Within c.core → Ends e (more piece c) d → Grows c.core d.core 0
 ended-grows e c d piece w t = ends-grows e c.core d.core w (ap (λ (x : Connection). x.core) t.1)

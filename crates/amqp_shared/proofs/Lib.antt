@@ -1,9 +1,12 @@
 pub mod Numbering
+pub mod Forgetting
 pub mod Growth
 pub mod Rings
+pub mod Retained
 pub mod Found
 pub mod Due
 pub mod Crossing
 pub mod Walks
 pub mod Rounds
+pub mod Steps
 pub mod Held

@@ -72,7 +72,7 @@ module _ (Due Rests : Tally → Type 0) where
   grants-more (Err e) old o r new h = same-more old new h.1
 
 module _ {W : Type 0} (consumes : W → Taken → DeliveryState → W → Type 0) (d : Terms) (more : ℕ) where
-  batched-more : (old : Goer W) (size : ℕ) (r : Result (Unit {0}) Refusal) (new : Goer W) → Batched consumes d more old size r new → old.pass.made + size ≤ new.pass.made
+  pub batched-more : (old : Goer W) (size : ℕ) (r : Result (Unit {0}) Refusal) (new : Goer W) → Batched consumes d more old size r new → old.pass.made + size ≤ new.pass.made
   batched-more old size r new h =
       let items = map (λ (j : Judged). j.item) h.batch in
       let taken = takes-more d.link items (more + 1 - length items) old.pass h.between h.takes.2 in

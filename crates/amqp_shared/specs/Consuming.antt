@@ -1,6 +1,6 @@
 -- What a consumer does: it takes a delivery, has its work consume it, sends its state and grants its credit, and
 -- repeats this until an operation is refused.
-use Rattle.std.specs.Prelude.{⊤, ℕ, zero, suc, ◌≡◌, ◌⊎◌, not, false, Some, Result, Ok, Err, IsTrue, IsFalse}
+use Rattle.std.specs.Prelude.{⊤, ℕ, zero, suc, ◌≡◌, ◌≤◌, ◌+◌, ◌*◌, ◌⊎◌, not, false, Some, Result, Ok, Err, IsTrue, IsFalse}
 use Rattle.amqp_performatives.specs.declared.bodies.Role.TheVariants.{Receiver}
 use Rattle.amqp_performatives.specs.declared.state.DeliveryState.{DeliveryState}
 use Rattle.amqp_rules.specs.declared.op.Op.{Op}
@@ -72,6 +72,12 @@ Asks old o (Err e) new = new ≡ after o (Err e) old
 abbrev pub Takes : ℕ → Tally → Result Taken Refusal → Tally → Type 0
 Takes link old (Ok t) new = (r : Receipt) × (new ≡ after (op.Take link) (Ok (r, given.Taken t)) old) × (t.link ≡ link)
 Takes link old (Err e) new = (new ≡ after (op.Take link) (Err e) old) × EndsWait e
+
+-- A pass that had made old steps has made new ones after count deliveries: for each of them one step that took it, and
+-- at most two more, one for its state and one for a grant.
+pub record MakesSteps (old count new : ℕ) : Type 0 where
+  pub least : old + count ≤ new
+  pub most : new ≤ old + 3 * count
 
 -- the state of a consumer: its pass, and its work
 pub record Goer (W : Type 0) : Type 0 where

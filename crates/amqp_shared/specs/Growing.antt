@@ -5,6 +5,7 @@ use Rattle.amqp_conn.specs.Connection.{Core}
 
 pub record Grows (old new : Core) (steps : ℕ) : Type 0 where
   pub popped : new.log.popped ≡ old.log.popped
+  pub forgotten : new.log.forgotten ≡ old.log.forgotten
   pub more : List (List ℕ)
   pub all : units new.log ≡ units old.log ++ more
   pub settings : new.log.config ≡ old.log.config

@@ -1,5 +1,6 @@
 pub mod Ring
 pub mod Units
+pub mod Retaining
 pub mod Session
 pub mod Passes
 pub mod Growing

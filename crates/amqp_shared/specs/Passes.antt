@@ -8,6 +8,7 @@ use Rattle.amqp_conn.specs.declared.fault.ConnFault.{ConnFault}
 use Rattle.amqp_conn.specs.declared.fed.Fed.{Fed}
 use Rattle.amqp_conn.specs.Connection.{Connection}
 use Rattle.amqp_shared.specs.Ring.{Ring}
+use Rattle.amqp_shared.specs.declared.retention.Retention.{Retention}
 use Rattle.amqp_shared.specs.declared.refused.CloseReason.{CloseReason}
 use Rattle.amqp_shared.specs.declared.refused.CloseReason.TheVariants.{PassesMissing, NoMemory}
 
@@ -62,10 +63,13 @@ pub record Planted : Type 0 where
   pub ring : Option Ring
   -- how many units the ring has room for
   pub room : ℕ
+  -- which entries of its journal are kept
+  pub retention : Retention
 
 -- the name with these members is the seed's
-pub record IsNamed (seed : Planted) (name parts : ℕ) (ring : Option Ring) : Type 0 where
+pub record IsNamed (seed : Planted) (name parts : ℕ) (ring : Option Ring) (retention : Retention) : Type 0 where
   pub name_is : seed.name ≡ name
   pub parts_is : seed.parts ≡ parts
   pub ring_is : seed.ring ≡ ring
+  pub retention_is : seed.retention ≡ retention
   pub whole : parts ≡ 65536

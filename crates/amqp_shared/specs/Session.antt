@@ -15,13 +15,15 @@ use Rattle.amqp_journal.specs.Units.{units, Stands}
 use Rattle.amqp_conn.specs.Connection.{Connection}
 use Rattle.amqp_conn.specs.Calling.{Does, due_in}
 use Rattle.amqp_shared.specs.Ring.{Ring}
+use Rattle.amqp_shared.specs.Retaining.{IsRetained}
+use Rattle.amqp_shared.specs.declared.retention.Retention.{Retention}
 use Rattle.amqp_shared.specs.Units.{moved_of, unmoved}
 use Rattle.std.specs.Prelude.{Option}
 
 -- The invariant of the data under the lock: the passes have made the journal's steps; what was pushed is what left the
--- connection; and units wait in the connection only if the ring had no free slot when it was last checked. The limit is
--- the journal's.
-pub record IsHeld (c : Connection) (total : ℕ) (pushed : List frame.Unit) (free limit : ℕ) (ring own : Option Ring) (parts : ℕ) : Type 0 where
+-- connection; units wait in the connection only if the ring had no free slot when it was last checked; and no entry of
+-- the journal was forgotten if all are to be kept. The limit is the journal's.
+pub record IsHeld (c : Connection) (total : ℕ) (pushed : List frame.Unit) (free limit : ℕ) (ring own : Option Ring) (parts : ℕ) (retention due : Retention) : Type 0 where
   pub counted : total ≡ length c.core.log.journal
   pub pushed_is : pushed ≡ moved_of c
   pub no_more_moved : c.core.log.popped ≤ length (units c.core.log)
@@ -29,6 +31,8 @@ pub record IsHeld (c : Connection) (total : ℕ) (pushed : List frame.Unit) (fre
   pub ring_is : ring ≡ own
   pub all_parts : parts ≡ 65536
   pub limited : limit ≡ c.core.log.config.journal_limit
+  pub retention_is : retention ≡ due
+  pub retained : IsRetained due c.core.log
 
 -- the operation was done, and units may have been moved to the ring
 pub record Makes (old : Connection) (o : Op) (gives : Given) (new : Connection) : Type 0 where
@@ -36,9 +40,10 @@ pub record Makes (old : Connection) (o : Op) (gives : Given) (new : Connection) 
   pub unread : new.unread ≡ old.unread
   pub more : old.core.log.popped ≤ new.core.log.popped
 
--- the receipt is for the operation at the journal's last entry, and the entry gave this
+-- the receipt is for the operation at the journal's last entry, which is stored, and the entry gave this
 pub record IsReceipt (l : Log) (o : Op) (gives : Given) (r : Receipt) : Type 0 where
   pub stands : Stands l o r.place r.link r.id
+  pub stored : l.forgotten ≤ r.place
   pub last : r.place + 1 ≡ length l.journal
   pub gave : (e : Entry) × (slice_get l.journal r.place ≡ Some e) × (e.reply.given ≡ gives)
 

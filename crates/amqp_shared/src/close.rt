@@ -2,6 +2,7 @@
 ghost use Rattle.std.specs.Prelude.{◌≡◌, ◌≢◌, ◌<◌, ◌≤◌, ◌+◌, ◌++◌, ◌↔◌, [], length, vec_len, vec_capacity, IfOk, IfErr, IsTrue};
 ghost use Rattle.amqp_journal.specs.Units.{units};
 ghost use Rattle.amqp_shared.specs.Passes.{total_made, total_parts, IsCloseReason};
+ghost use Rattle.amqp_shared.specs.Retaining.{IsRetained};
 ghost use Rattle.amqp_shared.specs.Units.{units_of, backlog_of, MovesUnits};
 
 use crate::closing::{all_made, empty_backlog, empty_ring, totals};
@@ -79,6 +80,7 @@ impl<N: Name> Shared<N> {
         ensures none_waits { IfOk result (λ c. backlog_of c.conn ≡ []) }
         ensures taken { IfOk result (λ c. c.taken ≡ length writer) }
         ensures steps { IfOk result (λ c. total_made passes.items ≡ length c.conn.core.log.journal) }
+        ensures retained { IfOk result (λ c. IsRetained N.retention c.conn.core.log) }
         ensures refusal { IfErr result (λ e. IsCloseReason (total_parts passes.items) (total_made passes.items) (length e.locked.conn.core.log.journal) e.reason) }
         ensures back { IfErr result (λ e. (e.passes.items ≡ passes.items) × (e.writer ≡ writer)) }
     {
@@ -99,6 +101,7 @@ fn close<N: Name>(
     ensures none_waits { IfOk result (λ c. backlog_of c.conn ≡ []) }
     ensures taken { IfOk result (λ c. c.taken ≡ length writer) }
     ensures steps { IfOk result (λ c. total_made passes.items ≡ length c.conn.core.log.journal) }
+    ensures retained { IfOk result (λ c. IsRetained N.retention c.conn.core.log) }
     ensures refusal { IfErr result (λ e. IsCloseReason (total_parts passes.items) (total_made passes.items) (length e.locked.conn.core.log.journal) e.reason) }
     ensures back { IfErr result (λ e. (e.locked ≡ locked) × (e.passes.items ≡ passes.items) × (e.writer ≡ writer)) }
 {
@@ -148,12 +151,14 @@ fn take_apart<N: Name>(
     ensures none_waits { backlog_of result.conn ≡ [] }
     ensures taken { result.taken ≡ length writer }
     ensures steps { total_made passes.items ≡ length result.conn.core.log.journal }
+    ensures retained { IsRetained N.retention result.conn.core.log }
 {
     let Locked {
         conn,
         book,
         producer,
         limit: _,
+        retention: _,
         waiters: _,
         sleepers: _,
     } = locked;

@@ -1,6 +1,6 @@
 //! Threads that take deliveries, consume them and settle them.
 ghost use Rattle.std.specs.Prelude.{◌≡◌, ℕ, ◌<◌, map, slice_index_or, vec_len, IfOk, IfSome};
-ghost use Rattle.amqp_shared.specs.Consuming.{ConsumesLeft, Finishes};
+ghost use Rattle.amqp_shared.specs.Consuming.{ConsumesLeft, Finishes, MakesSteps};
 ghost use Rattle.amqp_shared.specs.Batching.{RunsBatches, FinishesBatches};
 ghost use Rattle.amqp_shared.specs.declared.renewal.Renewal.TheVariants as renewal;
 ghost use Rattle.amqp_shared.specs.Passes.{Tally};
@@ -223,6 +223,7 @@ pub fn run_consumers<N: Name + Send + Sync, W: Work + Send + Drop, R: Threads + 
 ) -> Result<Vec<Consumed<N, W>>, AllocError>
     requires { vec_len passes ≡ vec_len works }
     ensures len { IfOk result (λ v. vec_len v ≡ vec_len passes) }
+    ensures steps { IfOk result (λ v. (i : ℕ) (p : Tally) (d : _) → i < vec_len passes → MakesSteps (slice_index_or passes.items i p).made (slice_index_or v.items i d).count (slice_index_or v.items i d).pass.made) }
     ensures each { IfOk result (λ v. (i : ℕ) (p : Tally) (w : _) (d : _) → i < vec_len passes → Finishes W.consumes link credit renewal.Each (record { pass = slice_index_or passes.items i p; work = slice_index_or works.items i w }) (slice_index_or v.items i d).count (slice_index_or v.items i d).left (slice_index_or v.items i d).stopped (record { pass = (slice_index_or v.items i d).pass; work = (slice_index_or v.items i d).work })) }
 {
     run_consumers_with(rt, shared, passes, works, link, credit, Renewal::Each)
@@ -246,6 +247,7 @@ pub fn run_consumers_with<N: Name + Send + Sync, W: Work + Send + Drop, R: Threa
 ) -> Result<Vec<Consumed<N, W>>, AllocError>
     requires { vec_len passes ≡ vec_len works }
     ensures len { IfOk result (λ v. vec_len v ≡ vec_len passes) }
+    ensures steps { IfOk result (λ v. (i : ℕ) (p : Tally) (d : _) → i < vec_len passes → MakesSteps (slice_index_or passes.items i p).made (slice_index_or v.items i d).count (slice_index_or v.items i d).pass.made) }
     ensures each { IfOk result (λ v. (i : ℕ) (p : Tally) (w : _) (d : _) → i < vec_len passes → Finishes W.consumes link credit renewal (record { pass = slice_index_or passes.items i p; work = slice_index_or works.items i w }) (slice_index_or v.items i d).count (slice_index_or v.items i d).left (slice_index_or v.items i d).stopped (record { pass = (slice_index_or v.items i d).pass; work = (slice_index_or v.items i d).work })) }
 {
     let terms = Terms {
@@ -281,6 +283,7 @@ pub fn run_consumers_in_batches<
 ) -> Result<Vec<Consumed<N, W>>, AllocError>
     requires { vec_len passes ≡ vec_len works }
     ensures len { IfOk result (λ v. vec_len v ≡ vec_len passes) }
+    ensures steps { IfOk result (λ v. (i : ℕ) (p : Tally) (d : _) → i < vec_len passes → MakesSteps (slice_index_or passes.items i p).made (slice_index_or v.items i d).count (slice_index_or v.items i d).pass.made) }
     ensures each { IfOk result (λ v. (i : ℕ) (p : Tally) (w : _) (d : _) → i < vec_len passes → FinishesBatches W.consumes terms more (record { pass = slice_index_or passes.items i p; work = slice_index_or works.items i w }) (slice_index_or v.items i d).count (slice_index_or v.items i d).left (slice_index_or v.items i d).stopped (record { pass = (slice_index_or v.items i d).pass; work = (slice_index_or v.items i d).work })) }
 {
     match jobs_of(passes, works, terms, more) {

@@ -18,9 +18,11 @@ pub(crate) fn recall(conn: &Conn)
     ensures some { conn.now.core.log.popped ≤ length (units conn.now.core.log) }
     ensures few { length (units conn.now.core.log) < 2 ^ 64 }
     ensures short { length conn.now.core.log.journal < 2 ^ 63 }
+    ensures stored { conn.now.core.log.forgotten ≤ length conn.now.core.log.journal }
 {
     let _ = conn.logged().put_out();
     let _ = conn.logged().steps();
+    let _ = conn.logged().journal();
 }
 
 /// Moves units from the connection to the ring, as many as fit.

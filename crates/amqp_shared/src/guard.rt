@@ -1,20 +1,14 @@
 //! The guard that the lock returns: it lends the session, and wakes threads on its release.
 ghost use Rattle.std.specs.Prelude.{◌≡◌};
+ghost use Rattle.amqp_shared.specs.Retaining.{IsRetained};
 
+use crate::condition::Condition;
 use crate::locked::Locked;
 use crate::name::Name;
 use crate::waiting::{Conditions, Due, Want};
 use amqp_conn::Conn;
-use std::hint::spin_loop;
 use std::marker::Model;
-use std::sync::{Condvar, Mutex, MutexGuard, Wait};
-use std::time::Duration;
-
-/// How often a thread checks its condition before it sleeps: some microseconds.
-const LOOKS: u32 = 50;
-
-/// The longest sleep, in seconds. A thread that wakes without a notification tries again and goes back to sleep.
-const LONGEST: u64 = 86400;
+use std::sync::{Mutex, MutexGuard, Wait};
 
 /// The session of a shared connection, lent until this guard is dropped.
 ///
@@ -64,21 +58,13 @@ fn give_back<'a, N: Name>(
     mutex
 }
 
-/// Spins for some microseconds, because a sleep costs a system call.
-fn is_told(condition: &Condvar, seen: u64) -> bool {
-    for _ in 0..LOOKS {
-        if condition.notifications() != seen {
-            return true;
-        }
-        spin_loop();
-    }
-    false
-}
-
 impl<'a, N: Name> Guard<'a, N> {
     /// Returns the connection, with its phase, its journal and its endpoint.
+    ///
+    /// No entry of the journal was forgotten if the seed keeps all of them.
     pub fn conn(&self) -> &Conn
-        ensures { result.now ≡ self.now.conn }
+        ensures value { result.now ≡ self.now.conn }
+        ensures retained { IsRetained N.retention self.now.conn.core.log }
     {
         self.locked.conn()
     }
@@ -99,18 +85,15 @@ impl<'a, N: Name> Guard<'a, N> {
     }
 
     /// Releases the lock until the condition is notified, and takes it again. Wakes the noted threads before it waits.
-    pub(crate) fn wait<R: Wait>(self, rt: &R, condition: &Condvar) -> Guard<'a, N> {
+    pub(crate) fn wait<R: Wait>(self, rt: &R, condition: &Condition) -> Guard<'a, N> {
         let Guard {
             locked,
             conditions,
             due,
         } = self;
-        // Read under the lock: no notification from here on is missed.
-        let seen = condition.notifications();
+        let count = condition.count(&locked);
         let mutex = give_back(locked, conditions, due);
-        if !is_told(condition, seen) {
-            condition.sleep(rt, seen, Duration::from_secs(LONGEST));
-        }
+        condition.wait(rt, count);
         Guard {
             locked: mutex.lock(rt),
             conditions,

@@ -12,9 +12,11 @@
 //! | `writer` | `WriterEnd`: the consumer of the ring, from which units are written without the lock |
 //! | `consumers`, `batches`, `renewal` | threads that take deliveries, settle them and grant credit |
 //! | `seed`, `name` | a connection before it is shared, and the type that distinguishes shared connections |
+//! | `retention` | `Retention`: which entries of its journal a shared connection keeps |
 //! | `close`, `closing`, `refused` | taking a shared connection apart |
 //! | `growing` | what each call adds to a connection |
 //! | `waiting` | what threads wait for, and which steps may bring it |
+//! | `condition` | a condition at which threads wait, whose notifications are counted under the lock |
 //! | `sleepers` | the threads that sleep until a delivery comes, and which of them is woken |
 //!
 //! # How threads share a connection
@@ -46,7 +48,9 @@
 //! The lock guards a `Conn`, with all that its type keeps: its journal is lawful, and the endpoint is what the journal
 //! makes it. Each call on a guard does what the same call of `Conn` does, and units may move on to the ring. The passes
 //! have made exactly the journal's steps. Each unit is pushed once, in order, and numbered: what the writer took, then
-//! what the ring holds, then the backlog, are the units.
+//! what the ring holds, then the backlog, are the units. If the seed keeps all entries (`Retention::All`), none was
+//! forgotten each time that the lock is taken, and when the connection is closed: so the session is what its stored
+//! journal makes it.
 //!
 //! # What is not proved
 //!
@@ -62,6 +66,7 @@
 mod batches;
 mod close;
 mod closing;
+mod condition;
 mod consumers;
 mod growing;
 mod guard;
@@ -73,6 +78,7 @@ mod name;
 mod pass;
 mod refused;
 mod renewal;
+mod retention;
 mod seed;
 mod shared;
 mod sleepers;
@@ -107,6 +113,7 @@ pub use name::{Name, Numbered};
 pub use pass::Pass;
 pub use refused::CloseReason;
 pub use renewal::Renewal;
+pub use retention::Retention;
 pub use seed::Seed;
 pub use shared::{Shared, open_shared};
 pub use writer::WriterEnd;

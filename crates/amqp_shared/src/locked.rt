@@ -4,8 +4,9 @@ ghost use Rattle.amqp_journal.specs.Units.{units};
 ghost use Rattle.amqp_conn.specs.Connection.{connection, in_phase};
 ghost use Rattle.amqp_conn.specs.Feeding.{Feeds, MovesOn};
 ghost use Rattle.amqp_conn.specs.Leaving.{Gives, GivesOf, left_of, but_left};
-ghost use Rattle.amqp_conn.specs.Calling.{Closes, forgotten};
+ghost use Rattle.amqp_conn.specs.Calling.{Closes};
 ghost use Rattle.amqp_shared.specs.Passes.{raised, CountsStep};
+ghost use Rattle.amqp_shared.specs.Retaining.{IsRetained, may_forget, forgetting_by};
 ghost use Rattle.amqp_shared.specs.Session.{Makes, IsReceipt, IsRefused, Fits};
 ghost use Rattle.amqp_shared.specs.Units.{MovesUnits, unmoved};
 ghost use Rattle.amqp_shared.specs.Waking.{Held, told_of_units, units_came, with_want, with_units, waits_for, is_ended, is_full};
@@ -13,6 +14,7 @@ ghost use Rattle.amqp_shared.specs.Waking.{Held, told_of_units, units_came, with
 use crate::growing::{push_units, recall, steps_of};
 use crate::name::{Name, Numbered};
 use crate::pass::Pass;
+use crate::retention::Retention;
 use crate::sleepers::Sleepers;
 use crate::waiting::{Waiters, Want, is_closed};
 use amqp_conn::{CloseRefusal, Conn, ConnFault, Fed, Left, Phase};
@@ -39,6 +41,7 @@ pub struct Locked<N: Name> {
     pub(crate) producer: Producer<Unit, Global, Numbered>,
     /// The maximum number of journal entries.
     pub(crate) limit: u32,
+    pub(crate) retention: Retention,
     pub(crate) waiters: Waiters,
     /// The threads that sleep until a delivery comes.
     pub(crate) sleepers: Sleepers,
@@ -58,13 +61,14 @@ impl<N: Name> Model for Locked<N> {
 
     ghost view = { λ l. record { conn = l.conn; waiters = l.waiters } };
 
-    ghost invariant = { λ l. IsHeld l.conn l.book.total (sent l.producer) (known_free l.producer) l.limit (pushes_to l.producer) N.ring N.parts };
+    ghost invariant = { λ l. IsHeld l.conn l.book.total (sent l.producer) (known_free l.producer) l.limit (pushes_to l.producer) N.ring N.parts l.retention N.retention };
 }
 
 impl<N: Name> Locked<N> {
     /// Returns the connection, with its phase, its journal and its endpoint.
     pub fn conn(&self) -> &Conn
-        ensures { result.now ≡ self.now.conn }
+        ensures value { result.now ≡ self.now.conn }
+        ensures retained { IsRetained N.retention self.now.conn.core.log }
     {
         &self.conn
     }
@@ -82,10 +86,11 @@ impl<N: Name> Locked<N> {
         self.conn.lost();
     }
 
-    pub(crate) fn forget(&mut self)
-        ensures { self.new ≡ record self.old { conn = forgotten self.old.conn } }
+    pub(crate) fn forget(&mut self) -> bool
+        ensures forgets { self.new ≡ record self.old { conn = forgetting_by N.retention self.old.conn } }
+        ensures forgot { result ≡ may_forget N.retention }
     {
-        self.conn.forget();
+        forget_by(&mut self.conn, self.retention)
     }
 
     pub(crate) fn pop_left(&mut self) -> Result<Option<Left>, AllocError>
@@ -256,6 +261,20 @@ impl<N: Name> Locked<N> {
             Some((count, closed))
         } else {
             None
+        }
+    }
+}
+
+/// Forgets the journal's entries so far, if they may be forgotten.
+fn forget_by(conn: &mut Conn, retention: Retention) -> bool
+    ensures forgets { conn.new ≡ forgetting_by retention conn.old }
+    ensures forgot { result ≡ may_forget retention }
+{
+    match retention {
+        Retention::All => false,
+        Retention::UntilForgotten => {
+            conn.forget();
+            true
         }
     }
 }

@@ -6,6 +6,7 @@ ghost use Rattle.amqp_conn.specs.Octets.{new_core};
 ghost use Rattle.amqp_shared.specs.Passes.{Planted};
 
 use crate::name::Numbered;
+use crate::retention::Retention;
 use amqp_conn::{Config, Conn, StartFault};
 use amqp_journal::unit::Unit;
 use rtrb::{Consumer, Producer, RingBuffer};
@@ -23,6 +24,7 @@ pub struct Seed {
     pub(crate) consumer: Consumer<Unit, Global, Numbered>,
     pub(crate) blank: Blank,
     pub(crate) limit: u32,
+    pub(crate) retention: Retention,
 }
 
 impl Model for Seed {
@@ -37,13 +39,15 @@ impl Model for Seed {
 
     ghost coded = { Prim.hlevel (codes, value.the_row.coded) };
 
-    ghost view = { λ s. record { conn = s.conn; name = s.blank.name; parts = s.blank.parts; ring = pushes_to s.producer; room = producer_capacity s.producer } };
+    ghost view = { λ s. record { conn = s.conn; name = s.blank.name; parts = s.blank.parts; ring = pushes_to s.producer; room = producer_capacity s.producer; retention = s.retention } };
 
-    ghost invariant = { λ s. (s.conn.core.log.journal ≡ []) × (s.conn.core.log.popped ≡ 0) × (sent s.producer ≡ []) × (received s.consumer ≡ []) × (pops_from s.consumer ≡ pushes_to s.producer) × (s.blank.parts ≡ 65536) × (s.limit ≡ s.conn.core.log.config.journal_limit) };
+    ghost invariant = { λ s. (s.conn.core.log.journal ≡ []) × (s.conn.core.log.forgotten ≡ 0) × (s.conn.core.log.popped ≡ 0) × (sent s.producer ≡ []) × (received s.consumer ≡ []) × (pops_from s.consumer ≡ pushes_to s.producer) × (s.blank.parts ≡ 65536) × (s.limit ≡ s.conn.core.log.config.journal_limit) };
 }
 
 impl Seed {
     /// Creates a connection whose header waits to go out, with a ring of `ring` units (1 to 65536) for its writer.
+    ///
+    /// `retention` says for good which entries of the journal the connection keeps once it is shared.
     ///
     /// Allocates the ring, and what `Conn::new` allocates: the connection, eight octets, and our open.
     ///
@@ -51,9 +55,14 @@ impl Seed {
     ///
     /// [`StartFault::BadConfig`] if a setting is out of its limits, or if our open is longer than the 512 octets that
     /// every peer accepts (part 2, 2.7.1); [`StartFault::NoMemory`] if memory runs out.
-    pub fn new(alloc: Global, config: Config, ring: usize) -> Result<Seed, StartFault>
+    pub fn new(
+        alloc: Global,
+        config: Config,
+        ring: usize,
+        retention: Retention,
+    ) -> Result<Seed, StartFault>
         requires { (1 ≤ ring) × (ring ≤ 65536) }
-        ensures { MatchResult result (λ s. IsFit config × (s.conn ≡ connection (new_core config) []) × (s.parts ≡ 65536) × (s.room ≡ ring)) (λ e. IsStartFault e config) }
+        ensures { MatchResult result (λ s. IsFit config × (s.conn ≡ connection (new_core config) []) × (s.parts ≡ 65536) × (s.room ≡ ring) × (s.retention ≡ retention)) (λ e. IsStartFault e config) }
     {
         let limit = config.journal_limit;
         match Conn::new(alloc, config) {
@@ -64,6 +73,7 @@ impl Seed {
                     consumer,
                     blank: Blank::new(65536),
                     limit,
+                    retention,
                 }),
                 Err(_) => Err(StartFault::NoMemory),
             },

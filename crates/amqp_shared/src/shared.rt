@@ -3,8 +3,9 @@ ghost use Rattle.std.specs.Prelude.{◌≡◌, ◌≢◌, ◌<◌, ◌≤◌, []
 ghost use Rattle.amqp_conn.specs.Connection.{Connection, connection, in_phase};
 ghost use Rattle.amqp_conn.specs.Feeding.{Feeds, MovesOn};
 ghost use Rattle.amqp_conn.specs.Leaving.{Gives, GivesOf, left_of, but_left};
-ghost use Rattle.amqp_conn.specs.Calling.{Closes, due_in, forgotten};
+ghost use Rattle.amqp_conn.specs.Calling.{Closes, due_in};
 ghost use Rattle.amqp_shared.specs.Passes.{IsNamed, raised, after, CountsStep};
+ghost use Rattle.amqp_shared.specs.Retaining.{IsRetained, may_forget, forgetting_by};
 ghost use Rattle.amqp_shared.specs.Session.{Makes, IsDone, IsReceipt, IsRefused, Fits, EndsWait, IsDueAtOnce, Calls};
 ghost use Rattle.amqp_shared.specs.Units.{MovesUnits, unmoved};
 ghost use Rattle.amqp_shared.specs.Waking.{IsTold, IsAwaited, IsNews, brought_by_op, brought_by_feed, told_of, told_of_units, with_want, is_ended};
@@ -47,7 +48,7 @@ pub struct Shared<N: Name> {
 /// The pass has all 65536 parts and has made no step, and nothing was taken from the writer's end. The caller is
 /// generic over the name and gets `std::marker::Brand` for it (see `amqp_example`).
 pub fn open_shared<N: Name>(seed: Seed) -> (Shared<N>, Pass<N>, WriterEnd<N>)
-    requires { IsNamed seed N.name N.parts N.ring }
+    requires { IsNamed seed N.name N.parts N.ring N.retention }
     ensures pass { result.1 ≡ record { parts = 65536; made = 0; asked = [] } }
     ensures writer { result.2 ≡ [] }
 {
@@ -57,7 +58,7 @@ pub fn open_shared<N: Name>(seed: Seed) -> (Shared<N>, Pass<N>, WriterEnd<N>)
 
 /// `open_shared`, before the mutex exists: the contract can speak of the connection here.
 fn open_locked<N: Name>(seed: Seed) -> (Locked<N>, Pass<N>, WriterEnd<N>)
-    requires { IsNamed seed N.name N.parts N.ring }
+    requires { IsNamed seed N.name N.parts N.ring N.retention }
     ensures conn { MovesUnits seed.conn result.0.conn }
     ensures waiters { result.0.waiters ≡ record { units = None; room = false; delivery = false; outcome = false } }
     ensures pass { result.1 ≡ record { parts = 65536; made = 0; asked = [] } }
@@ -69,6 +70,7 @@ fn open_locked<N: Name>(seed: Seed) -> (Locked<N>, Pass<N>, WriterEnd<N>)
         consumer,
         blank,
         limit,
+        retention,
     } = seed;
     let (book, share) = blank.open::<N>();
     let (mut conn, mut producer) = (conn, producer);
@@ -79,6 +81,7 @@ fn open_locked<N: Name>(seed: Seed) -> (Locked<N>, Pass<N>, WriterEnd<N>)
             book,
             producer,
             limit,
+            retention,
             waiters: Waiters::NONE,
             sleepers: Sleepers::NONE,
         },
@@ -107,13 +110,17 @@ impl<N: Name> Shared<N> {
     /// Takes the lock and returns a guard that lends the session until it is dropped.
     ///
     /// Blocks until the lock is free. Dropping the guard releases the lock and wakes the threads that waited for what
-    /// its steps have brought.
-    pub fn lock<R: Wait>(&self, rt: &R) -> Guard<'_, N> {
-        Guard {
+    /// its steps have brought. No entry of the session's journal was forgotten if the seed keeps all of them.
+    pub fn lock<R: Wait>(&self, rt: &R) -> Guard<'_, N>
+        ensures retained { IsRetained N.retention result.conn.core.log }
+    {
+        let guard = Guard {
             locked: self.locked.lock(rt),
             conditions: &self.conditions,
             due: Due::NONE,
-        }
+        };
+        let _ = guard.conn();
+        guard
     }
 
     /// Does an operation of the application on the locked session, as `Conn::apply` does, and counts it in the pass.
@@ -282,13 +289,15 @@ impl<N: Name> Shared<N> {
         guard.locked.left_len()
     }
 
-    /// Forgets the entries of the locked session's journal so far, as `Conn::forget` does.
+    /// Forgets the entries of the locked session's journal so far, as `Conn::forget` does, unless the seed keeps all of
+    /// them ([`Retention::All`](crate::Retention::All)). Returns whether they were forgotten.
     ///
     /// The passes' steps remain those of the whole journal. Wakes no thread.
-    pub fn forget(&self, guard: &mut Guard<'_, N>)
-        ensures { guard.new ≡ record guard.old { conn = forgotten guard.old.conn } }
+    pub fn forget(&self, guard: &mut Guard<'_, N>) -> bool
+        ensures forgets { guard.new ≡ record guard.old { conn = forgetting_by N.retention guard.old.conn } }
+        ensures forgot { result ≡ may_forget N.retention }
     {
-        guard.locked.forget();
+        guard.locked.forget()
     }
 
     /// Moves units from the connection to the writer's ring, as many as fit. Allocates nothing.

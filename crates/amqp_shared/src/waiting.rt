@@ -2,6 +2,7 @@
 ghost use Rattle.std.specs.Prelude.{◌≡◌, ◌-◌, length, slice_get, Ok};
 ghost use Rattle.amqp_shared.specs.Waking.{with_want, waits_for, with_units, awaited_by, brought_by_op, brought_by_feed, brought_in, brought_by, brought_by_step, brought_by_frame, brought_by_body, is_ended};
 
+use crate::condition::Condition;
 use crate::sleepers::SEATS;
 use amqp_conn::{Conn, ConnFault, Fed, Phase};
 use amqp_frames::{Frame, Performative};
@@ -9,7 +10,6 @@ use amqp_laws::entry::{Entry, Step};
 use amqp_rules::op::Op;
 use amqp_rules::reply::Given;
 use std::array;
-use std::sync::Condvar;
 
 /// What a call waits for.
 #[derive(Clone, Copy, PartialEq, Eq)]
@@ -35,28 +35,28 @@ pub(crate) enum Change {
 /// The conditions at which threads wait.
 #[derive(Drop)]
 pub(crate) struct Conditions {
-    room: Condvar,
+    room: Condition,
     /// For threads that have no seat.
-    delivery: Condvar,
+    delivery: Condition,
     /// One for each seat of a thread that waits for a delivery.
-    seats: [Condvar; SEATS],
-    outcome: Condvar,
+    seats: [Condition; SEATS],
+    outcome: Condition,
     /// Units were put out, or the connection has ended.
-    pub(crate) units: Condvar,
+    pub(crate) units: Condition,
 }
 
 impl Conditions {
     pub(crate) fn new() -> Conditions {
         Conditions {
-            room: Condvar::new(),
-            delivery: Condvar::new(),
-            seats: array::from_fn(|_| Condvar::new()),
-            outcome: Condvar::new(),
-            units: Condvar::new(),
+            room: Condition::new(),
+            delivery: Condition::new(),
+            seats: array::from_fn(|_| Condition::new()),
+            outcome: Condition::new(),
+            units: Condition::new(),
         }
     }
 
-    pub(crate) fn of(&self, want: Want) -> &Condvar {
+    pub(crate) fn of(&self, want: Want) -> &Condition {
         match want {
             Want::Room => &self.room,
             Want::Delivery => &self.delivery,
@@ -64,7 +64,7 @@ impl Conditions {
         }
     }
 
-    pub(crate) fn at(&self, seat: Option<usize>) -> &Condvar {
+    pub(crate) fn at(&self, seat: Option<usize>) -> &Condition {
         match seat {
             Some(place) => self.seats.get(place).unwrap_or(&self.delivery),
             None => &self.delivery,

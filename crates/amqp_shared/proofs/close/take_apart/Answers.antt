@@ -56,3 +56,6 @@ returns-clause-none_waits g c =
     let log = c.empty_backlog.new.conn.core.log in
     let all = c.empty_backlog.ensures.all in
     waiting-none log.popped (units log) (omega (arith, all))
+
+pub returns-clause-retained : goal.returns-clause-retained
+returns-clause-retained g c = λ all. ap (λ (x : Connection). x.core.log.forgotten) c.empty_backlog.ensures.conn ∙ c.locked.invariant.retained all

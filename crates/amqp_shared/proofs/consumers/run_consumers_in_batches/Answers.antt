@@ -1,7 +1,9 @@
 use Rattle.std.proofs.Common.{◌≡◌, ◌<◌, length, slice_index_or, vec_len, sym, ap, subst, ◌∙◌, arith, rules}
 use Rattle.amqp_shared.specs.Batching.{FinishesBatches}
+use Rattle.amqp_shared.specs.Consuming.{MakesSteps}
 use Rattle.amqp_shared.specs.Passes.{Tally}
 use Rattle.amqp_shared.proofs.Found.{found, mapped, as-many, if_ok-map}
+use Rattle.amqp_shared.proofs.Steps.{finishes-steps}
 use Rattle.amqp_shared.proofs.consumers.run_consumers_in_batches.Goals as goal
 
 pub returns-in-Ok-clause-len : goal.returns-in-Ok-clause-len
@@ -35,3 +37,17 @@ returns-in-Ok-clause-each g c =
     subst (λ (P : Type 0). P)
     (λ k. FinishesBatches g.W.Work.consumes (terms k) (more k) (record { pass = pass k; work = work k }) done.count done.left done.stopped (record { pass = done.pass; work = done.work }))
     (h i one d (omega (arith, many, size, sized, low)))) c.run_jobs.ensures.each
+
+pub returns-in-Ok-clause-steps : goal.returns-in-Ok-clause-steps
+returns-in-Ok-clause-steps g c =
+    let jobs = c.in-Ok.jobs in
+    let is = c.in-Ok.ensures in
+    let many = as-many (λ j. j.pass) jobs.items c.args.passes.items is.passes in
+    let size : length c.args.passes.items ≡ vec_len c.args.passes = search rules in
+    let sized : length jobs.items ≡ vec_len jobs = search rules in
+    if_ok-map _ _ c.run_jobs.result (λ v h i p d low.
+    let short : i < length jobs.items = omega (arith, many, size, low) in
+    let one = (found (λ j. j.pass) jobs.items i short).0 in
+    let pass = sym (mapped (λ j. j.pass) jobs.items i short p one) ∙ ap (λ xs. slice_index_or xs i p) is.passes in
+    let done = slice_index_or v.items i d in
+    subst (λ (t : Tally). MakesSteps t.made done.count done.pass.made) pass (finishes-steps g.W.Work.consumes _ _ _ done.count done.left done.stopped _ (h i one d (omega (arith, many, size, sized, low))))) c.run_jobs.ensures.each

@@ -18,5 +18,6 @@ pub returns-in-Ok-clause-receipt : goal.returns-in-Ok-clause-receipt
 returns-in-Ok-clause-receipt g c =
     let r = c.receipt_of.ensures in
     let same = ap (λ (x : Connection). x.core.log.journal) c.push_units.ensures.moves.rest in
+    let kept = ap (λ (x : Connection). x.core.log.forgotten) c.push_units.ensures.moves.rest in
     let place = ap (λ (x : Receipt). x.place) r ∙ c.steps-place.ensures ∙ ap (λ (l : Log). length l.journal) c.logged.ensures in
-    is-receipt c.self.inside.conn.core c.apply.new.self.core c.args.op.now c.in-Ok.given c.push_units.new.conn.core.log c.receipt_of.result c.in-Ok.ensures.does same place (ap (λ (x : Receipt). x.link) r) (ap (λ (x : Receipt). x.id) r)
+    is-receipt c.self.inside.conn.core c.apply.new.self.core c.args.op.now c.in-Ok.given c.push_units.new.conn.core.log c.receipt_of.result c.in-Ok.ensures.does same kept c.recall.ensures.stored place (ap (λ (x : Receipt). x.link) r) (ap (λ (x : Receipt). x.id) r)

@@ -31,7 +31,7 @@ loop-op-preserved g c =
       omega (arith, sized, room, longer, kept),
       λ more refused after h. subst (λ answers. CallsAll Tells c.args.guard.now ops (answers ++ more) refused after) (sym pushed.items)
           (subst (λ answers. CallsAll Tells c.args.guard.now ops answers refused after) (sym (together before (done ∷ []) more)) (was.1 (done ∷ more) refused after
-          (subst (λ os. CallsAll Tells old os (done ∷ more) refused after) (sym is) (inr (done, more, refl, new, (c.in-Ok.ensures.step, c.in-Ok.ensures.told), h))))),
+          (subst (λ os. CallsAll Tells old os (done ∷ more) refused after) (sym is) (inr (done, more, refl, new, (c.in-Ok.ensures.step, c.in-Ok.ensures.told, c.in-Ok.ensures.receipt), h))))),
       λ more refused after h. subst (λ answers. CallsAll Notes c.args.pass.now ops (answers ++ more) refused after) (sym pushed.items)
           (subst (λ answers. CallsAll Notes c.args.pass.now ops answers refused after) (sym (together before (done ∷ []) more)) (was.2 (done ∷ more) refused after
           (subst (λ os. CallsAll Notes c.loop-op.pass os (done ∷ more) refused after) (sym is) (inr (done, more, refl, c.call.new.pass, c.in-Ok.ensures.pass, h))))),
