@@ -1,20 +1,18 @@
-//! An exchange goes on over one connection after the other: when a peer is met once more, and how the link is rejoined.
+//! An exchange goes on over one connection after the other: when a peer is met once more.
 use crate::exchange::{Exchange, ExchangeFault};
 use crate::journal::Notes;
 use crate::meeting::meet;
 use crate::observed::{Flushes, Observed};
 use crate::report::Reports;
 use crate::seen::Seen;
-use amqp_client::{
-    ClientFault, End, Session, answer_again, await_attached, await_link, open_again,
-};
-use amqp_conn::{Phase, PumpFault, Refusal, Role, Tag};
+use amqp_client::{ClientFault, End, Session};
+use amqp_conn::{Phase, PumpFault, Refusal};
 use std::net::{Net, TcpStream};
 use std::rt::Clock;
 use std::thread;
 use std::time::Duration;
 
-/// How long it is until a peer is tried again, and until more is told of how far an exchange is, in milliseconds.
+/// How long it is until a peer is tried again, and until progress is printed again, in milliseconds.
 pub(crate) const PAUSE: u64 = 500;
 
 /// The most that is in doubt at a time.
@@ -24,7 +22,7 @@ const MOST: u32 = 1024;
 const NO_RECOVERY: &str =
     "the peer does not recover links: what is in doubt is taken for absent there";
 
-/// What an attach takes for a delivery that it brings in, in octets: a tag of 32 octets, a state, and their heads.
+/// How many octets of an attach a delivery takes that it brings in: a tag of 32 octets, a state, and their heads.
 const ITEM: u32 = 44;
 
 /// An exchange that has a journal, and goes on over one connection after the other.
@@ -32,10 +30,10 @@ pub(crate) trait GoesOn {
     /// All is done, and the peer knows it.
     fn is_done(&self) -> bool;
 
-    /// All is done, and what is left is that the peer may ask for what it does not know: nobody may come any more.
+    /// All messages were taken, but the peer may still ask for outcomes: maybe nobody connects any more.
     fn has_all(&self) -> bool;
 
-    /// How many lines its journal had got.
+    /// Returns how many lines were written to its journal.
     fn noted(&self) -> u64;
 
     /// Its attach brought in what is in doubt, and nothing was noted since.
@@ -51,7 +49,7 @@ pub(crate) trait GoesOn {
         reports: &mut T,
     ) -> Result<(), ExchangeFault>;
 
-    /// The connection is over, maybe by a fault of its own: what came before that is had, and noted.
+    /// Takes and notes what came before the connection ended, maybe by a fault of its own.
     fn wind_up<S: Session, T: Reports>(
         &mut self,
         session: &mut S,
@@ -133,7 +131,7 @@ fn conclude<E: GoesOn, S: Session, T: Reports>(
     }
 }
 
-/// Goes on over this connection. Where all is done it does not count how the connection ended.
+/// Goes on over this connection. If all is done, it does not matter how the connection ended.
 fn go_to_end<E: GoesOn, S: Flushes, T: Reports>(
     goes: &mut E,
     session: &mut S,
@@ -189,7 +187,7 @@ fn is_lost_by(fault: &ClientFault) -> bool {
     }
 }
 
-/// A peer that closes the connection with an error has ended it before its time, also where it has left the link in the same piece.
+/// A peer that closes the connection with an error has ended it before its time, also if it has left the link in the same piece.
 fn unless_forced(ended: Result<(), ExchangeFault>, is_forced: bool) -> Result<(), ExchangeFault> {
     match ended {
         Err(ExchangeFault::Client(ClientFault::Closed | ClientFault::Refused(Refusal::NoLink)))
@@ -203,7 +201,7 @@ fn unless_forced(ended: Result<(), ExchangeFault>, is_forced: bool) -> Result<()
 struct Tries {
     most: u32,
     left: u32,
-    /// How many lines the journal had got when it was tried last.
+    /// How many lines had been written to the journal when the peer was tried last.
     noted: u64,
     /// There was a connection, or one was tried.
     is_again: bool,
@@ -219,7 +217,7 @@ impl Tries {
         }
     }
 
-    /// How long the peer is waited for that is to connect, in pauses; none: for good. Where all is had nobody may come.
+    /// How many pauses a peer is waited for that is to connect; `None`: without a limit. If all messages were taken, maybe nobody connects.
     fn pauses(&self, has_all: bool) -> Option<u32> {
         if has_all || self.is_again {
             Some(self.most)
@@ -228,12 +226,12 @@ impl Tries {
         }
     }
 
-    /// The peer is not tried again behind this: another connection would be of no use, or as many as may be in a row have brought nothing.
+    /// The peer is not tried again: another connection would be of no use, or as many as may be in a row have brought nothing.
     fn is_last(&self, fault: &ExchangeFault) -> bool {
         self.left == 0 || !is_lost(fault)
     }
 
-    /// The exchange over this connection ended so when the journal had got so many lines.
+    /// Notes how the exchange over this connection ended, and how many lines had been written to the journal by then.
     ///
     /// # Errors
     ///
@@ -252,11 +250,11 @@ impl Tries {
         unless_forced(ended, is_forced)
     }
 
-    /// The exchange failed so: the peer is tried again, after a pause.
+    /// Prints the fault, and waits until the peer is to be tried again.
     ///
     /// # Errors
     ///
-    /// The fault, where it is not tried again.
+    /// The fault, if the peer is not tried again.
     fn again<R: Clock + Eprint, T: Reports>(
         &mut self,
         rt: &R,
@@ -288,67 +286,36 @@ pub(crate) fn pause<R: Clock>(rt: &R) {
     thread::sleep(rt, Duration::from_millis(PAUSE));
 }
 
-/// Session and link are there, which brings in what is in doubt, by its tags. The journal is of that link.
-pub(crate) fn join<S: Session, N: Notes>(
-    session: &mut S,
-    exchange: &Exchange<'_>,
-    role: Role,
-    notes: &mut N,
-    tags: &[Tag],
-) -> Result<(), ExchangeFault> {
-    if exchange.is_listening {
-        await_noted(session, role, notes)?;
-    } else {
-        notes.join(role, exchange.container_id)?;
-    }
-    attach(session, exchange, role, tags).map_err(ExchangeFault::Client)
-}
-
-/// The peer has offered a link, and the journal is of that.
-fn await_noted<S: Session, N: Notes>(
-    session: &mut S,
-    role: Role,
-    notes: &mut N,
-) -> Result<(), ExchangeFault> {
-    match await_link(session, role) {
-        Ok(name) => {
-            let joined = notes.join(role, name.as_str());
-            drop(name);
-            joined
-        }
-        Err(fault) => Err(ExchangeFault::Client(fault)),
-    }
-}
-
-/// The link is attached by both ends.
-fn attach<S: Session>(
-    session: &mut S,
-    exchange: &Exchange<'_>,
-    role: Role,
-    tags: &[Tag],
-) -> Result<(), ClientFault> {
-    if exchange.is_listening {
-        answer_again(session, tags)?;
-    } else {
-        open_again(session, exchange.wanted(role), tags)?;
-    }
-    await_attached(session)
-}
-
 /// A turn of the connection. What was noted is kept before anything goes out.
 pub(crate) fn turn<S: Session, N: Notes>(
     session: &mut S,
     notes: &mut N,
 ) -> Result<(), ExchangeFault> {
     notes.sync()?;
-    let end = session.end();
-    if !end.has_link() && end.conn().phase() != Phase::Closed {
-        return Err(ExchangeFault::Client(ClientFault::Refused(Refusal::NoLink)));
-    }
+    unless_left(session.end())?;
     session.turn().map_err(ExchangeFault::Client)
 }
 
-/// So many deliveries may be in doubt at a time that an attach can tell of all of them.
+/// As `turn`, without waiting for the peer.
+pub(crate) fn flush<S: Flushes, N: Notes>(
+    session: &mut S,
+    notes: &mut N,
+    elapsed: u64,
+) -> Result<(), ExchangeFault> {
+    notes.sync()?;
+    unless_left(session.end())?;
+    session.flush(elapsed).map_err(ExchangeFault::Client)
+}
+
+/// Checks that neither end has left the link while the connection goes on.
+fn unless_left(end: &End) -> Result<(), ExchangeFault> {
+    if !end.has_link() && end.conn().phase() != Phase::Closed {
+        return Err(ExchangeFault::Client(ClientFault::Refused(Refusal::NoLink)));
+    }
+    Ok(())
+}
+
+/// Returns how many deliveries may be in doubt at a time: an attach has to have room for all of them.
 pub(crate) fn most_in_doubt(end: &End) -> usize {
     let frame = end.conn().logged().endpoint().max_frame();
     (frame / 2 / ITEM).clamp(1, MOST) as usize

@@ -6,8 +6,9 @@ use amqp_messages::{Header, Message, Properties, Section, SectionKind, write_mes
 use amqp_types::{Items, WriteFault};
 use std::alloc::{AllocError, Global};
 use std::io::BufRead;
+use std::os::fd::RawFd;
 
-/// What each message that is sent tells beside its body (part 3, 3.2.1 and 3.2.4).
+/// Fields of the header and the properties of each message that is sent (part 3, 3.2.1 and 3.2.4).
 #[derive(Clone, Copy, Debug)]
 pub struct Labels<'a> {
     pub is_durable: bool,
@@ -39,7 +40,7 @@ impl Labels<'_> {
     }
 }
 
-/// A text of ours, where there is one.
+/// Returns the text as a value of its own, if there is one.
 fn text_of(alloc: Global, text: Option<&str>) -> Result<Option<Text>, AllocError> {
     match text {
         Some(text) => Ok(Some(Text::new(alloc, text)?)),
@@ -47,7 +48,7 @@ fn text_of(alloc: Global, text: Option<&str>) -> Result<Option<Text>, AllocError
     }
 }
 
-/// A string, where there is one.
+/// Returns the text as a string, if there is one.
 fn string_of(alloc: Global, text: Option<&str>) -> Result<Option<Value>, AllocError> {
     match text_of(alloc, text) {
         Ok(Some(text)) => Ok(Some(Value::Str(text))),
@@ -147,7 +148,7 @@ fn put_labels(
     Ok(())
 }
 
-/// The sections of a message with this body, one data section, behind what the labels tell.
+/// Returns the sections of a message: those of the labels, and a data section with this body.
 fn sections_of(
     alloc: Global,
     labels: &Labels<'_>,
@@ -173,7 +174,7 @@ fn sections_of(
     }
 }
 
-/// The octets, which others may share.
+/// Returns the octets as ones that others may share.
 fn shared(octets: Vec<u8>) -> Result<Bytes, AllocError> {
     match Bytes::from_vec(octets) {
         Ok(shared) => Ok(shared),
@@ -181,7 +182,7 @@ fn shared(octets: Vec<u8>) -> Result<Bytes, AllocError> {
     }
 }
 
-/// The octets of a message with this body.
+/// Returns the octets of a message with this body.
 fn message_of(alloc: Global, labels: &Labels<'_>, body: Vec<u8>) -> Result<Bytes, ExchangeFault> {
     let sections = sections_of(alloc, labels, shared(body)?)?;
     let message = Message { sections };
@@ -204,17 +205,17 @@ fn fault_of(fault: WriteFault) -> ExchangeFault {
     }
 }
 
-/// Gives the messages that are sent: [`Bodies`].
+/// The messages that are sent, one after the other: [`Bodies`].
 pub(crate) trait Supply {
-    /// The next message, if one is ready.
+    /// Returns the next message, if one is ready.
     ///
     /// # Errors
     ///
     /// `In` if a line cannot be read, `NotWritable` and `NoMemory`.
     fn next(&mut self) -> Result<Next<Bytes>, ExchangeFault>;
 
-    /// Waits a little for the next message. True if one may be ready.
-    fn awaits(&self) -> bool;
+    /// Waits until the next message may be ready, or the socket can be read if there is one, for a [`TICK`](amqp_client::TICK) at most.
+    fn await_ready(&self, socket: Option<RawFd>);
 }
 
 /// Which messages are sent.
@@ -222,7 +223,7 @@ pub(crate) trait Supply {
 pub(crate) struct Bodies<'a, 'b, I> {
     alloc: Global,
     labels: Labels<'a>,
-    /// What is sent again and again; none where lines of the input are.
+    /// What is sent again and again; `None` if lines of the input are sent.
     same: Option<Bytes>,
     /// How many more times.
     left: u32,
@@ -230,7 +231,7 @@ pub(crate) struct Bodies<'a, 'b, I> {
 }
 
 impl<'a, 'b, I: BufRead> Bodies<'a, 'b, I> {
-    /// The messages of this exchange, with these octets of its file, or with the lines of this input.
+    /// Returns the messages of this exchange, with these octets of its file, or with the lines of this input.
     ///
     /// # Errors
     ///
@@ -254,7 +255,7 @@ impl<'a, 'b, I: BufRead> Bodies<'a, 'b, I> {
     }
 }
 
-/// The one message, with these octets of a file or as many as are asked for; none where lines are sent.
+/// Returns the one message, with these octets of a file or as many as are asked for; `None` if lines are sent.
 fn same_of(
     alloc: Global,
     exchange: &Exchange<'_>,
@@ -286,8 +287,8 @@ impl<I: BufRead> Supply for Bodies<'_, '_, I> {
         }
     }
 
-    fn awaits(&self) -> bool {
-        self.same.is_some() || self.lines.awaits()
+    fn await_ready(&self, socket: Option<RawFd>) {
+        self.lines.await_ready(socket);
     }
 }
 

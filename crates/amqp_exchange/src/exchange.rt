@@ -31,19 +31,19 @@ pub struct Exchange<'a> {
     pub port: u16,
     /// The peer connects to that port, and begins; else this end does.
     pub is_listening: bool,
-    /// Of the source or the target at the peer, where this end begins.
+    /// Of the source or the target at the peer, if this end begins.
     pub address: &'a str,
     /// This end's name, which is the link's, too.
     pub container_id: &'a str,
     /// The longest frame that this end takes, in octets: 512 at least.
     pub max_frame: u32,
-    /// How many messages, but where `is_lines`.
+    /// How many messages, unless `is_lines`.
     pub count: u32,
     /// How many seconds a connect may take, and how long a peer may be silent; `None`: there is no limit.
     pub patience: Option<u32>,
     /// How many seconds `receive` waits for the next message; `None`: there is no limit.
     pub wait: Option<u32>,
-    /// The octets of a message's body, for `send`, but where `is_lines` or a `file`.
+    /// How many octets a message's body has, for `send`, unless `is_lines` or there is a `file`.
     pub size: u32,
     /// The file that is each message's body, for `send`.
     pub file: Option<&'a str>,
@@ -51,7 +51,7 @@ pub struct Exchange<'a> {
     pub is_lines: bool,
     /// The lines are those of the process's standard input, which may have nothing ready: what was sent is written then.
     pub is_polled: bool,
-    /// What each message tells beside its body, for `send`.
+    /// Header and properties of each message, for `send`.
     pub labels: Labels<'a>,
     /// Each message is sent settled, for `send`.
     pub is_settled: bool,
@@ -63,13 +63,13 @@ pub struct Exchange<'a> {
     pub settlement: Settlement,
     /// What is printed of each message, for `receive`.
     pub printed: Printed,
-    /// How each frame is told on standard error; none: it is not.
+    /// How each frame is printed on standard error; `None`: it is not.
     pub trace: Option<Look>,
-    /// It is not told on standard error how far it is; nor is it where frames are, or something is printed of each message.
+    /// No progress is printed on standard error. None is printed either if frames are, or something of each message.
     pub is_quiet: bool,
     /// The file that says what became of each message: with it a connection that is lost is taken up again, and a run that was killed.
     pub journal: Option<&'a str>,
-    /// How often in a row another connection is tried where none brings anything; of no use without a `journal`.
+    /// How many connections in a row may bring nothing; of no use without a `journal`.
     pub retries: u32,
 }
 
@@ -83,7 +83,7 @@ impl<'a> Exchange<'a> {
         }
     }
 
-    /// How far it is is told.
+    /// Progress is printed.
     fn is_told(&self) -> bool {
         !self.is_quiet && self.trace.is_none() && matches!(self.printed, Printed::Nothing)
     }
@@ -93,7 +93,7 @@ impl<'a> Exchange<'a> {
         matches!(self.printed, Printed::Bodies | Printed::Json)
     }
 
-    /// How many messages there are to be; none: lines say that.
+    /// Returns how many messages there are to be; `None` if that depends on the input's lines.
     fn count_known(&self) -> Option<u32> {
         if self.is_lines {
             None
@@ -103,7 +103,7 @@ impl<'a> Exchange<'a> {
     }
 }
 
-/// What `receive` answers for each message that it takes (part 3, 3.4).
+/// The outcome that `receive` sends for each message that it takes (part 3, 3.4).
 #[derive(Clone, Copy, Debug, PartialEq, Eq)]
 pub enum Settlement {
     Accept,
@@ -119,14 +119,14 @@ pub struct Sent {
     pub outcomes: Outcomes,
 }
 
-/// What `receive` had.
+/// What `receive` has taken.
 #[derive(Clone, Copy, PartialEq, Eq)]
 pub struct Received {
     pub count: u64,
     /// Of whole messages, with the heads of their sections.
     pub octets: u64,
-    /// Of these messages, those that the peer was not told to be accepted, since the link was gone: it may send them again. With a journal those of which it is
-    /// not known that the peer has heard so: it may ask for that again.
+    /// Those of these messages that could not be settled, since the link was gone: the peer may send them again. With a journal, those whose outcome the peer is
+    /// not known to have heard: it may ask for that again.
     pub unsettled: u64,
 }
 
@@ -139,7 +139,7 @@ impl Sent {
 }
 
 impl Received {
-    /// Nothing was had yet.
+    /// Nothing was taken yet.
     pub(crate) const NONE: Received = Received {
         count: 0,
         octets: 0,
@@ -255,9 +255,9 @@ fn ended_so(
     }
 }
 
-/// Takes messages, prints what is asked for of each, answers it, and writes three lines to `out`, also if that fails: how many were received, how many octets they
-/// had, and how many could not be answered. If bodies or JSON are printed, `out` has nothing beside them, and the counts of a run that fails go to standard error.
-/// Returns true if each was answered, or came settled.
+/// Takes messages, prints what is asked for of each, settles it, and writes three lines to `out`, also if that fails: how many were received, how many octets they
+/// had, and how many could not be settled. If bodies or JSON are printed, `out` has nothing beside them, and the counts of a run that fails go to standard error.
+/// Returns true if each was settled, or came settled.
 ///
 /// # Errors
 ///
@@ -290,7 +290,7 @@ where
     Ok(received.unsettled == 0)
 }
 
-/// Prints what a run had that failed, on standard error: standard output has the messages alone.
+/// Prints what a run has taken that failed, on standard error: standard output has the messages alone.
 fn say_unless_done<R: Eprint>(rt: &R, received: &Received, is_failed: bool) {
     if is_failed {
         let Received {

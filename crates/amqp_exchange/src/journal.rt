@@ -1,5 +1,6 @@
-//! The journal of an exchange that goes on over one connection after the other: a file of lines, each of which stands before what depends on it goes out.
+//! The journal of an exchange that goes on over one connection after the other: a file of lines, each of which is written before what depends on it is sent.
 use crate::exchange::ExchangeFault;
+pub use crate::printout::FileId;
 use amqp_conn::{Role, Tag};
 use amqp_policy::Outcome;
 use std::alloc::Global;
@@ -16,11 +17,15 @@ pub enum Line<'a> {
     Link(Role, &'a [u8]),
     /// `begun N`: the message with this number begins.
     Begun(u32),
-    /// `accepted N`, `rejected N`, `released N`, `modified N` or `unknown N`: what became of it, as the receiver told.
+    /// `accepted N`, `rejected N`, `released N`, `modified N` or `unknown N`: the outcome that the receiver sent.
     Told(Outcome, u32),
-    /// `taken TAG N`: the message with this tag, of so many octets, was written out, and is accepted. Of an earlier one with that tag its sender asks no more.
+    /// `output DEVICE INODE`: messages are printed to this file from here on.
+    Output(FileId),
+    /// `printing TAG N`: the message with this tag is printed next, behind so many bytes of that file. Its sender has it until it is taken.
+    Printing(Tag, u64),
+    /// `taken TAG N`: the message with this tag, of so many octets, was printed, and is accepted. Its sender asks no more about an earlier one with that tag.
     Taken(Tag, u64),
-    /// `settled TAG`: its sender knows that, or has settled it, and asks no more.
+    /// `settled TAG`: the sender of that message has heard so, or has settled it, and asks no more.
     Settled(Tag),
 }
 
@@ -34,6 +39,12 @@ impl Display for Line<'_> {
             }
             Line::Begun(number) => write!(f, "begun {number}"),
             Line::Told(outcome, number) => write!(f, "{} {number}", word_of(*outcome)),
+            Line::Output(file) => write!(f, "output {} {}", file.device, file.inode),
+            Line::Printing(tag, length) => {
+                f.write_str("printing ")?;
+                write_tag(f, tag)?;
+                write!(f, " {length}")
+            }
             Line::Taken(tag, octets) => {
                 f.write_str("taken ")?;
                 write_tag(f, tag)?;
@@ -64,7 +75,7 @@ fn word_of(outcome: Outcome) -> &'static str {
     }
 }
 
-/// Digits as they stand: a name is kept in hexadecimal.
+/// Writes digits as they are: a name is kept in hexadecimal.
 fn write_octets<W: fmt::Write>(f: &mut Formatter<W>, digits: &[u8]) -> fmt::Result {
     for digit in digits {
         f.write_char(char::from(*digit))?;
@@ -81,7 +92,7 @@ fn write_tag<W: fmt::Write>(f: &mut Formatter<W>, tag: &Tag) -> fmt::Result {
     }
 }
 
-/// What the line says, without its end; none where it is no line of a journal.
+/// Returns what the line says, which has no end; `None` if it is no line of a journal.
 pub fn read_line(line: &[u8]) -> Option<Line<'_>> {
     let mut words = line.split(|octet| *octet == b' ');
     let kind = words.next()?;
@@ -91,14 +102,20 @@ pub fn read_line(line: &[u8]) -> Option<Line<'_>> {
         return None;
     }
     match second {
-        Some(octets) => read_taken(kind, first, octets),
+        Some(second) => read_three(kind, first, second),
         None => read_pair(kind, first),
     }
 }
 
-fn read_taken<'a>(kind: &[u8], tag: &[u8], octets: &[u8]) -> Option<Line<'a>> {
+fn read_three<'a>(kind: &[u8], first: &[u8], second: &[u8]) -> Option<Line<'a>> {
+    let count = count_of(second)?;
     match kind {
-        b"taken" => Some(Line::Taken(tag_of(tag)?, count_of(octets)?)),
+        b"output" => Some(Line::Output(FileId {
+            device: count_of(first)?,
+            inode: count,
+        })),
+        b"printing" => Some(Line::Printing(tag_of(first)?, count)),
+        b"taken" => Some(Line::Taken(tag_of(first)?, count)),
         _ => None,
     }
 }
@@ -110,17 +127,6 @@ fn read_pair<'a>(kind: &[u8], word: &'a [u8]) -> Option<Line<'a>> {
         b"begun" => Some(Line::Begun(number_of(word)?)),
         b"settled" => Some(Line::Settled(tag_of(word)?)),
         _ => Some(Line::Told(outcome_in(kind)?, number_of(word)?)),
-    }
-}
-
-/// Returns the outcome that the link has learnt of a message.
-pub(crate) fn outcome_of(told: amqp_client::Outcome) -> Outcome {
-    match told {
-        amqp_client::Outcome::Accepted => Outcome::Accepted,
-        amqp_client::Outcome::Rejected => Outcome::Rejected,
-        amqp_client::Outcome::Released => Outcome::Released,
-        amqp_client::Outcome::Modified => Outcome::Modified,
-        amqp_client::Outcome::Unknown => Outcome::Unknown,
     }
 }
 
@@ -164,7 +170,7 @@ fn tag_of(word: &[u8]) -> Option<Tag> {
     Tag::new(held)
 }
 
-/// The front of a journal's text that has whole lines: what stands behind the last line's end was torn off where a program was killed as it wrote.
+/// Returns the front of a journal's text that has whole lines: what is behind the last line's end was cut off when a program was killed as it wrote.
 pub fn whole_lines(text: &[u8]) -> &[u8] {
     let torn = match text.rsplit(|octet| *octet == b'\n').next() {
         Some(torn) => torn.len(),
@@ -176,7 +182,7 @@ pub fn whole_lines(text: &[u8]) -> &[u8] {
     }
 }
 
-/// What was torn off may be a front of a journal's first line, so that nothing of another file is cut away.
+/// Returns whether what was cut off may be the front of a journal's first line, so that nothing of another file is removed.
 pub(crate) fn is_front(torn: &[u8]) -> bool {
     for word in ["sender ", "receiver "] {
         let begins = match torn.strip_prefix(word.as_bytes()) {
@@ -192,34 +198,34 @@ pub(crate) fn is_front(torn: &[u8]) -> bool {
     false
 }
 
-/// Is noted what becomes of messages: a [`Journal`].
+/// Where it is noted what becomes of messages: a [`Journal`].
 pub(crate) trait Notes {
-    /// How many lines were noted since it was opened.
+    /// Returns how many lines were noted since it was opened.
     fn noted(&self) -> u64;
 
-    /// It goes on with the link of this name, for this role of ours.
+    /// Continues with the link of this name, for this role of ours.
     ///
     /// # Errors
     ///
-    /// `OtherLink` where it was kept of a link of another name, and those of `note`.
+    /// `OtherLink` if it was kept of a link of another name, and those of `note`.
     fn join(&mut self, role: Role, name: &str) -> Result<(), ExchangeFault>;
 
-    /// Writes the line, behind those that stand there.
+    /// Writes the line behind the others.
     ///
     /// # Errors
     ///
-    /// `Journal` where the write fails.
+    /// `Journal` if the write fails.
     fn note(&mut self, line: &Line<'_>) -> Result<(), ExchangeFault>;
 
-    /// What was noted is on the disk, and may be told.
+    /// Brings what was noted to the disk: then it may be sent.
     ///
     /// # Errors
     ///
-    /// `Journal` where that fails.
+    /// `Journal` if that fails.
     fn sync(&mut self) -> Result<(), ExchangeFault>;
 }
 
-/// A journal, to be gone on with.
+/// A journal that is continued.
 #[derive(Drop)]
 pub(crate) struct Journal<F> {
     alloc: Global,
@@ -234,7 +240,7 @@ pub(crate) struct Journal<F> {
     synced: u64,
 }
 
-/// The octets of the journal there; none where there is no such file yet.
+/// Returns the bytes of the journal there; none if there is no such file yet.
 pub(crate) fn text_of<R: AllocGlobal + Files>(
     rt: &R,
     path: &str,
@@ -246,7 +252,7 @@ pub(crate) fn text_of<R: AllocGlobal + Files>(
     }
 }
 
-/// The journal at this path, of whose text so many octets stay, and which tells this name of its link, in hexadecimal.
+/// Opens the journal at this path, keeps so many bytes of its text, and cuts off the others. `link` is the name of its link, in hexadecimal.
 pub(crate) fn open_journal<R: AllocGlobal + Files>(
     rt: &R,
     path: &str,
@@ -254,14 +260,7 @@ pub(crate) fn open_journal<R: AllocGlobal + Files>(
     link: Option<Vec<u8>>,
 ) -> Result<Journal<R::File>, ExchangeFault> {
     match open_file(rt, path, whole) {
-        Ok(file) => Ok(Journal {
-            alloc: rt.alloc(),
-            file,
-            line: Vec::new(rt.alloc()),
-            link,
-            noted: 0,
-            synced: 0,
-        }),
+        Ok(file) => Ok(Journal::over(rt.alloc(), file, link)),
         Err(error) => {
             drop(link);
             Err(ExchangeFault::Journal(error))
@@ -288,6 +287,20 @@ fn digits_of(alloc: Global, name: &str) -> Result<Vec<u8>, ExchangeFault> {
     }
 }
 
+impl<F> Journal<F> {
+    /// Returns a journal in this file, in which nothing was noted since it was opened. `link` is the name of its link, in hexadecimal.
+    pub(crate) fn over(alloc: Global, file: F, link: Option<Vec<u8>>) -> Journal<F> {
+        Journal {
+            alloc,
+            file,
+            line: Vec::new(alloc),
+            link,
+            noted: 0,
+            synced: 0,
+        }
+    }
+}
+
 impl<F: Write + OpenFile + Drop> Journal<F> {
     /// In one write, so that a line is torn by nothing but a kill in its middle.
     fn write(&mut self, line: &Line<'_>) -> io::Result<()> {
@@ -297,7 +310,7 @@ impl<F: Write + OpenFile + Drop> Journal<F> {
         self.file.flush()
     }
 
-    /// It tells its link first, by its name in hexadecimal.
+    /// Writes the first line: the link, by its name in hexadecimal.
     fn begin(&mut self, role: Role, digits: Vec<u8>) -> Result<(), ExchangeFault> {
         match self.note(&Line::Link(role, digits.as_slice())) {
             Ok(()) => {

@@ -9,7 +9,7 @@ use std::alloc::Global;
 use std::io;
 use std::io::Write;
 
-/// A message: its sections by name, the fields of header and properties by theirs. Data sections are one text, or hexadecimal where they are no text; sequences are one
+/// A message: its sections by name, the fields of header and properties by theirs. Data sections are one text, or hexadecimal if they are no text; sequences are one
 /// list.
 pub(crate) fn write_message<W: Write>(
     alloc: Global,
@@ -26,7 +26,7 @@ pub(crate) fn write_message<W: Write>(
     out.write_all(b"}\n")
 }
 
-/// Octets that are no message, behind why they are none.
+/// Writes octets that are no message, behind why they are none.
 pub(crate) fn write_octets<W: Write>(
     why: MessageFault,
     octets: &[u8],
@@ -79,7 +79,7 @@ fn write_key<W: Write>(name: &str, out: &mut W) -> io::Result<()> {
     write!(out, "\"{name}\":")
 }
 
-/// What stands between a member and the one before it.
+/// Writes what separates a member from the one before it.
 fn write_comma<W: Write>(is_first: bool, out: &mut W) -> io::Result<()> {
     if is_first {
         Ok(())
@@ -152,7 +152,7 @@ fn write_fields<W: Write>(
     out.write_all(b"}")
 }
 
-/// A value; `null` stands for what lies deeper, which is never read.
+/// Writes a value; `null` for what lies deeper, which is never read.
 #[cycle(telling)]
 fn write_value<W: Write>(alloc: Global, value: &Value, depth: u8, out: &mut W) -> io::Result<()> {
     if depth == 0 {

@@ -12,6 +12,7 @@ use std::alloc::Global;
 use std::io;
 use std::io::ErrorKind;
 use std::net::{Net, OpenListener, SocketAddr, TcpListener, TcpStream, ToSocketAddrs};
+use std::os::fd::AsRawFd;
 use std::rt::Clock;
 use std::time::Duration;
 
@@ -64,6 +65,7 @@ pub(crate) fn meet<'a, R: Net<Stream = TcpStream> + Eprint + Clock, T: Reports>(
     if exchange.is_listening {
         await_first(&reader);
     }
+    seen.set_socket(reader.as_raw_fd());
     let heard = teller(alloc, exchange, Direction::Heard, exchange.max_frame);
     let sent = teller(alloc, exchange, Direction::Sent, u32::MAX);
     let client = client_of(
@@ -232,7 +234,7 @@ fn without_delay(stream: TcpStream) -> io::Result<TcpStream> {
     }
 }
 
-/// An end over the stream. Its reads wait for a [`TICK`](crate::TICK); the peer is told half of what it is waited for (part 2, 2.4.5).
+/// An end over the stream. Its reads wait for a [`TICK`](crate::TICK); half of `patience` is our idle time-out (part 2, 2.4.5).
 pub fn client_over(
     alloc: Global,
     stream: TcpStream,

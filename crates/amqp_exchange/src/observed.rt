@@ -1,12 +1,15 @@
 //! A session over a socket, which keeps why it was ended.
+ghost use Rattle.std.specs.Prelude.{◌↔◌, ◌≤◌, ◌+◌, IsTrue};
+
 use crate::exchange::ExchangeFault;
 use crate::reason::{Reason, reason_in};
 use crate::report::Reports;
 use crate::seen::Seen;
-use amqp_client::{Client, ClientFault, End, LINK, Session, finish};
+use amqp_client::{Client, ClientFault, End, LINK, Session, TICK, finish};
 use amqp_conn::{Phase, PumpFault, ops};
 use std::io;
 use std::io::{Read, Write};
+use std::os::fd::RawFd;
 
 /// How many turns a connection that failed is given to close as agreed; each takes a quarter of a second at most.
 const LAST_TURNS: u32 = 20;
@@ -15,21 +18,44 @@ const LAST_TURNS: u32 = 20;
 const HINT: &str =
     "the peer ended the connection before it opened it: it most likely requires SASL (part 5) or TLS, which this end has none of";
 
-/// A session that can write without waiting for the peer.
+/// A session that can be driven without waiting for the peer.
 pub trait Flushes: Session {
-    /// Writes what was put out.
+    /// Writes what was put out, and takes what the peer has sent. `elapsed` is how many milliseconds have passed since the command began: by them it is counted how
+    /// long the peer has been silent.
     ///
     /// # Errors
     ///
     /// Those of [`Session::turn`].
-    fn flush(&mut self) -> Result<(), ClientFault>;
+    fn flush(&mut self, elapsed: u64) -> Result<(), ClientFault>;
+
+    /// Returns the socket on which the peer is heard, if it can be waited for.
+    fn socket(&self) -> Option<RawFd>;
+}
+
+/// Returns whether something was put out that is not written.
+pub(crate) fn has_unwritten(end: &End) -> bool {
+    end.conn().logged().waiting_units() > 0
 }
 
 impl<R: Read, W: Write> Flushes for Client<R, W> {
-    /// Reads once, too.
-    fn flush(&mut self) -> Result<(), ClientFault> {
+    /// A turn, which may wait.
+    fn flush(&mut self, _elapsed: u64) -> Result<(), ClientFault> {
         self.turn()
     }
+
+    fn socket(&self) -> Option<RawFd> {
+        None
+    }
+}
+
+/// How many reads a flush makes at most while the peer has sent more.
+const READS: u32 = 16;
+
+/// Returns whether so much time has passed that the next read counts as one that has waited.
+fn is_tick_due(ticked: u64, elapsed: u64) -> bool
+    ensures { IsTrue result ↔ (ticked + 250 ≤ elapsed) }
+{
+    elapsed.saturating_sub(ticked) >= u64::from(TICK)
 }
 
 /// A session, and why either end has left it.
@@ -40,8 +66,8 @@ pub(crate) struct Observed<'a, S> {
     reason: Option<Reason>,
     /// How many turns are left; `None`: there is no limit.
     turns: Option<u32>,
-    /// How many units had been put out at the last flush.
-    put_out: u64,
+    /// When a flush counted last as a read that has waited, in milliseconds since the command began.
+    ticked: u64,
 }
 
 impl<S: Session> Session for Observed<'_, S> {
@@ -72,18 +98,24 @@ impl<S: Session> Session for Observed<'_, S> {
 }
 
 impl<S: Session> Flushes for Observed<'_, S> {
-    fn flush(&mut self) -> Result<(), ClientFault> {
-        let put_out = self.session.end().conn().logged().put_out();
-        if put_out == self.put_out {
-            return Ok(());
+    fn flush(&mut self, elapsed: u64) -> Result<(), ClientFault> {
+        if is_tick_due(self.ticked, elapsed) {
+            self.ticked = elapsed;
+            self.turn_at_once()?;
+        } else {
+            self.turn_uncounted()?;
         }
-        self.put_out = put_out;
-        self.seen.write_only(true);
-        let turned = self.turn();
-        self.seen.write_only(false);
-        // Nothing was read, so the peer was not silent.
-        self.session.end_mut().waits.hear();
-        turned
+        for _ in 0..READS {
+            if !self.seen.has_read() {
+                break;
+            }
+            self.turn_uncounted()?;
+        }
+        Ok(())
+    }
+
+    fn socket(&self) -> Option<RawFd> {
+        self.seen.socket()
     }
 }
 
@@ -94,8 +126,27 @@ impl<'a, S: Session> Observed<'a, S> {
             seen,
             reason: None,
             turns: None,
-            put_out: 0,
+            ticked: 0,
         }
+    }
+
+    /// A turn whose read ends in vain if nothing is there.
+    fn turn_at_once(&mut self) -> Result<(), ClientFault> {
+        self.seen.begin_poll();
+        let turned = self.turn();
+        self.seen.end_poll();
+        turned
+    }
+
+    /// As `turn_at_once`. A read in vain does not count: no time has passed.
+    fn turn_uncounted(&mut self) -> Result<(), ClientFault> {
+        let waits = self.session.end().waits;
+        self.session.end_mut().waits.hear();
+        let turned = self.turn_at_once();
+        if !self.seen.has_read() {
+            self.session.end_mut().waits = waits;
+        }
+        turned
     }
 
     /// Keeps the first error by which either end leaves something.

@@ -1,8 +1,8 @@
-//! Tests: a journal's line is written before what depends on it is sent, and nothing that is in doubt is taken for had.
+//! Tests: a journal's line is written before what depends on it is sent, and nothing that is in doubt counts as taken.
 use crate::again::GoesOn;
 use crate::bodies::Bodies;
 use crate::exchange::{Exchange, ExchangeFault, Renewal, Settlement, begin};
-use crate::journal::{Line, Notes};
+use crate::journal::{Journal, Line, Notes};
 use crate::observed::{Flushes, Observed};
 use crate::progress::Unwatched;
 use crate::receive_again::Receives;
@@ -13,8 +13,10 @@ use amqp_client::{Client, ClientFault, End, Session, await_attached};
 use amqp_conn::{Config, Phase, Role, Tag, Text};
 use std::alloc::{AllocError, Global};
 use std::cell::Cell;
+use std::fs::{Metadata, OpenFile};
 use std::io;
-use std::io::{Read, Sink, sink};
+use std::io::{ErrorKind, Read, Sink, Write, sink};
+use std::os::fd::RawFd;
 
 /// A message of no octets, unsettled.
 const ONE: Exchange<'static> = Exchange {
@@ -158,8 +160,12 @@ impl Session for Watched<'_> {
 }
 
 impl Flushes for Watched<'_> {
-    fn flush(&mut self) -> Result<(), ClientFault> {
+    fn flush(&mut self, _elapsed: u64) -> Result<(), ClientFault> {
         self.turn()
+    }
+
+    fn socket(&self) -> Option<RawFd> {
+        None
     }
 }
 
@@ -195,7 +201,7 @@ fn fed<'a>(
 struct Seen {
     /// How many lines were noted.
     noted: u64,
-    /// How many messages were had.
+    /// How many messages were taken, or have begun.
     count: u64,
     /// Something went out while a line was not on the disk.
     is_early: bool,
@@ -237,21 +243,21 @@ fn received(alloc: Global, second: usize, most: u64) -> Option<Seen> {
     Some(seen)
 }
 
-/// Sends two lines.
-fn sent(alloc: Global) -> Option<Seen> {
+/// Sends the lines of this text to the peer that says `TOLD`, with at most so many lines of the journal.
+fn sent(alloc: Global, octets: &[u8], text: &[u8], most: u64) -> Option<Seen> {
     let unsynced = Cell::new(false);
-    let mut session = fed(alloc, &TOLD, 119, 42, &unsynced)?;
+    let mut session = fed(alloc, octets, 119, 42, &unsynced)?;
     let lines = Exchange {
         is_lines: true,
         ..ONE
     };
-    let mut input: &[u8] = b"x\ny";
+    let mut input = text;
     let Ok(bodies) = Bodies::new(alloc, &lines, None, &mut input) else {
         return None;
     };
     let recorder = Recorder {
         noted: 0,
-        most: u64::MAX,
+        most,
         unsynced: &unsynced,
     };
     let mut sends = Sends::new(alloc, &lines, recorder, bodies);
@@ -279,7 +285,7 @@ fn without_message(alloc: Global) -> Result<Vec<u8>, AllocError> {
     Ok(octets)
 }
 
-/// Where a connection stands that fails while its link is kept, and whether the link is there still.
+/// The phase of a connection that fails while its link is kept, and whether the link is still there.
 fn left_aside(alloc: Global) -> Option<(Phase, bool)> {
     let unsynced = Cell::new(false);
     let octets = without_message(alloc).ok()?;
@@ -301,6 +307,61 @@ fn left_aside(alloc: Global) -> Option<(Phase, bool)> {
         Ok(()) => Some(stands),
         Err(_) => None,
     }
+}
+
+/// A file that counts how often it is brought to the disk.
+#[derive(Drop)]
+struct Disk<'a> {
+    syncs: &'a Cell<u32>,
+}
+
+impl Write for Disk<'_> {
+    fn write(&mut self, buf: &[u8]) -> io::Result<usize> {
+        Ok(buf.len())
+    }
+
+    fn flush(&mut self) -> io::Result<()> {
+        Ok(())
+    }
+}
+
+impl OpenFile for Disk<'_> {
+    fn metadata(&self) -> io::Result<Metadata> {
+        Err(io::Error::from(ErrorKind::Unsupported))
+    }
+
+    fn set_len(&self, _size: u64) -> io::Result<()> {
+        Ok(())
+    }
+
+    fn sync_all(&self) -> io::Result<()> {
+        self.sync_data()
+    }
+
+    fn sync_data(&self) -> io::Result<()> {
+        self.syncs.set(self.syncs.get().saturating_add(1));
+        Ok(())
+    }
+}
+
+/// How often the file is brought to the disk for a line that is synced twice.
+fn syncs(alloc: Global) -> u32 {
+    let syncs = Cell::new(0);
+    let mut journal = Journal::over(alloc, Disk { syncs: &syncs }, None);
+    let is_noted = journal.note(&Line::Begun(0)).is_ok();
+    let is_synced = journal.sync().is_ok() && journal.sync().is_ok();
+    drop(journal);
+    if is_noted && is_synced {
+        syncs.get()
+    } else {
+        0
+    }
+}
+
+/// What was noted is brought to the disk, once.
+#[test]
+fn what_is_noted_is_brought_to_the_disk(rt: HostRuntime) {
+    assert!(rt; syncs(rt.alloc()) == 1);
 }
 
 /// A run that fails puts its link aside, and closes the connection as agreed.
@@ -333,7 +394,7 @@ fn lines_are_on_the_disk_before_anything_goes_out(rt: HostRuntime) {
     assert!(rt; received(rt.alloc(), 23, 9) == Some(due));
 }
 
-/// A message whose link is gone before it was accepted is not had: its sender has it.
+/// A message whose link is gone before it was accepted does not count as taken: its sender has it.
 #[test]
 fn what_a_link_leaves_in_doubt_is_not_had(rt: HostRuntime) {
     let due = Seen {
@@ -354,5 +415,19 @@ fn a_message_is_noted_before_it_goes(rt: HostRuntime) {
         is_early: false,
         is_held: false,
     };
-    assert!(rt; sent(rt.alloc()) == Some(due));
+    assert!(rt; sent(rt.alloc(), &TOLD, b"x\ny", u64::MAX) == Some(due));
+}
+
+/// Of lines that are all there 64 begin, and then the peer is heard: two outcomes are noted before another message begins.
+#[test]
+fn the_peer_is_heard_between_lines(rt: HostRuntime) {
+    let due = Seen {
+        noted: 66,
+        count: 64,
+        is_early: false,
+        is_held: false,
+    };
+    let mut octets = TOLD;
+    octets[118] = 200;
+    assert!(rt; sent(rt.alloc(), &octets, &[b'\n'; 100], 66) == Some(due));
 }

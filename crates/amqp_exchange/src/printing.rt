@@ -69,11 +69,11 @@ pub(crate) fn names_of(kind: SectionKind) -> &'static [&'static str] {
     }
 }
 
-/// Writes of the message what is asked for, and lets nothing wait.
+/// Writes what is asked for of the message, and flushes it.
 ///
 /// # Errors
 ///
-/// `Out` where a write fails, and `NoMemory`.
+/// `Out` if a write fails, and `NoMemory`.
 pub(crate) fn write_taken<W: Write>(
     alloc: Global,
     printed: Printed,
@@ -95,7 +95,7 @@ pub(crate) fn write_taken<W: Write>(
     out.flush().map_err(ExchangeFault::Out)
 }
 
-/// Octets that are no message, as they are, behind why they are none.
+/// Writes octets that are no message, as they are, behind why they are none.
 fn write_octets<W: Write>(
     printed: Printed,
     fault: MessageFault,
@@ -218,7 +218,7 @@ pub(crate) fn is_null(value: &Value) -> bool {
     }
 }
 
-/// The value as text, behind what stands before it.
+/// Writes the value as text, behind `before`.
 fn write_value<W: Write>(
     alloc: Global,
     before: &str,

@@ -3,12 +3,12 @@ use crate::again::PAUSE;
 use std::rt::Clock;
 use std::time::Instant;
 
-/// Is told how far an exchange is.
+/// Shows how far an exchange is.
 pub trait Watch {
-    /// So many messages were sent, or taken, until now, those of earlier runs among them.
+    /// Notes how many messages were sent, or taken, until now, those of earlier runs among them.
     fn note(&mut self, count: u64);
 
-    /// Something else is told next, or nothing more.
+    /// Ends the line: something else is printed next, or nothing more.
     fn end(&mut self);
 
     /// Prints a line on standard error.
@@ -40,13 +40,13 @@ pub(crate) struct Progress<'a, E> {
     rt: &'a E,
     /// `None` if there is no clock.
     begun: Option<Instant>,
-    /// How far it is is printed.
+    /// Progress is printed.
     is_told: bool,
-    /// How many messages there are to be; none: that is not known.
+    /// How many messages there are to be; `None` if that is not known.
     wanted: Option<u32>,
-    /// How many there were when this run was told of the first one; none: it was not yet. It is no part of what a second brings.
+    /// How many there were at the first note of this run; `None` before it. They are not counted in the rate.
     first: Option<u64>,
-    /// When a line was written last, in milliseconds from then on; 0: none was.
+    /// When a line was written last, in milliseconds since the command began; 0 if none was.
     told: u64,
     /// A line was written, and has no end yet.
     is_open: bool,

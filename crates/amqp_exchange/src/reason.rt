@@ -1,6 +1,7 @@
 //! Why a link, a session or a connection ended before its time.
 use amqp_conn::{AmqpError, Conn, Op, Performative, Text, error_of};
 use amqp_journal::entry::{Entry, Step};
+use amqp_policy::Shown;
 use std::alloc::AllocError;
 use std::fmt;
 use std::fmt::{Display, Formatter};
@@ -62,23 +63,6 @@ impl Display for Reason {
             }
             None => Ok(()),
         }
-    }
-}
-
-/// A text of the peer's in a line of ours: what could end that, or steer a terminal, is escaped.
-#[derive(Clone, Copy)]
-struct Shown<'a>(&'a str);
-
-impl Display for Shown<'_> {
-    fn fmt<W: fmt::Write>(&self, f: &mut Formatter<W>) -> fmt::Result {
-        for it in self.0.chars() {
-            if it.is_control() || it == '\\' {
-                write!(f, "\\x{:02x}", u32::from(it))?;
-            } else {
-                f.write_char(it)?;
-            }
-        }
-        Ok(())
     }
 }
 

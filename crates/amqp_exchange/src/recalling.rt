@@ -1,21 +1,21 @@
-//! What a journal tells of earlier runs.
+//! What a journal says of earlier runs.
 use crate::exchange::ExchangeFault;
 use crate::journal::{Journal, Line, is_front, open_journal, read_line, text_of, whole_lines};
 use amqp_conn::Role;
 use std::alloc::Global;
 use std::rt::Files;
 
-/// Is told each line of a journal behind the first one, in their order.
+/// Takes each line of a journal behind the first one, in order.
 pub(crate) trait Recalls {
-    /// False where there can be no such line behind those before.
+    /// Takes the next line. False if there can be no such line behind those before.
     fn recall(&mut self, line: &Line<'_>) -> Result<bool, ExchangeFault>;
 }
 
-/// The journal at this path, of a link on which we have this role: its lines are told.
+/// Opens the journal at this path, of a link on which we have this role, and hands each of its lines to `to`.
 ///
 /// # Errors
 ///
-/// `NoLine` where one is none, and those of `recall`: then the file stays as it is. `Journal` where it cannot be read or opened.
+/// `NoLine` if one is none, and those of `recall`: then the file stays as it is. `Journal` if it cannot be read or opened.
 pub(crate) fn recall_journal<R: AllocGlobal + Files, T: Recalls>(
     rt: &R,
     path: &str,
@@ -35,7 +35,7 @@ pub(crate) fn recall_journal<R: AllocGlobal + Files, T: Recalls>(
     }
 }
 
-/// Of the text so many octets are whole lines, and told.
+/// Hands each whole line of the text to `to`, and returns how many bytes they have.
 fn recall_all<T: Recalls>(
     alloc: Global,
     text: &[u8],
@@ -58,7 +58,7 @@ fn recall_all<T: Recalls>(
     }
 }
 
-/// False where there can be no such line: the first one tells the link, and no other one does.
+/// Hands a line to `to`. False if there can be no such line: the first one names the link, and no other one does.
 fn recall_one<T: Recalls>(
     alloc: Global,
     line: &[u8],

@@ -1,37 +1,57 @@
 //! The command `receive` with a journal: each message is written out once, over as many connections as it takes, in as many runs.
 ghost use Rattle.std.specs.Prelude.{◌↔◌, ◌≤◌, IsTrue};
 
-use crate::again::{GoesOn, go_over_all, join, most_in_doubt, turn};
+use crate::again::{GoesOn, go_over_all, most_in_doubt, turn};
 use crate::credit::{credit_due, incoming_of};
 use crate::exchange::{Exchange, ExchangeFault, Received};
-use crate::journal::{Line, Notes};
+use crate::journal::{FileId, Journal, Line, Notes};
 use crate::observed::Flushes;
+use crate::printing::Printed;
+use crate::printout::{LastPrint, cut_output, output_file, output_length};
 use crate::recalling::{Recalls, recall_journal};
 use crate::receive_once::within;
-use crate::report::{Reports, show_taken};
+use crate::rejoining::Rejoining;
+use crate::report::{Came, Reports, show_taken};
 use amqp_client::{ClientFault, End, Session, finish, grant, settle_as};
 use amqp_conn::{
     Boxed, CloseRefusal, ConnFault, DeliveryState, PumpFault, Refusal, Role, Tag, Taken,
 };
 use amqp_policy::{Incoming, ReceivedDoubts};
 use std::alloc::{AllocError, Global};
+use std::io;
 use std::net::{Net, TcpStream};
 use std::rt::{Clock, Files};
 
-impl Recalls for ReceivedDoubts {
+/// What a journal says of earlier runs.
+#[derive(Drop)]
+struct Recalled {
+    known: ReceivedDoubts,
+    last: LastPrint,
+}
+
+impl Recalled {
+    fn into_known(self) -> ReceivedDoubts {
+        let Recalled { known, last: _ } = self;
+        known
+    }
+}
+
+impl Recalls for Recalled {
     fn recall(&mut self, line: &Line<'_>) -> Result<bool, ExchangeFault> {
+        self.last.recall(line);
         match line {
+            Line::Output(_) | Line::Printing(_, _) => Ok(true),
             Line::Taken(tag, octets) => {
-                self.take(*tag, *octets)?;
+                self.known.take(*tag, *octets)?;
                 Ok(true)
             }
-            Line::Settled(tag) => Ok(self.settle(tag)),
+            Line::Settled(tag) => Ok(self.known.settle(tag)),
             _ => Ok(false),
         }
     }
 }
 
-/// So many messages were written out as are asked for.
+/// Returns whether as many messages were printed as are asked for.
 fn has_all(known: &ReceivedDoubts, count: u32) -> bool
     ensures { IsTrue result ↔ (count ≤ known.now.count) }
 {
@@ -56,10 +76,11 @@ pub(crate) struct Receives<'a, N> {
     notes: N,
     known: ReceivedDoubts,
     alloc: Global,
-    /// The peer does not recover links: no attach brings anything in.
-    is_plain: bool,
-    /// The last attach brought something in when the journal had got so many lines.
-    asked: Option<u64>,
+    link: Rejoining,
+    /// The file that messages are printed to, if it is one.
+    output: Option<FileId>,
+    /// The journal names that file.
+    is_output_noted: bool,
 }
 
 /// As `run_receive`, with the journal at this path. `received` is what came of it in all runs, also if this one fails.
@@ -73,10 +94,8 @@ pub(crate) fn receive_again<R, T: Reports>(
 where
     R: AllocGlobal + Net<Stream = TcpStream> + Eprint + Clock + Files,
 {
-    let mut known = ReceivedDoubts::new(rt.alloc());
-    match recall_journal(rt, path, Role::Receiver, &mut known) {
-        Ok(notes) => {
-            let mut receives = Receives::with(rt.alloc(), exchange, notes, known);
+    match receives_of(rt, exchange, path) {
+        Ok(mut receives) => {
             let ended = go_over_all(rt, exchange, &mut receives, reports);
             *received = received_of(&receives.known);
             let is_done = has_all(&receives.known, exchange.count);
@@ -86,10 +105,58 @@ where
                 _ => Ok(()),
             }
         }
+        Err(fault) => Err(fault),
+    }
+}
+
+/// The messages of this exchange, with what the journal at this path says of earlier runs. What was printed and not noted is cut off.
+fn receives_of<'a, R: AllocGlobal + Files>(
+    rt: &R,
+    exchange: &'a Exchange<'a>,
+    path: &str,
+) -> Result<Receives<'a, Journal<R::File>>, ExchangeFault> {
+    let output = printed_to(rt, exchange.printed);
+    let mut recalled = Recalled {
+        known: ReceivedDoubts::new(rt.alloc()),
+        last: LastPrint::NONE,
+    };
+    let recalled_so = recall_journal(rt, path, Role::Receiver, &mut recalled);
+    let last = recalled.last;
+    let known = recalled.into_known();
+    let notes = match recalled_so {
+        Ok(notes) => notes,
         Err(fault) => {
             drop(known);
-            Err(fault)
+            return Err(fault);
         }
+    };
+    let mut receives = Receives::with(rt.alloc(), exchange, notes, known);
+    receives.output = output;
+    match cut_unnoted(rt, output, last) {
+        Ok(()) => Ok(receives),
+        Err(error) => {
+            drop(receives);
+            Err(ExchangeFault::Out(error))
+        }
+    }
+}
+
+/// The file that messages are printed to, if they are.
+fn printed_to<R: Files>(rt: &R, printed: Printed) -> Option<FileId> {
+    match printed {
+        Printed::Nothing => None,
+        _ => output_file(rt),
+    }
+}
+
+/// Cuts off what an earlier run printed to this file and did not note.
+fn cut_unnoted<R: Files>(rt: &R, output: Option<FileId>, last: LastPrint) -> io::Result<()> {
+    let Some(file) = output else {
+        return Ok(());
+    };
+    match last.begins_in(file) {
+        Some(length) => cut_output(rt, length),
+        None => Ok(()),
     }
 }
 
@@ -141,11 +208,11 @@ impl<N: Notes> GoesOn for Receives<'_, N> {
     }
 
     fn has_asked(&self) -> bool {
-        self.asked == Some(self.notes.noted())
+        self.link.has_asked(self.notes.noted())
     }
 
     fn forgo(&mut self) {
-        self.is_plain = true;
+        self.link.forgo();
     }
 
     fn go_on<S: Flushes, T: Reports>(
@@ -176,11 +243,11 @@ impl<N: Notes> GoesOn for Receives<'_, N> {
         is_fault_of_it: bool,
         reports: &mut T,
     ) -> Result<(), ExchangeFault> {
-        // What came settled is had, also where a fault ended the connection in the same piece.
+        // What came settled is taken, also if a fault ended the connection in the same piece.
         if is_fault_of_it && session.end().is_gone() {
             self.take_all(session, reports)?;
         }
-        // Neither end keeps anything of a link that was detached for good, also where what came behind that is lost.
+        // Neither end keeps anything of a link that was detached for good, also if what came behind that is lost.
         if session.end().is_gone_for_good() {
             self.settle_all()?;
         }
@@ -207,37 +274,27 @@ impl<'a, N: Notes> Receives<'a, N> {
             notes,
             known,
             alloc,
-            is_plain: false,
-            asked: None,
+            link: Rejoining::new(Role::Receiver),
+            output: None,
+            is_output_noted: false,
         }
     }
 
-    /// How many messages were had.
+    /// How many messages were taken.
     #[cfg(test)]
     pub(crate) fn count(&self) -> u64 {
         self.known.count()
     }
 
-    /// Session and link are there, which brings in what is in doubt.
+    /// Attaches the link, which brings in what is in doubt.
     fn join<S: Session>(&mut self, session: &mut S) -> Result<(), ExchangeFault> {
         self.known.bring()?;
-        let mut tags = Vec::new(self.alloc);
-        if !self.is_plain {
-            tags = tags_of(self.alloc, &self.known)?;
-        }
-        let joined = join(
-            session,
-            self.exchange,
-            Role::Receiver,
-            &mut self.notes,
-            tags.as_slice(),
-        );
-        self.asked = asked_of(tags.as_slice(), self.notes.noted());
-        drop(tags);
-        joined
+        let tags = tags_of(self.alloc, &self.known)?;
+        self.link
+            .join(session, self.exchange, &mut self.notes, tags)
     }
 
-    /// Takes what is there, and gives credit for more. True where nothing more is to come.
+    /// Takes what is there, and grants credit for more. True if nothing more is to come.
     fn step<S: Session, T: Reports>(
         &mut self,
         session: &mut S,
@@ -254,8 +311,8 @@ impl<'a, N: Notes> Receives<'a, N> {
         }
     }
 
-    /// The sender answers our detach behind all that it was told. Where it closes before, as agreed, it wants to know no more; where it leaves the link otherwise
-    /// it may ask again.
+    /// The sender answers our detach after it has heard all outcomes. If it closes before, as agreed, it asks no more; if it leaves the link otherwise, it may ask
+    /// again.
     fn finish<S: Session>(&mut self, session: &mut S) -> Result<(), ExchangeFault> {
         self.notes.sync()?;
         match finish_as_agreed(session) {
@@ -283,25 +340,55 @@ impl<'a, N: Notes> Receives<'a, N> {
         Ok(())
     }
 
-    /// The message is written out, then noted, and then accepted.
+    /// Prints the message, notes it, and then accepts it.
     fn keep<S: Session, T: Reports>(
         &mut self,
         session: &mut S,
         taken: Boxed<Taken>,
         reports: &mut T,
     ) -> Result<(), ExchangeFault> {
-        let came = show_taken(reports, taken)?;
+        let came = self.print(taken, reports)?;
         self.confirm()?;
         self.note_taken(came.tag, came.octets, came.is_settled)?;
         if !came.is_settled {
-            // Where the link is gone the message stays in doubt.
+            // If the link is gone, the message stays in doubt.
             settle_as(session, came.id, DeliveryState::Accepted)?;
         }
         reports.note(self.known.count());
         Ok(())
     }
 
-    /// It is noted that a message was written out, and where it came settled that, too.
+    /// Notes where the message is printed, and prints it.
+    fn print<T: Reports>(
+        &mut self,
+        taken: Boxed<Taken>,
+        reports: &mut T,
+    ) -> Result<Came, ExchangeFault> {
+        match self.note_print(taken.get()) {
+            Ok(()) => show_taken(reports, taken),
+            Err(fault) => {
+                drop(taken);
+                Err(fault)
+            }
+        }
+    }
+
+    /// Notes where a message begins in the output. One that came settled does not come again, so it is not to be cut off.
+    fn note_print(&mut self, taken: &Taken) -> Result<(), ExchangeFault> {
+        let Some(output) = self.output else {
+            return Ok(());
+        };
+        if !self.is_output_noted {
+            self.notes.note(&Line::Output(output))?;
+            self.is_output_noted = true;
+        }
+        match output_length() {
+            Some(length) if !taken.settled => self.notes.note(&Line::Printing(taken.tag, length)),
+            _ => Ok(()),
+        }
+    }
+
+    /// Notes that a message was printed, and if it came settled, that, too.
     fn note_taken(&mut self, tag: Tag, octets: u64, is_settled: bool) -> Result<(), ExchangeFault> {
         self.notes.note(&Line::Taken(tag, octets))?;
         self.known.take(tag, octets)?;
@@ -312,7 +399,7 @@ impl<'a, N: Notes> Receives<'a, N> {
         Ok(())
     }
 
-    /// A message came: where it came by newer credit, what was told before that is known to the sender.
+    /// Notes that a message came. If it came by newer credit, its sender has heard what was sent before that.
     fn confirm(&mut self) -> Result<(), ExchangeFault> {
         match self.known.confirmed() {
             Some(count) => self.settle_told(count),
@@ -320,7 +407,7 @@ impl<'a, N: Notes> Receives<'a, N> {
         }
     }
 
-    /// Of so many messages whose outcome was sent the sender knows it.
+    /// Notes that the sender has heard the outcome of so many messages.
     fn settle_told(&mut self, count: usize) -> Result<(), ExchangeFault> {
         for _ in 0..count {
             match self.known.pop_told() {
@@ -331,7 +418,7 @@ impl<'a, N: Notes> Receives<'a, N> {
         Ok(())
     }
 
-    /// Nothing is in doubt any more.
+    /// Notes that nothing is in doubt any more.
     fn settle_all(&mut self) -> Result<(), ExchangeFault> {
         for _ in 0..self.known.brought_len() {
             match self.known.pop_brought() {
@@ -343,7 +430,7 @@ impl<'a, N: Notes> Receives<'a, N> {
         self.settle_told(count)
     }
 
-    /// Looks, once round, for what was brought in and waits no longer: the sender has not told of it, or has resumed it, settled or not.
+    /// Looks, once round, for what was brought in and waits no longer: the sender has not named it, or has resumed it, settled or not.
     fn look_brought<S: Session>(&mut self, session: &mut S) -> Result<(), ExchangeFault> {
         for _ in 0..self.known.brought_len() {
             match self.known.pop_brought() {
@@ -370,7 +457,7 @@ impl<'a, N: Notes> Receives<'a, N> {
         }
     }
 
-    /// Credit is granted again: first for what waits to be resumed, and then for what is still wanted, as far as what is in doubt can be told of.
+    /// Grants credit again: first for what waits to be resumed, and then for what is still wanted, as far as an attach can name what is then in doubt.
     fn renew<S: Session>(&mut self, session: &mut S) -> Result<(), ClientFault> {
         if session.end().is_gone() {
             return Ok(());
@@ -406,11 +493,6 @@ impl<'a, N: Notes> Receives<'a, N> {
             self.exchange.renewal,
         )
     }
-}
-
-/// What an attach that brought in these deliveries asked for when the journal had got so many lines.
-fn asked_of(tags: &[Tag], noted: u64) -> Option<u64> {
-    if tags.is_empty() { None } else { Some(noted) }
 }
 
 /// The next message that is there. Of what a link left that is gone only what came settled: the peer has all else.

@@ -15,7 +15,7 @@ use std::io::Write;
 use std::net::{Net, TcpStream};
 use std::rt::Clock;
 
-/// What an exchange is to have, and what it had.
+/// What an exchange is to take, and what it has taken.
 #[derive(Clone, Copy)]
 struct Receives<'a> {
     exchange: &'a Exchange<'a>,
@@ -56,7 +56,7 @@ where
 ///
 /// # Errors
 ///
-/// Where the peer ends, an operation is refused, a write fails, or memory is refused.
+/// The peer ended the exchange, an operation was refused, a write failed, or memory ran out.
 pub fn receive_all<S: Session, O: Write, P: Watch>(
     alloc: Global,
     session: &mut S,
@@ -109,9 +109,10 @@ fn take_next<S: Session, T: Reports>(
     taken: u64,
     reports: &mut T,
 ) -> Result<Boxed<Taken>, ExchangeFault> {
-    renew(session, exchange, taken).map_err(ExchangeFault::Client)?;
     let begun = reports.elapsed();
     for _ in 0..u64::MAX {
+        // Deliveries that the peer aborts use credit, too.
+        renew(session, exchange, taken).map_err(ExchangeFault::Client)?;
         match next_of(session.end_mut()) {
             Ok(Some(taken)) => return Ok(taken),
             Ok(None) => {}
@@ -191,7 +192,7 @@ fn drain_all<S: Session, T: Reports>(
     Ok(())
 }
 
-/// Takes a message that the peer has; none where it has no more.
+/// Takes a message that the peer has; `None` if it has no more.
 fn drain_next<S: Session>(
     session: &mut S,
     exchange: &Exchange<'_>,
@@ -212,17 +213,10 @@ fn renew_drain<S: Session>(
     taken: u64,
     given: &mut u64,
 ) -> Result<(), ClientFault> {
-    if taken != *given || session.end().is_gone() {
+    if taken != *given {
         return Ok(());
     }
-    let incoming = incoming_of(session.end());
-    match credit_due(
-        exchange.count,
-        taken,
-        incoming,
-        exchange.credit,
-        Renewal::Drain,
-    ) {
+    match credit_wanted(session.end(), exchange, taken) {
         Some(credit) => {
             *given = given.saturating_add(u64::from(credit));
             drain(session, credit)
@@ -231,29 +225,33 @@ fn renew_drain<S: Session>(
     }
 }
 
-/// Credit is granted again as is asked for, and never for more messages than are still wanted.
+/// Credit is granted again as is asked for.
 fn renew<S: Session>(
     session: &mut S,
     exchange: &Exchange<'_>,
     taken: u64,
 ) -> Result<(), ClientFault> {
-    if session.end().is_gone() {
-        return Ok(());
-    }
-    let incoming = incoming_of(session.end());
-    match credit_due(
-        exchange.count,
-        taken,
-        incoming,
-        exchange.credit,
-        exchange.renewal,
-    ) {
+    match credit_wanted(session.end(), exchange, taken) {
         Some(credit) => grant(session, credit),
         None => Ok(()),
     }
 }
 
-/// What the peer is answered.
+/// Returns the credit to grant once so many messages were taken, never for more than are still wanted; `None` if none is due, or the link is gone.
+fn credit_wanted(end: &End, exchange: &Exchange<'_>, taken: u64) -> Option<u32> {
+    if end.is_gone() {
+        return None;
+    }
+    credit_due(
+        exchange.count,
+        taken,
+        incoming_of(end),
+        exchange.credit,
+        exchange.renewal,
+    )
+}
+
+/// The outcome that is sent.
 fn state_of(settlement: Settlement) -> DeliveryState {
     match settlement {
         Settlement::Accept => DeliveryState::Accepted,
@@ -262,7 +260,7 @@ fn state_of(settlement: Settlement) -> DeliveryState {
     }
 }
 
-/// Prints what is asked for of the message, counts it, and answers it unless it came settled.
+/// Prints what is asked for of the message, counts it, and settles it unless it came settled.
 fn accept<S: Session, T: Reports>(
     session: &mut S,
     settlement: Settlement,

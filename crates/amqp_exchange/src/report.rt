@@ -1,4 +1,4 @@
-//! What an exchange tells and prints as it goes on, and at its end.
+//! What an exchange prints as it goes on, and at its end.
 use crate::exchange::{ExchangeFault, Received, Sent};
 use crate::printing::{Printed, write_taken};
 use crate::progress::Watch;
@@ -8,7 +8,7 @@ use std::alloc::Global;
 use std::io;
 use std::io::Write;
 
-/// Is told what comes of an exchange: an [`Output`].
+/// Prints what comes of an exchange: an [`Output`].
 pub(crate) trait Reports: Watch {
     /// Prints of the message with this payload what is asked for.
     fn show(&mut self, payload: &Bytes) -> Result<(), ExchangeFault>;
@@ -17,7 +17,7 @@ pub(crate) trait Reports: Watch {
     fn tell(&mut self, reason: &Reason);
 }
 
-/// Where what is printed of messages goes, and who watches.
+/// The writer that messages are printed to, and who shows progress.
 #[derive(Drop)]
 pub(crate) struct Output<'a, O, P> {
     alloc: Global,
@@ -81,7 +81,7 @@ pub(crate) struct Came {
     pub(crate) octets: u64,
 }
 
-/// Prints the message, and lets it go.
+/// Prints the message, and drops it.
 pub(crate) fn show_taken<T: Reports>(
     reports: &mut T,
     taken: Boxed<Taken>,
@@ -109,7 +109,7 @@ fn came_of(taken: &Taken) -> Came {
     }
 }
 
-/// How many messages were sent, and what became of them.
+/// Writes how many messages were sent, and what became of them.
 pub(crate) fn tell_sent<W: Write>(out: &mut W, sent: &Sent) -> Result<(), ExchangeFault> {
     let outcomes = &sent.outcomes;
     let lines = [
@@ -123,7 +123,7 @@ pub(crate) fn tell_sent<W: Write>(out: &mut W, sent: &Sent) -> Result<(), Exchan
     write_counts(out, &lines).map_err(ExchangeFault::Out)
 }
 
-/// How many messages were had.
+/// Writes how many messages were taken.
 pub(crate) fn tell_received<W: Write>(
     out: &mut W,
     received: Received,

@@ -2,12 +2,14 @@
 ghost use Rattle.std.specs.Prelude.{◌≡◌};
 ghost use Rattle.amqp_exchange.specs.Resuming.{after_verdict};
 
-use crate::again::{GoesOn, go_over_all, join, most_in_doubt, turn};
+use crate::again::{GoesOn, flush, go_over_all, most_in_doubt, turn};
 use crate::bodies::{Bodies, Supply};
 use crate::exchange::{Exchange, ExchangeFault, Sent};
-use crate::journal::{Journal, Line, Notes, outcome_of};
-use crate::observed::Flushes;
+use crate::journal::{Journal, Line, Notes};
+use crate::observed::{Flushes, has_unwritten};
+use crate::queued::Queued;
 use crate::recalling::{Recalls, recall_journal};
+use crate::rejoining::Rejoining;
 use crate::report::Reports;
 use crate::streaming::Next;
 use amqp_client::{End, LINK, Session, finish, number_of, resume, send, settle};
@@ -18,7 +20,7 @@ use std::io::BufRead;
 use std::net::{Net, TcpStream};
 use std::rt::{Clock, Files};
 
-/// The messages that have begun. Of one in doubt its octets are kept; `None` until the input was read up to it.
+/// The messages that have begun. The octets of one in doubt are kept; `None` until the input was read up to it.
 type Known = SentDoubts<Option<Bytes>>;
 
 /// The tags of what is in doubt.
@@ -34,7 +36,7 @@ fn tags_of(alloc: Global, known: &Known) -> Result<Vec<Tag>, AllocError> {
     Ok(tags)
 }
 
-/// A hand on the message with this number, if it is in doubt.
+/// Returns the message with this number, if it is in doubt.
 fn message_of(known: &Known, number: u32) -> Result<Option<Bytes>, AllocError> {
     match known.kept(number) {
         Some(Some(message)) => Ok(Some(message.clone()?)),
@@ -81,14 +83,13 @@ pub(crate) struct Sends<'a, N, B> {
     bodies: B,
     known: Known,
     alloc: Global,
-    /// The message that is to begin next, where it was looked for.
+    /// The message that is to begin next, if it was looked for.
     pending: Option<Bytes>,
-    /// There is none more.
+    /// There are no more messages.
     is_over: bool,
-    /// The peer does not recover links: no attach brings anything in.
-    is_plain: bool,
-    /// The last attach brought something in when the journal had got so many lines.
-    asked: Option<u64>,
+    link: Rejoining,
+    /// What was put out since the peer was heard last.
+    queued: Queued,
 }
 
 /// As `run_send`, with the journal at this path. `sent` is what came of it in all runs, also if this one fails.
@@ -119,7 +120,7 @@ where
     }
 }
 
-/// These messages, with what the journal at this path tells of them.
+/// Returns these messages, with what the journal at this path says of them.
 fn sends_of<'a, R: AllocGlobal + Files, B: Drop>(
     rt: &R,
     exchange: &'a Exchange<'a>,
@@ -165,11 +166,11 @@ impl<N: Notes, B: Supply> GoesOn for Sends<'_, N, B> {
     }
 
     fn has_asked(&self) -> bool {
-        self.asked == Some(self.notes.noted())
+        self.link.has_asked(self.notes.noted())
     }
 
     fn forgo(&mut self) {
-        self.is_plain = true;
+        self.link.forgo();
     }
 
     fn go_on<S: Flushes, T: Reports>(
@@ -185,7 +186,7 @@ impl<N: Notes, B: Supply> GoesOn for Sends<'_, N, B> {
         finish(session).map_err(ExchangeFault::Client)
     }
 
-    /// What was told before the end is known, too.
+    /// Outcomes that came before the end count, too.
     fn wind_up<S: Session, T: Reports>(
         &mut self,
         session: &mut S,
@@ -214,8 +215,8 @@ impl<'a, N, B> Sends<'a, N, B> {
             alloc,
             pending: None,
             is_over: false,
-            is_plain: false,
-            asked: None,
+            link: Rejoining::new(Role::Sender),
+            queued: Queued::NONE,
         }
     }
 
@@ -250,9 +251,7 @@ impl<N: Notes, B: Supply> Sends<'_, N, B> {
                     self.known.keep(number, Some(message));
                     number = number.saturating_add(1);
                 }
-                Next::NotYet => {
-                    self.bodies.awaits();
-                }
+                Next::NotYet => self.bodies.await_ready(None),
                 Next::Over => return Err(ExchangeFault::TooFew),
             }
         }
@@ -274,31 +273,20 @@ impl<N: Notes, B: Supply> Sends<'_, N, B> {
         Ok(())
     }
 
-    /// Session and link are there, which brings in what is in doubt.
+    /// Attaches the link, which brings in what is in doubt.
     fn join<S: Session>(&mut self, session: &mut S) -> Result<(), ExchangeFault> {
         self.known.bring();
-        let mut tags = Vec::new(self.alloc);
-        if !self.is_plain {
-            tags = tags_of(self.alloc, &self.known)?;
-        }
-        let joined = join(
-            session,
-            self.exchange,
-            Role::Sender,
-            &mut self.notes,
-            tags.as_slice(),
-        );
-        self.asked = asked_of(tags.as_slice(), self.notes.noted());
-        drop(tags);
-        joined
+        let tags = tags_of(self.alloc, &self.known)?;
+        self.link
+            .join(session, self.exchange, &mut self.notes, tags)
     }
 
-    /// Notes what the peer has told until now, and settles it.
+    /// Notes the outcomes that the peer has sent until now, and settles them.
     fn learn<S: Session>(&mut self, session: &mut S) -> Result<(), ExchangeFault> {
         for _ in 0..u64::MAX {
             match session.end_mut().told() {
                 Ok(Some(told)) if told.is_last() => {
-                    self.note_end(told.number, outcome_of(told.outcome))?;
+                    self.note_end(told.number, told.outcome)?;
                     settle(session, told)?;
                 }
                 Ok(Some(_)) => {}
@@ -309,12 +297,23 @@ impl<N: Notes, B: Supply> Sends<'_, N, B> {
         Ok(())
     }
 
-    /// What is told of a message once more is passed over.
+    /// Notes the outcome of a message. A second one is passed over.
     fn note_end(&mut self, number: u32, outcome: Outcome) -> Result<(), ExchangeFault> {
         if self.known.end(number, outcome) {
             return self.notes.note(&Line::Told(outcome, number));
         }
         Ok(())
+    }
+
+    /// Writes what was put out, and learns what the peer has said until now, without waiting for more.
+    fn hear<S: Flushes, T: Reports>(
+        &mut self,
+        session: &mut S,
+        reports: &T,
+    ) -> Result<(), ExchangeFault> {
+        self.queued = Queued::NONE;
+        flush(session, &mut self.notes, reports.elapsed())?;
+        self.learn(session)
     }
 
     fn await_room<S: Session>(&mut self, session: &mut S) -> Result<(), ExchangeFault> {
@@ -374,7 +373,7 @@ impl<N: Notes, B: Supply> Sends<'_, N, B> {
         let resumption = match waiting_of(session.end(), number) {
             Some((tag, verdict)) => self.resume_as(session, tag, verdict)?,
             // It was not brought in: the peer has none of it.
-            None if self.is_plain => Resumption::SendAgain,
+            None if self.link.is_plain() => Resumption::SendAgain,
             None => Resumption::Await,
         };
         self.known.resolve(number);
@@ -395,7 +394,7 @@ impl<N: Notes, B: Supply> Sends<'_, N, B> {
         let resumption = after_verdict(verdict);
         let outcome = resume(session, tag, resumption == Resumption::End)?;
         if resumption == Resumption::End {
-            self.note_end(number_of(&tag), outcome_of(outcome))?;
+            self.note_end(number_of(&tag), outcome)?;
         }
         Ok(resumption)
     }
@@ -427,6 +426,7 @@ impl<N: Notes, B: Supply> Sends<'_, N, B> {
         if !session.end().is_short(message) {
             self.notes.sync()?;
         }
+        self.queued.add(message.len());
         send(session, number, message, false).map_err(ExchangeFault::Client)
     }
 
@@ -442,23 +442,29 @@ impl<N: Notes, B: Supply> Sends<'_, N, B> {
             if self.is_over || !self.known.may_begin() {
                 break;
             }
-            if self.pending.is_some() {
-                self.send_or_wait(session, most, reports)?;
-            } else {
-                self.await_input(session)?;
+            if self.pending.is_none() {
+                self.await_input(session, reports)?;
+                continue;
             }
+            if self.queued.is_full() {
+                self.hear(session, reports)?;
+            }
+            self.send_or_wait(session, most, reports)?;
         }
         Ok(())
     }
 
-    /// The input has nothing ready: what was put out is written, and the peer is heard.
-    fn await_input<S: Flushes>(&mut self, session: &mut S) -> Result<(), ExchangeFault> {
-        self.notes.sync()?;
-        session.flush()?;
-        if !self.bodies.awaits() {
-            turn(session, &mut self.notes)?;
+    /// The input has nothing ready: what was put out is written, and the peer is heard until there is input.
+    fn await_input<S: Flushes, T: Reports>(
+        &mut self,
+        session: &mut S,
+        reports: &T,
+    ) -> Result<(), ExchangeFault> {
+        self.hear(session, reports)?;
+        if !has_unwritten(session.end()) {
+            self.bodies.await_ready(session.socket());
         }
-        self.learn(session)
+        Ok(())
     }
 
     /// Sends the message that was looked for, unless so many are in doubt.
@@ -482,11 +488,6 @@ impl<N: Notes, B: Supply> Sends<'_, N, B> {
         }
         Ok(())
     }
-}
-
-/// What an attach that brought in these deliveries asked for when the journal had got so many lines.
-fn asked_of(tags: &[Tag], noted: u64) -> Option<u64> {
-    if tags.is_empty() { None } else { Some(noted) }
 }
 
 /// The delivery with this number, if it waits to be resumed, and what becomes of it.

@@ -1,10 +1,10 @@
 //! The command `send` over one connection.
 use crate::bodies::{Bodies, Supply};
 use crate::exchange::{Exchange, ExchangeFault, Sent, begin};
-use crate::journal::outcome_of;
 use crate::meeting::{Runs, run_over};
-use crate::observed::Flushes;
+use crate::observed::{Flushes, has_unwritten};
 use crate::progress::Watch;
+use crate::queued::Queued;
 use crate::report::Reports;
 use crate::streaming::Next;
 use amqp_client::{ClientFault, Session, Told, finish, learn, send, settle};
@@ -16,9 +16,6 @@ use std::rt::Clock;
 
 /// So many messages are sent before it is learnt what became of them.
 const BATCH: u32 = 1024;
-
-/// So many octets of messages wait at most before they are written.
-const QUEUE: usize = 262144;
 
 /// The messages of an exchange, and what was sent of them.
 #[derive(Drop)]
@@ -75,12 +72,12 @@ where
     ended
 }
 
-/// Sends all messages over this end, each with these octets of a file as its body, where there are some, learns what became of each, and ends link, session and
+/// Sends all messages over this end, each with these octets of a file as its body, if there are some, learns what became of each, and ends link, session and
 /// connection.
 ///
 /// # Errors
 ///
-/// Where the peer ends, an operation is refused, a line cannot be read, a message cannot be written, or memory is refused.
+/// The peer ended the exchange, an operation was refused, a line could not be read, a message could not be written, or memory ran out.
 pub fn send_all<S: Flushes, I: BufRead, P: Watch>(
     alloc: Global,
     session: &mut S,
@@ -112,15 +109,15 @@ fn send_counted<S: Flushes, I: BufRead, P: Watch>(
     ended
 }
 
-/// Some messages in a row, and of which it is known what became of them.
+/// Some messages in a row, and which of them have an outcome.
 #[derive(Clone, Copy)]
 struct Batch {
     /// The number of the first one.
     first: u32,
     /// How many were sent.
     count: u32,
-    /// How many octets of messages were put out and maybe not written.
-    queued: usize,
+    /// What was put out since the peer was heard last.
+    queued: Queued,
     /// Of how many an outcome was counted.
     ended: u32,
     /// Of which.
@@ -132,7 +129,7 @@ impl Batch {
         Batch {
             first,
             count: 0,
-            queued: 0,
+            queued: Queued::NONE,
             ended: 0,
             known: [false; BATCH as usize],
         }
@@ -194,16 +191,19 @@ fn send_batch<S: Flushes, B: Supply, P: Watch>(
             Next::Item(message) => {
                 send_one(session, is_settled, message, batch, sent)?;
                 watch.note(sent.count);
+                if batch.queued.is_full() {
+                    hear(session, batch, sent, watch)?;
+                }
             }
-            Next::NotYet => await_input(session, bodies, batch, sent)?,
+            Next::NotYet => await_input(session, bodies, batch, sent, watch)?,
             Next::Over => return Ok(false),
         }
     }
     Ok(true)
 }
 
-/// Sends a message, and writes once enough octets wait.
-fn send_one<S: Flushes>(
+/// Sends a message.
+fn send_one<S: Session>(
     session: &mut S,
     is_settled: bool,
     message: Bytes,
@@ -217,28 +217,35 @@ fn send_one<S: Flushes>(
     went.map_err(ExchangeFault::Client)?;
     batch.count = batch.count.saturating_add(1);
     sent.count = sent.count.saturating_add(1);
-    batch.queued = batch.queued.saturating_add(len);
-    if batch.queued >= QUEUE {
-        batch.queued = 0;
-        session.flush().map_err(ExchangeFault::Client)?;
-    }
+    batch.queued.add(len);
     Ok(())
 }
 
-/// The input has nothing ready: what was put out is written, and the peer is heard.
-fn await_input<S: Flushes, B: Supply>(
+/// Writes what was put out, and learns what the peer has said until now, without waiting for more.
+fn hear<S: Flushes, P: Watch>(
     session: &mut S,
-    bodies: &mut B,
     batch: &mut Batch,
     sent: &mut Sent,
+    watch: &P,
 ) -> Result<(), ExchangeFault> {
-    if batch.queued > 0 {
-        batch.queued = 0;
-        session.flush().map_err(ExchangeFault::Client)?;
-    }
-    if !bodies.awaits() {
-        session.turn().map_err(ExchangeFault::Client)?;
-        learn_ready(session, batch, sent).map_err(ExchangeFault::Client)?;
+    batch.queued = Queued::NONE;
+    session
+        .flush(watch.elapsed())
+        .map_err(ExchangeFault::Client)?;
+    learn_ready(session, batch, sent).map_err(ExchangeFault::Client)
+}
+
+/// The input has nothing ready: what was put out is written, and the peer is heard until there is input.
+fn await_input<S: Flushes, B: Supply, P: Watch>(
+    session: &mut S,
+    bodies: &B,
+    batch: &mut Batch,
+    sent: &mut Sent,
+    watch: &P,
+) -> Result<(), ExchangeFault> {
+    hear(session, batch, sent, watch)?;
+    if !has_unwritten(session.end()) {
+        bodies.await_ready(session.socket());
     }
     Ok(())
 }
@@ -272,7 +279,7 @@ fn end_batch<S: Session>(
 fn count_outcome(told: Told, batch: &mut Batch, sent: &mut Sent) {
     if batch.is_new(told.number) {
         batch.ended = batch.ended.saturating_add(1);
-        sent.outcomes.count(outcome_of(told.outcome));
+        sent.outcomes.count(told.outcome);
     }
 }
 

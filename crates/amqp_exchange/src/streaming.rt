@@ -1,16 +1,11 @@
 //! Lines as they come, from an input that may have nothing ready.
 use crate::exchange::ExchangeFault;
-use libc::net::{POLLIN, poll};
-use libc::types::pollfd;
+use crate::readiness::{await_input, is_input_ready};
+use amqp_client::TICK;
 use std::alloc::Global;
 use std::io::{BufRead, ErrorKind};
 use std::mem;
-
-/// How long a poll of standard input waits before octets of the peer are read instead, in milliseconds.
-const POLL: i32 = 50;
-
-/// The descriptor of standard input.
-const STANDARD_INPUT: i32 = 0;
+use std::os::fd::RawFd;
 
 /// What comes next of an input.
 #[derive(Drop)]
@@ -34,7 +29,7 @@ pub(crate) struct Lines<'b, I> {
     is_polled: bool,
 }
 
-/// What one look into the input's buffer gave.
+/// What one look into the input's buffer found.
 #[derive(Clone, Copy)]
 struct Look {
     /// So many octets more are in it.
@@ -63,7 +58,7 @@ impl<'b, I: BufRead> Lines<'b, I> {
     /// `In` if the input cannot be read, and `NoMemory`.
     pub(crate) fn next(&mut self) -> Result<Next<Vec<u8>>, ExchangeFault> {
         for _ in 0..u64::MAX {
-            if !self.is_ready(0) {
+            if !self.is_ready() {
                 return Ok(Next::NotYet);
             }
             let look = self.look()?;
@@ -78,13 +73,15 @@ impl<'b, I: BufRead> Lines<'b, I> {
         Ok(Next::Over)
     }
 
-    /// Waits a little for the input. True if a read of it does not wait.
-    pub(crate) fn awaits(&self) -> bool {
-        self.is_ready(POLL)
+    /// Waits until the input can be read, or the socket if there is one, for a [`TICK`] at most.
+    pub(crate) fn await_ready(&self, socket: Option<RawFd>) {
+        if self.is_polled && self.held == 0 {
+            await_input(socket, TICK.cast_signed());
+        }
     }
 
-    fn is_ready(&self, milliseconds: i32) -> bool {
-        !self.is_polled || self.held > 0 || is_input_ready(milliseconds)
+    fn is_ready(&self) -> bool {
+        !self.is_polled || self.held > 0 || is_input_ready()
     }
 
     fn look(&mut self) -> Result<Look, ExchangeFault> {
@@ -127,14 +124,4 @@ fn first_line(octets: &[u8]) -> &[u8] {
         Some(piece) => piece,
         None => &[],
     }
-}
-
-/// Waits for standard input, for so many milliseconds at most. True if octets are there, or it has ended: a read does not wait.
-fn is_input_ready(milliseconds: i32) -> bool {
-    let mut asked = [pollfd {
-        fd: STANDARD_INPUT,
-        events: POLLIN,
-        revents: 0,
-    }];
-    poll(&mut asked, milliseconds) > 0
 }

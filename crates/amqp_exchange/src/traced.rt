@@ -41,11 +41,12 @@ impl<T: Read, E: Eprint> Read for Traced<'_, T, E> {
     ghost remaining = { λ s. T.remaining s.device };
 
     fn read(&mut self, buf: &mut [u8]) -> io::Result<usize> {
-        if self.seen.is_writing_only() {
+        if self.seen.is_in_vain() {
             return Err(io::Error::from(ErrorKind::WouldBlock));
         }
         match self.device.read(buf) {
             Ok(count) => {
+                self.seen.note_read();
                 self.trace.tell(&buf[..count]);
                 Ok(count)
             }

@@ -9,15 +9,16 @@ use std::alloc::Global;
 #[derive(Clone, Copy)]
 pub(crate) enum Act {
     Begin,
+    /// We send on a link `p`.
+    SendsP,
     /// We send on a link `q`.
     Sends,
     /// We receive on a link `p` or `q`, by this receiving mode.
     ReceivesP(u8),
     ReceivesQ(u8),
-    /// A delivery on link 0, with this as its tag and as its payload.
-    Start([u8; 2]),
-    /// Of link 0.
-    Learn,
+    /// A delivery on this link, with this as its tag and as its payload.
+    Start(u32, [u8; 2]),
+    Learn(u32),
     Take(u32),
     /// So many deliveries may begin on this link.
     Grant(u32, u32),
@@ -68,10 +69,10 @@ fn attach(alloc: Global, name: &str, role: Role, rcv: u8) -> Option<Op> {
     }
 }
 
-fn start(alloc: Global, octets: [u8; 2]) -> Option<Op> {
+fn start(alloc: Global, link: u32, octets: [u8; 2]) -> Option<Op> {
     match Bytes::copy_from_slice(alloc, &octets) {
         Ok(payload) => Some(Op::Start {
-            link: 0,
+            link,
             tag: Tag::new(&octets).unwrap_or(Tag::empty()),
             format: 0,
             settled: false,
@@ -105,11 +106,12 @@ fn dispose(first: u32, last: u32, state: State, settled: bool) -> Op {
 pub(crate) fn made(alloc: Global, act: Act) -> Option<Op> {
     match act {
         Act::Begin => Some(Op::Begin),
+        Act::SendsP => attach(alloc, "p", Role::Sender, 0),
         Act::Sends => attach(alloc, "q", Role::Sender, 0),
         Act::ReceivesP(rcv) => attach(alloc, "p", Role::Receiver, rcv),
         Act::ReceivesQ(rcv) => attach(alloc, "q", Role::Receiver, rcv),
-        Act::Start(octets) => start(alloc, octets),
-        Act::Learn => Some(Op::Learn { link: 0 }),
+        Act::Start(link, octets) => start(alloc, link, octets),
+        Act::Learn(link) => Some(Op::Learn { link }),
         Act::Take(link) => Some(Op::Take { link }),
         Act::Grant(link, credit) => Some(grant(link, credit)),
         Act::Dispose(first, last, state) => Some(dispose(first, last, state, false)),

@@ -77,6 +77,9 @@ const CLOSE: &[u8] = b"\x00\x00\x00\x0c\x02\x00\x00\x00\x00S\x18E";
 /// The header of a SASL layer.
 const SASL: &[u8] = b"AMQP\x03\x01\x00\x00";
 
+/// No piece: a read that fails.
+const RESET: &[u8] = b"reset";
+
 /// A peer that was recorded. It ends behind its last piece.
 #[derive(Drop)]
 struct Recorded {
@@ -91,6 +94,9 @@ impl Read for Recorded {
             None => &[],
         };
         self.reads = self.reads.saturating_add(1);
+        if piece == RESET {
+            return Err(io::Error::from(io::ErrorKind::ConnectionReset));
+        }
         piece.read(buf)
     }
 }
@@ -228,7 +234,7 @@ struct Row {
     due: &'static str,
 }
 
-const ROWS: [Row; 9] = [
+const ROWS: [Row; 10] = [
     Row {
         receives: false,
         pieces: &[HEADER, OPEN, BEGIN, TAKES, NO_QUEUE],
@@ -273,6 +279,11 @@ const ROWS: [Row; 9] = [
         receives: true,
         pieces: &[HEADER, OPEN, BEGIN, SENDS],
         due: "the connection was lost",
+    },
+    Row {
+        receives: true,
+        pieces: &[HEADER, OPEN, BEGIN, SENDS, RESET],
+        due: "a read failed: connection reset",
     },
 ];
 

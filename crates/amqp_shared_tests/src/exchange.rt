@@ -261,16 +261,22 @@ properties message-id=\"m\" subject=\"s\" reply-to=\"r\" correlation-id=\"c\" co
 data b\"yz\"
 ";
 
-fn labelled_sent(alloc: Global, stream: TcpStream) -> Option<Sent> {
+/// Sends the lines of this text.
+fn lines_sent(
+    alloc: Global,
+    stream: TcpStream,
+    labels: Labels<'static>,
+    text: &[u8],
+) -> Option<Sent> {
     let exchange = Exchange {
         is_lines: true,
-        labels: LABELS,
+        labels,
         ..ONE
     };
     let Ok(mut client) = client_over(alloc, stream, &exchange) else {
         return None;
     };
-    let mut input: &[u8] = b"x\nyz";
+    let mut input = text;
     let sent = send_all(
         alloc,
         &mut client,
@@ -284,21 +290,15 @@ fn labelled_sent(alloc: Global, stream: TcpStream) -> Option<Sent> {
     sent
 }
 
-/// Whether two messages are printed as they are to be.
-fn labelled_received(alloc: Global, stream: TcpStream) -> bool {
-    let exchange = Exchange {
-        is_listening: true,
-        count: 2,
-        printed: Printed::Sections,
-        ..ONE
-    };
-    let Ok(mut client) = client_over(alloc, stream, &exchange) else {
+/// Whether the messages are printed as this text.
+fn are_printed(alloc: Global, stream: TcpStream, exchange: &Exchange<'_>, due: &[u8]) -> bool {
+    let Ok(mut client) = client_over(alloc, stream, exchange) else {
         return false;
     };
     let mut text: Vec<u8> = Vec::new(alloc);
-    let had = receive_all(alloc, &mut client, &exchange, &mut text, &mut Unwatched);
+    let had = receive_all(alloc, &mut client, exchange, &mut text, &mut Unwatched);
     drop(client);
-    had.is_ok() && text.as_slice() == PRINTED.as_bytes()
+    had.is_ok() && text.as_slice() == due
 }
 
 /// Lines are sent with what labels them, the last one also if it has no end.
@@ -308,12 +308,51 @@ fn lines_and_their_labels_are_printed(rt: HostRuntime) {
     let Some((near, far)) = connected(&rt).ok() else {
         panic!(rt; "no socket");
     };
+    let both = Exchange {
+        is_listening: true,
+        count: 2,
+        printed: Printed::Sections,
+        ..ONE
+    };
     let (sent, is_right) = thread::join(
         &rt,
-        || labelled_sent(alloc, near),
-        || labelled_received(alloc, far),
+        || lines_sent(alloc, near, LABELS, b"x\nyz"),
+        || are_printed(alloc, far, &both, PRINTED.as_bytes()),
     );
     assert!(rt; sent == Some(all(2, 2)) && is_right);
+}
+
+/// How many octets a line has that goes in some 2100 transfers of 384 octets: more than the incoming window has.
+const LONG: usize = 800000;
+
+fn long_line(alloc: Global) -> Result<Vec<u8>, AllocError> {
+    let mut text = vec![in alloc; b'y'; LONG]?;
+    text.push(b'\n')?;
+    Ok(text)
+}
+
+/// A line that goes in several transfers is printed as it was, and the window is announced again in its middle.
+#[test]
+fn a_long_line_is_printed_as_it_was(rt: HostRuntime) {
+    let alloc = rt.alloc();
+    let Some((near, far)) = connected(&rt).ok() else {
+        panic!(rt; "no socket");
+    };
+    let Ok(text) = long_line(alloc) else {
+        panic!(rt; "no memory");
+    };
+    let one = Exchange {
+        is_listening: true,
+        max_frame: 512,
+        printed: Printed::Bodies,
+        ..ONE
+    };
+    let (sent, is_right) = thread::join(
+        &rt,
+        || lines_sent(alloc, near, Labels::NONE, text.as_slice()),
+        || are_printed(alloc, far, &one, text.as_slice()),
+    );
+    assert!(rt; sent == Some(all(1, 1)) && is_right);
 }
 
 /// A peer that has attached its link, and two messages that come in one piece.
@@ -354,7 +393,7 @@ fn no_credit_beyond_what_is_wanted(rt: HostRuntime) {
 }
 
 /// A line of each kind, and such as are no lines of a journal.
-const LINES: [(&str, bool); 19] = [
+const LINES: [(&str, bool); 21] = [
     ("sender 616d71705f70656572", true),
     ("receiver -", true),
     ("begun 4294967294", true),
@@ -363,6 +402,8 @@ const LINES: [(&str, bool); 19] = [
     ("released 3", true),
     ("modified 4", true),
     ("unknown 0", true),
+    ("output 2049 18446744073709551615", true),
+    ("printing 00ff 12", true),
     ("taken - 0", true),
     ("taken 00ff 18446744073709551615", true),
     (

@@ -11,7 +11,7 @@ mod shown;
 use crate::acts::Act;
 use crate::octets::{ACCEPTED, ANSWER, CLOSE, FLOW, GREETING};
 use crate::session::seed_of;
-use amqp_shared::{Name, Pass, Refusal, Seed, open_shared};
+use amqp_shared::{Name, Pass, Refusal, Retention, Seed, open_shared};
 use calls::{Do, Steps, go};
 use ending::end;
 use shown::Course;
@@ -47,11 +47,11 @@ const SENT: Steps = &[
     (Do::Hear(&ANSWER), 47),
     (Do::Call(Act::Sends), 0),
     (Do::Hear(&FLOW), 30),
-    (Do::Call(Act::Start([1, 0])), 0),
-    (Do::Wait(Act::Start([2, 0])), 1),
+    (Do::Call(Act::Start(0, [1, 0])), 0),
+    (Do::Wait(Act::Start(0, [2, 0])), 1),
     (Do::Hear(&ACCEPTED), 22),
-    (Do::Wait(Act::Learn), 0),
-    (Do::Forget, 0),
+    (Do::Wait(Act::Learn(0)), 0),
+    (Do::Forget, 1),
     (Do::Hear(&SECOND), 23),
     (Do::Call(Act::Beat), 0),
     (Do::Hear(&CLOSE), 12),
@@ -102,9 +102,10 @@ struct Plan {
 fn seed_again(alloc: Global, journal_limit: u32) -> Option<Seed>
     ensures { IfSome result (λ s. s.parts ≡ 65536) }
 {
-    match seed_of(alloc, 4, journal_limit) {
+    let retention = Retention::UntilForgotten;
+    match seed_of(alloc, 4, journal_limit, retention) {
         Some(seed) => Some(seed),
-        None => seed_of(alloc, 4, journal_limit),
+        None => seed_of(alloc, 4, journal_limit, retention),
     }
 }
 
@@ -134,7 +135,7 @@ fn course<N: Name + Send + Sync, R: Threads + Wait + Sync>(
     seed: Seed,
     plan: &Plan,
 ) -> Option<Course>
-    requires { IsNamed seed N.name N.parts N.ring }
+    requires { IsNamed seed N.name N.parts N.ring N.retention }
 {
     let mut passes = room::<N>(alloc);
     let (shared, pass, writer) = open_shared::<N>(seed);

@@ -2,12 +2,17 @@
 ghost use Rattle.std.specs.Prelude.{◌≡◌, IfSome};
 
 use amqp_conn::Config;
-use amqp_shared::{Closed, Name, Pass, Seed, Shared, WriterEnd};
+use amqp_shared::{Closed, Name, Pass, Retention, Seed, Shared, WriterEnd};
 use amqp_types::Text;
 use std::alloc::Global;
 
-/// A seed with a ring of so many units, whose journal takes so many steps; none for want of memory.
-pub(crate) fn seed_of(alloc: Global, ring: usize, journal_limit: u32) -> Option<Seed>
+/// A seed with a ring of so many units, whose journal takes so many steps and keeps these; none if memory runs out.
+pub(crate) fn seed_of(
+    alloc: Global,
+    ring: usize,
+    journal_limit: u32,
+    retention: Retention,
+) -> Option<Seed>
     ensures { IfSome result (λ s. s.parts ≡ 65536) }
 {
     if ring == 0 {
@@ -28,7 +33,7 @@ pub(crate) fn seed_of(alloc: Global, ring: usize, journal_limit: u32) -> Option<
         window: 2048,
         journal_limit,
     };
-    Seed::new(alloc, config, ring).ok()
+    Seed::new(alloc, config, ring, retention).ok()
 }
 
 /// What it is taken apart to; none where it is handed back.

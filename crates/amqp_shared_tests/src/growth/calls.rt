@@ -24,6 +24,7 @@ pub(crate) enum Do {
     Wait(Act),
     /// Puts out our close.
     Shut,
+    /// Forgets the entries: 1 where that is allowed.
     Forget,
     /// How many things are left.
     LeftLen,
@@ -110,10 +111,7 @@ fn locked<N: Name>(
             Err(CloseRefusal::NoMemory) => None,
             Err(refusal) => Some(REFUSED.wrapping_add(u64::from(refusal.number()))),
         },
-        Do::Forget => {
-            shared.forget(guard);
-            Some(0)
-        }
+        Do::Forget => Some(u64::from(shared.forget(guard))),
         Do::LeftLen => match shared.left_len(guard) {
             Ok(count) => Some(count as u64),
             Err(_) => None,

@@ -7,7 +7,7 @@ use super::playing::{Do, Due, Player, Steps, play};
 use crate::acts::Act;
 use crate::octets::{BEGUN, GREETING, SENDS, TAKES};
 use crate::session::seed_of;
-use amqp_shared::{Name, Seed, Shared, open_shared};
+use amqp_shared::{Name, Retention, Seed, Shared, open_shared};
 use std::alloc::Global;
 use std::marker::Brand;
 use std::sync::Wait;
@@ -71,7 +71,7 @@ const THREADS: usize = 32;
 
 /// Whether all goes as it is due.
 pub(super) fn goes<R: Threads + Wait + Sync>(rt: &R, alloc: Global, case: &Case) -> bool {
-    match seed_of(alloc, case.ring, case.limit) {
+    match seed_of(alloc, case.ring, case.limit, Retention::All) {
         Some(seed) => course::<Brand, R>(rt, alloc, seed, case),
         None => false,
     }
@@ -83,7 +83,7 @@ fn course<N: Name + Send + Sync, R: Threads + Wait + Sync>(
     seed: Seed,
     case: &Case,
 ) -> bool
-    requires { IsNamed seed N.name N.parts N.ring }
+    requires { IsNamed seed N.name N.parts N.ring N.retention }
 {
     let (shared, pass, writer) = open_shared::<N>(seed);
     let mut players = Vec::new(alloc);

@@ -31,21 +31,21 @@ const TAKES_NOT_RUNNING: Steps = &[Do::Wait(Before::Beat, Act::Take(1), NOT_RUNN
 
 const TAKES_JOURNAL_FULL: Steps = &[Do::Wait(Before::Beat, Act::Take(1), JOURNAL_FULL)];
 
-const LEARNS_NO_LINK: Steps = &[Do::Wait(Before::Beat, Act::Learn, NO_LINK)];
+const LEARNS_NO_LINK: Steps = &[Do::Wait(Before::Beat, Act::Learn(0), NO_LINK)];
 
-const LEARNS_NOT_RUNNING: Steps = &[Do::Wait(Before::Beat, Act::Learn, NOT_RUNNING)];
+const LEARNS_NOT_RUNNING: Steps = &[Do::Wait(Before::Beat, Act::Learn(0), NOT_RUNNING)];
 
-const LEARNS_JOURNAL_FULL: Steps = &[Do::Wait(Before::Beat, Act::Learn, JOURNAL_FULL)];
+const LEARNS_JOURNAL_FULL: Steps = &[Do::Wait(Before::Beat, Act::Learn(0), JOURNAL_FULL)];
 
-const STARTS_NOT_ATTACHED: Steps = &[Do::Wait(Before::Beat, Act::Start([1, 0]), NOT_ATTACHED)];
+const STARTS_NOT_ATTACHED: Steps = &[Do::Wait(Before::Beat, Act::Start(0, [1, 0]), NOT_ATTACHED)];
 
-const STARTS_NO_LINK: Steps = &[Do::Wait(Before::Beat, Act::Start([1, 0]), NO_LINK)];
+const STARTS_NO_LINK: Steps = &[Do::Wait(Before::Beat, Act::Start(0, [1, 0]), NO_LINK)];
 
-const STARTS_NOT_MAPPED: Steps = &[Do::Wait(Before::Beat, Act::Start([1, 0]), NOT_MAPPED)];
+const STARTS_NOT_MAPPED: Steps = &[Do::Wait(Before::Beat, Act::Start(0, [1, 0]), NOT_MAPPED)];
 
-const STARTS_NOT_RUNNING: Steps = &[Do::Wait(Before::Beat, Act::Start([1, 0]), NOT_RUNNING)];
+const STARTS_NOT_RUNNING: Steps = &[Do::Wait(Before::Beat, Act::Start(0, [1, 0]), NOT_RUNNING)];
 
-const STARTS_JOURNAL_FULL: Steps = &[Do::Wait(Before::Beat, Act::Start([1, 0]), JOURNAL_FULL)];
+const STARTS_JOURNAL_FULL: Steps = &[Do::Wait(Before::Beat, Act::Start(0, [1, 0]), JOURNAL_FULL)];
 
 const CASES: [Case; 9] = [
     // We detach.

@@ -36,6 +36,7 @@ fn does<N: Name>(
         Do::Shut => shared.shut(guard, None).is_ok(),
         Do::Lose => loses(shared, guard),
         Do::MoveUnits => moves_units(shared, guard),
+        Do::KeepAll => !shared.forget(guard),
         Do::Is(look) => sees(player.alloc, guard.conn(), look),
         Do::TakeThree => takes_two(player.alloc, shared, guard, &mut player.pass),
         _ => false,
@@ -56,8 +57,8 @@ pub(super) fn goes_before<N: Name>(
                 shared,
                 guard,
                 player,
-                Act::Start([1, 0]),
-                Act::Start([2, 0]),
+                Act::Start(0, [1, 0]),
+                Act::Start(0, [2, 0]),
             )
         }
         Before::Hear(octets) => hears(shared, guard, &mut player.pass, octets),

@@ -92,7 +92,7 @@ const WITH_WHAT_IS_CLOSED: Case = Case {
             1,
             &[
                 Do::Hear(&FLOW),
-                Do::CallBoth(Act::Start([1, 0]), Act::Start([2, 0])),
+                Do::CallBoth(Act::Start(0, [1, 0]), Act::Start(0, [2, 0])),
                 Do::Hear(&ACCEPTED_BOTH),
                 Do::WaitInVain(Before::Shut, Refusal::NotRunning, None),
                 Do::Hear(&CLOSE),

@@ -30,6 +30,8 @@ pub(super) enum Do {
     /// The octets end.
     Lose,
     MoveUnits,
+    /// Asks to forget the entries, and all are kept.
+    KeepAll,
     Is(Look),
     /// Takes three deliveries of link 1 by one call: two are there, and the third is refused.
     TakeThree,
@@ -277,7 +279,7 @@ fn starts<N: Name, R: Wait>(
     count: u8,
 ) -> bool {
     for turn in 0..count {
-        let start = Act::Start([number, turn]);
+        let start = Act::Start(0, [number, turn]);
         if !hold(rt, shared, player, Do::Call(start, Due::Done)) {
             return false;
         }

@@ -99,6 +99,33 @@ fn the_ring_is_filled_at_each_step(rt: HostRuntime) {
     assert!(rt; goes(&rt, rt.alloc(), &FILLED));
 }
 
+/// All entries are kept, also where somebody asks to forget them.
+const KEPT: Case = Case {
+    ring: 4,
+    rounds: &[&[(
+        1,
+        &[
+            Do::Hear(&GREETING),
+            Do::Call(Act::Begin, Due::Done),
+            Do::KeepAll,
+            Do::Call(Act::Beat, Due::Done),
+            Do::Is(Look::Entries(3)),
+        ],
+    )]],
+    end: Some(Ended {
+        phase: Phase::Running,
+        left: 4,
+        looks: &[Look::Entries(3)],
+        ..CLOSED
+    }),
+    ..USUAL
+};
+
+#[test]
+fn all_entries_are_kept(rt: HostRuntime) {
+    assert!(rt; goes(&rt, rt.alloc(), &KEPT));
+}
+
 /// Our close goes out, and the connection has not ended before the peer's has come.
 const CLOSES: Case = Case {
     ring: 4,
@@ -168,7 +195,7 @@ fn more_units_than_the_ring_has_places(rt: HostRuntime) {
 
 /// Starts a delivery, learns its outcome, and awaits a unit, where each has to be waited for.
 const STARTS_AND_LEARNS: &[Do] = &[
-    Do::WaitForBoth(Act::Start([1, 0]), Act::Learn),
+    Do::WaitForBoth(Act::Start(0, [1, 0]), Act::Learn(0)),
     Do::Units(6, (7, false)),
 ];
 
@@ -208,7 +235,7 @@ const WAITS_SHUT: Case = Case {
             1,
             &[
                 Do::Hear(&FLOW_SHUT),
-                Do::Call(Act::Start([1, 0]), Due::Refused(Refusal::NoWindow)),
+                Do::Call(Act::Start(0, [1, 0]), Due::Refused(Refusal::NoWindow)),
             ],
         )],
         &[

@@ -1,9 +1,9 @@
 //! What comes wakes one that waits to take it, and that one the next.
 
-use super::course::{Case, Round, SESSION, USUAL, goes};
+use super::course::{Case, LINK, Round, SESSION, USUAL, goes};
 use super::playing::{Before, Do, Due, Steps};
 use crate::acts::Act;
-use crate::octets::{FIRST_OF_ALL, SENDS_TOO};
+use crate::octets::{ACCEPTED_BOTH, FIRST_OF_ALL, FLOW, FLOW_TOO, SENDS_TOO, TAKES_TOO};
 use amqp_rules::refusal::Refusal;
 
 /// The peer's attach of the other link, and enough credit on each: nine steps with those before.
@@ -86,4 +86,49 @@ const WAITS_BEHIND: Case = Case {
 #[test]
 fn who_waits_wakes_another_before(rt: HostRuntime) {
     assert!(rt; goes(&rt, rt.alloc(), &WAITS_BEHIND));
+}
+
+/// A second link on which we send, with no credit either: seven steps with those before.
+const SECOND_LINK: Round = &[(1, &[Do::Call(Act::SendsP, Due::Done), Do::Hear(&TAKES_TOO)])];
+
+/// Two threads sleep until there is credit on their links, and later until they learn of their deliveries. The credit comes by two frames, and the outcomes come by one:
+/// each time both are woken.
+const WAKES_BOTH: Case = Case {
+    rounds: &[
+        LINK,
+        SECOND_LINK,
+        &[
+            (
+                1,
+                &[
+                    Do::ComesTo(9),
+                    Do::Pause(20_000),
+                    Do::Hear(&FLOW),
+                    Do::Hear(&FLOW_TOO),
+                ],
+            ),
+            (
+                1,
+                &[Do::Wait(Before::Beat, Act::Start(0, [1, 0]), Due::Done)],
+            ),
+            (
+                1,
+                &[Do::Wait(Before::Beat, Act::Start(1, [2, 0]), Due::Done)],
+            ),
+        ],
+        &[
+            (
+                1,
+                &[Do::ComesTo(15), Do::Pause(20_000), Do::Hear(&ACCEPTED_BOTH)],
+            ),
+            (1, &[Do::Wait(Before::Beat, Act::Learn(0), Due::Done)]),
+            (1, &[Do::Wait(Before::Beat, Act::Learn(1), Due::Done)]),
+        ],
+    ],
+    ..USUAL
+};
+
+#[test]
+fn starters_and_learners_of_two_links_wake(rt: HostRuntime) {
+    assert!(rt; goes(&rt, rt.alloc(), &WAKES_BOTH));
 }

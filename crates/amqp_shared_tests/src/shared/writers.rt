@@ -1,7 +1,7 @@
 //! Writers that wait for units are told of them, each at its number.
 
 use super::course::{Case, USUAL, goes};
-use super::playing::{Do, Due};
+use super::playing::{Do, Due, Steps};
 use crate::acts::Act;
 use crate::octets::{CLOSE, GREETING};
 
@@ -43,4 +43,31 @@ const TOLD_IN_TURN: Case = Case {
 #[test]
 fn two_wait_at_different_numbers(rt: HostRuntime) {
     assert!(rt; goes(&rt, rt.alloc(), &TOLD_IN_TURN));
+}
+
+const BEATS_AND_WAITS: Steps = &[Do::Call(Act::Beat, Due::Done), Do::Units(5, (6, false))];
+
+/// Two writers wait at the same number: one unit wakes both.
+const TOLD_AT_ONCE: Case = Case {
+    ring: 8,
+    rounds: &[
+        &[(1, &[Do::Hear(&GREETING), Do::Call(Act::Begin, Due::Done)])],
+        &[
+            (
+                1,
+                &[
+                    Do::ComesTo(4),
+                    Do::Pause(20_000),
+                    Do::Call(Act::Beat, Due::Done),
+                ],
+            ),
+            (2, BEATS_AND_WAITS),
+        ],
+    ],
+    ..USUAL
+};
+
+#[test]
+fn two_wait_at_one_number(rt: HostRuntime) {
+    assert!(rt; goes(&rt, rt.alloc(), &TOLD_AT_ONCE));
 }
