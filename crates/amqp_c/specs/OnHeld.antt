@@ -16,7 +16,7 @@ OnHeld None new status P = (new ≡ None) × (status ≡ 1)
 OnHeld (Some c) None status P = ⊥
 OnHeld (Some c) (Some d) status P = P c d
 
--- the same of a call that returns a number, 0 if there is no connection
+-- what a call that returns a number does to what the handle holds; the number is 0 if there is no connection
 abbrev pub OnHeldOr0 : {C : Type 0} → Option C → Option C → ℕ → (C → C → Type 0) → Type 0
 OnHeldOr0 None new answer P = (new ≡ None) × (answer ≡ 0)
 OnHeldOr0 (Some c) None answer P = ⊥

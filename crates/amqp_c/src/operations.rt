@@ -62,7 +62,7 @@ pub extern "C" fn teivorm_raw_beat(alloc: Global, handle: &mut Handle, event: &m
     does(alloc, handle, &Op::Beat, event)
 }
 
-/// Tells the peer our window anew; with `echo` the peer is asked for a flow in return (part 2, 2.7.4).
+/// Sends the peer our window anew; with `echo` the peer has to answer with a flow (part 2, 2.7.4).
 #[unsafe(no_mangle)]
 pub extern "C" fn teivorm_raw_refresh(
     alloc: Global,
@@ -194,7 +194,7 @@ pub extern "C" fn teivorm_raw_grant(
     does(alloc, handle, &op, event)
 }
 
-/// Tells the peer how many messages are available on a link on which we send (part 2, 2.6.7).
+/// Announces to the peer how many messages are available on a link on which we send (part 2, 2.6.7).
 #[unsafe(no_mangle)]
 pub extern "C" fn teivorm_raw_offer(
     alloc: Global,

@@ -94,8 +94,8 @@ pub extern "C" fn teivorm_raw_waiting(
     status
 }
 
-/// Gives the first of what is left: a delivery that was ready and not taken, or an outcome that was told and not learnt, when its link or the
-/// connection ended. The event is that of a take or of a learn; its kind is 0 if nothing is left.
+/// Returns in `event` the first of what is left: a delivery that was ready and not taken, or an outcome that was reported and not learnt, when its link
+/// or the connection ended. The event is that of a take or of a learn; its kind is 0 if nothing is left.
 ///
 /// # Errors
 ///

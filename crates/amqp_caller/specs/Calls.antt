@@ -1,5 +1,5 @@
 -- What a call does to a connection, and what it reports.
-use Rattle.std.specs.Prelude.{ℕ, ◌≡◌, ◌+◌, ◌++◌, ◌⊎◌, take, drop, min, cond, Bool, Option, Some, None, Result, Ok, Err, MatchResult, List, [], length, ◌≤◌}
+use Rattle.std.specs.Prelude.{ℕ, ◌≡◌, ◌+◌, ◌++◌, ◌⊎◌, take, drop, min, cond, Bool, Option, Some, None, Result, Ok, Err, MatchResult, List, [], length}
 use Rattle.amqp_performatives.specs.declared.error.AmqpError.{AmqpError}
 use Rattle.amqp_frames.specs.declared.frame.Frame.{Frame}
 use Rattle.amqp_rules.specs.declared.op.Op.{Op}
@@ -146,14 +146,3 @@ PayloadOf (Some t) from room count = take count room ≡ take count (drop from t
 abbrev pub LendsPayload : Option Taken → ℕ → List ℕ → Type 0
 LendsPayload None from octets = octets ≡ []
 LendsPayload (Some t) from octets = (more : List ℕ) × (octets ++ more ≡ drop from t.payload)
-
--- So many octets in front of what goes out next were lent. None is lost.
-pub record Lends (left : List ℕ) (old : Connection) (count : ℕ) (left' : List ℕ) (new : Connection) : Type 0 where
-  pub kept : left' ++ to_come new ≡ left ++ to_come old
-  pub only : (new ≡ old) ⊎ (new ≡ popped old)
-  pub within : count ≤ length left'
-
--- so many octets of the payload of the delivery that was taken last, from a place on, were lent
-abbrev pub LendsOf : Option Taken → ℕ → ℕ → Type 0
-LendsOf None from count = count ≡ 0
-LendsOf (Some t) from count = count ≤ length (drop from t.payload)
