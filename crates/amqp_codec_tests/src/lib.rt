@@ -11,6 +11,7 @@
 //! | `deliveries` | unsettled deliveries, and deliveries that are cut over transfers |
 //! | `waiting` | what becomes of each delivery that waits to be resumed, and the maps that attaches tell, as octets |
 //! | `messages` | messages, their sections and fields; the ends of a link |
+//! | `traced` | lines of a trace on standard error |
 //! | `growth` | each growth of memory that these calls ask for, refused in turn |
 #![tactic(auto)]
 
@@ -28,6 +29,8 @@ mod growth;
 mod messages;
 #[cfg(test)]
 mod performatives;
+#[cfg(test)]
+mod traced;
 #[cfg(test)]
 mod types;
 #[cfg(test)]

@@ -306,10 +306,26 @@ fn has_data_twice(message: &Message) -> bool {
         && body_of(message, 3, SectionKind::Data).is_some()
 }
 
+fn has_forty(alloc: Global, message: &Message, octets: &[u8], again: bool) -> bool {
+    message.sections.len() == 40 && is_written(alloc, message, octets, again)
+}
+
+// Forty data sections of one octet each.
+const FORTY: &[u8] =
+    b"\x00\x53\x75\xa0\x01x\x00\x53\x75\xa0\x01x\x00\x53\x75\xa0\x01x\x00\x53\x75\xa0\x01x\x00\x53\x75\xa0\x01x\
+        \x00\x53\x75\xa0\x01x\x00\x53\x75\xa0\x01x\x00\x53\x75\xa0\x01x\x00\x53\x75\xa0\x01x\x00\x53\x75\xa0\x01x\
+        \x00\x53\x75\xa0\x01x\x00\x53\x75\xa0\x01x\x00\x53\x75\xa0\x01x\x00\x53\x75\xa0\x01x\x00\x53\x75\xa0\x01x\
+        \x00\x53\x75\xa0\x01x\x00\x53\x75\xa0\x01x\x00\x53\x75\xa0\x01x\x00\x53\x75\xa0\x01x\x00\x53\x75\xa0\x01x\
+        \x00\x53\x75\xa0\x01x\x00\x53\x75\xa0\x01x\x00\x53\x75\xa0\x01x\x00\x53\x75\xa0\x01x\x00\x53\x75\xa0\x01x\
+        \x00\x53\x75\xa0\x01x\x00\x53\x75\xa0\x01x\x00\x53\x75\xa0\x01x\x00\x53\x75\xa0\x01x\x00\x53\x75\xa0\x01x\
+        \x00\x53\x75\xa0\x01x\x00\x53\x75\xa0\x01x\x00\x53\x75\xa0\x01x\x00\x53\x75\xa0\x01x\x00\x53\x75\xa0\x01x\
+        \x00\x53\x75\xa0\x01x\x00\x53\x75\xa0\x01x\x00\x53\x75\xa0\x01x\x00\x53\x75\xa0\x01x\x00\x53\x75\xa0\x01x";
+
 // What is asked of a message.
 enum Asked {
     Full,
     Written,
+    Forty,
     DataTwice,
 }
 
@@ -318,6 +334,7 @@ const MESSAGES: &[(&[u8], Asked)] = &[
     // written as the peer wrote it
     (HELLO, Asked::Written),
     (MESSAGE, Asked::DataTwice),
+    (FORTY, Asked::Forty),
 ];
 
 // Whether the message that these octets are is as it should be.
@@ -328,6 +345,7 @@ fn is_as_asked(alloc: Global, octets: &'static [u8], asked: &Asked, again: bool)
                 Asked::Full => is_full(alloc, &message, octets, again),
                 Asked::Written => is_written(alloc, &message, octets, again),
                 Asked::DataTwice => has_data_twice(&message),
+                Asked::Forty => has_forty(alloc, &message, octets, again),
             };
             drop(message);
             is_so
