@@ -331,6 +331,167 @@ def run_long_lines(program, port):
     return None if is_right else f"status {sender.returncode}, {out.split()}, {most} KB"
 
 
+def in_doubt(path):
+    """How many messages have begun by the journal there, and have no outcome."""
+    words = []
+    with contextlib.suppress(FileNotFoundError), open(path, encoding="ascii") as file:
+        words = [line.split()[0] for line in file if line.endswith("\n")]
+    return 2 * words.count("begun") - len(words) + words.count("sender")
+
+
+def feed(stream, count):
+    """Writes 33 lines a second."""
+    with contextlib.suppress(OSError):
+        for number in range(count):
+            stream.write(f"{number}\n".encode())
+            stream.flush()
+            time.sleep(0.03)
+        stream.close()
+
+
+class Takers:
+    """Peers that settle each message at once, and do not recover links. Each of the first ones is lost behind so many messages of its own."""
+
+    def __init__(self, port, losses, credit):
+        self.losses, self.credit, self.tags = list(losses), credit, []
+        self.server = socket.create_server(("127.0.0.1", port))
+        threading.Thread(target=self.take, daemon=True).start()
+
+    def take(self):
+        with contextlib.suppress(OSError):
+            while True:
+                Peer(self.server.accept()[0]).answer(self.replies())
+
+    def replies(self):
+        had = []
+
+        def replies(code, fields):
+            if code == ATTACH:
+                return frame(END, error("amqp:not-implemented")) if len(fields) > 7 and fields[7] else attach(True) + flow(self.credit)
+            if code != TRANSFER:
+                return None
+            had.append(fields[2])
+            self.tags.append(fields[2])
+            if self.losses and len(had) == self.losses[0]:
+                self.losses.pop(0)
+                return StopIteration
+            return frame(DISPOSITION, b"A", uint(fields[1]), uint(fields[1]), b"A", b"\x00S\x24E")
+
+        return replies
+
+    def doubled(self):
+        return len(self.tags) - len(set(self.tags))
+
+    def close(self):
+        self.server.shutdown(socket.SHUT_RDWR)
+        self.server.close()
+
+
+def run_steady(program, port):
+    """Lines that come all the time, 33 a second: outcomes are read as they come, so little is in doubt, and a connection that is lost doubles little."""
+    count, losses = 150, (20, 30, 40)
+    peers = Takers(port, losses, 1000)
+    try:
+        with tempfile.TemporaryDirectory() as folder:
+            path = f"{folder}/journal"
+            us = subprocess.Popen([program, "send", "--port", str(port), "--lines", "--journal", path], stdin=subprocess.PIPE, stdout=subprocess.PIPE, stderr=subprocess.PIPE)
+            threading.Thread(target=feed, args=(us.stdin, count), daemon=True).start()
+            most = 0
+            while us.poll() is None:
+                most = max(most, in_doubt(path))
+                time.sleep(0.005)
+            out = us.stdout.read().decode()
+    finally:
+        us.kill()
+        peers.close()
+    is_right = us.returncode == 0 and out.startswith(f"sent {count}\naccepted {count}\n") and len(set(peers.tags)) == count
+    return None if is_right and most <= 30 and peers.doubled() <= 2 * len(losses) else f"status {us.returncode}, {out.split()}, {most} in doubt, {peers.doubled()} doubled"
+
+
+def run_fast(program, port):
+    """Lines that are all there: the peer is heard between them, so a connection that is lost doubles no more than was on its way."""
+    count, losses = 1900, (300, 600)
+    peers = Takers(port, losses, 2000)
+    try:
+        with tempfile.TemporaryDirectory() as folder, tempfile.TemporaryFile() as file:
+            file.write(b"".join(b"%d\n" % number for number in range(count)))
+            file.seek(0)
+            words = [program, "send", "--port", str(port), "--lines", "--journal", f"{folder}/journal"]
+            ran = subprocess.run(words, stdin=file, capture_output=True, text=True, timeout=LIMIT, check=False)
+    finally:
+        peers.close()
+    is_right = ran.returncode == 0 and ran.stdout.startswith(f"sent {count}\naccepted {count}\n") and len(set(peers.tags)) == count
+    return None if is_right and peers.doubled() <= 150 * len(losses) else f"status {ran.returncode}, {ran.stdout.split()}, {peers.doubled()} doubled: {ran.stderr}"
+
+
+def run_steady_alone(program, port):
+    """Without a journal, too, outcomes are read as they come, and a peer that says nothing more is given up."""
+    for is_silent in (False, True):
+        begun = time.monotonic()
+
+        def replies(code, fields, had=[]):
+            if code == TRANSFER:
+                had.append(fields[1])
+                return b"" if is_silent else StopIteration if len(had) == 60 else taking()(code, fields)
+            return attach(True) + flow(1000) if code == ATTACH else None
+
+        with socket.create_server(("127.0.0.1", port)) as server:
+            threading.Thread(target=lambda: Peer(server.accept()[0]).answer(lambda *it, had=[]: replies(*it, had)), daemon=True).start()
+            us = subprocess.Popen([program, "send", "--port", str(port), "--lines", "--timeout", "2"], stdin=subprocess.PIPE, stdout=subprocess.PIPE, stderr=subprocess.PIPE)
+            threading.Thread(target=feed, args=(us.stdin, 200), daemon=True).start()
+            try:
+                us.wait(timeout=LIMIT)
+                out, err = us.stdout.read().decode(), us.stderr.read().decode()
+            finally:
+                us.kill()
+        took = time.monotonic() - begun
+        counts = [int(it) for it in re.findall(r"^(?:sent|accepted) (\d+)", out, re.M)]
+        if us.returncode != 1 or len(counts) != 2 or took > 5 or not is_silent and counts[0] - counts[1] > 5:
+            return f"silent {is_silent}: status {us.returncode} after {took:.1f} s, {counts}: {err}"
+    return None
+
+
+def giving(numbers):
+    """A peer that sends these messages, each a line with its number, once there is credit."""
+    sent = []
+
+    def replies(code, _fields):
+        if code == ATTACH:
+            return attach(False)
+        if code != FLOW or sent:
+            return None
+        sent.append(code)
+        return b"".join(transfer(number)[:-1] + b"%d" % number for number in numbers)
+
+    return replies
+
+
+def run_unnoted(program, port):
+    """A run was killed between the print of a message and its line in the journal: the next run cuts the message off the same file, and prints it once."""
+    for torn in (0, 1, 2):
+        with tempfile.TemporaryDirectory() as folder:
+            path, words = f"{folder}/journal", ["--port", str(port), "--lines", "--credit", "9", "--journal", f"{folder}/journal", "--retries", "0"]
+            with open(f"{folder}/out", "ab") as out:
+                out.write(b"mine\n")
+            for numbers in ((0, 1, 2), (2, 3)):
+                with open(f"{folder}/out", "ab") as out, socket.create_server(("127.0.0.1", port)) as server:
+                    count = str(numbers[-1] + 1)
+                    us = subprocess.Popen([program, "receive", "--count", count, *words], stdout=out, stderr=subprocess.PIPE)
+                    Peer(server.accept()[0]).answer(giving(numbers))
+                    err = us.communicate(timeout=LIMIT)[1]
+                if numbers[0] == 0:
+                    with open(path, encoding="ascii") as file:
+                        noted = file.read()
+                    with open(path, "w", encoding="ascii") as file:
+                        file.write(noted[: noted.rindex("taken ")])
+                    os.truncate(f"{folder}/out", os.path.getsize(f"{folder}/out") - torn)
+            with open(f"{folder}/out", encoding="ascii") as file:
+                had = file.read().split()
+        if us.returncode or had != ["mine", "0", "1", "2", "3"]:
+            return f"torn {torn}: status {us.returncode}, {had}: {err}"
+    return None
+
+
 def run_connect_limit(program, port):
     """A host that does not answer is given up after --timeout."""
     with socket.socket() as full:
@@ -496,6 +657,10 @@ CASES = (
     ("send, receive  peers that want SASL", run_wants_sasl),
     ("send     lines that come a second apart", run_streamed),
     ("send     long lines, in little memory", run_long_lines),
+    ("send     lines that come all the time, and lost connections", run_steady),
+    ("send     lines that are all there, and lost connections", run_fast),
+    ("send     lines that come all the time, without a journal", run_steady_alone),
+    ("receive  killed between a message's print and its line in the journal", run_unnoted),
     ("send     a connect that is not answered", run_connect_limit),
     ("receive  a message is waited for, for a second", run_wait),
     ("send, receive  causes and counts", run_causes),
